@@ -1,0 +1,146 @@
+-- Facts about powers of two, bit lengths and lowest set bits that the theorems share.
+use mathlib.Core.Path.{_≡_, refl, sym, ap, _∙_, subst}
+use mathlib.Core.Bool.{Bool, true, false, not}
+use Prim.Native.Nat.{ℕ, zero, suc, _+_, _-_, _*_, _/_, _%_, _^_, _≤_, _<_}
+use native.Mathlib.Nat.{le-trans, le-refl, le-antisymm, lt-of-lt-of-le, lt-of-not-le, not-le-of-lt, mul-one, mul-assoc, mul-left-comm, one-mul, zero-mul, mul-le-mul-right, div-one, div-div-eq-div-mul, pow-succ', mul-mod-left}
+use native.Mathlib.Omega.{arith}
+use lib.Dec.{T, ltb, leb, eqb, ltb→lt, lt→ltb, leb→le, nleb→lt, eqb→eq}
+use lib.Pow.{pow-add, pow-mono}
+use lib.Count.{trailingZeros, under}
+use lib.Ieee.{size}
+use lib.Ieee.Digits.{size-lt, size-reaches, size-le}
+use Rattle.totals_spec.specs.Limit.{lowBit}
+
+-- ---- what a test that passed or failed says, as equations of Bools
+
+pub true-of : (b : Bool) → T b → b ≡ true
+true-of true t = refl
+
+pub false-of : (b : Bool) → T (not b) → b ≡ false
+false-of false t = refl
+
+pub T-of : {b : Bool} → b ≡ true → T b
+T-of e = subst T (sym e) tt
+
+pub notT-of : {b : Bool} → b ≡ false → T (not b)
+notT-of e = subst (λ x. T (not x)) (sym e) tt
+
+pub ltb-true : {m n : ℕ} → m < n → ltb m n ≡ true
+ltb-true {m} {n} h = true-of (ltb m n) (lt→ltb m n h)
+
+pub ltb-false : {m n : ℕ} → n ≤ m → ltb m n ≡ false
+ltb-false {m} {n} h = go (ltb m n) (ltb→lt m n)
+  where
+    go : (b : Bool) → (T b → m < n) → b ≡ false
+    go true k = absurd (not-le-of-lt (k tt) h)
+    go false k = refl
+
+pub leb-true : {m n : ℕ} → m ≤ n → leb m n ≡ true
+leb-true {m} {n} h = go (leb m n) (nleb→lt m n)
+  where
+    go : (b : Bool) → (T (not b) → n < m) → b ≡ true
+    go true k = refl
+    go false k = absurd (not-le-of-lt (k tt) h)
+
+pub leb-false : {m n : ℕ} → n < m → leb m n ≡ false
+leb-false {m} {n} h = ltb-suc (leb m n) (leb→le m n)
+  where
+    ltb-suc : (b : Bool) → (T b → m ≤ n) → b ≡ false
+    ltb-suc true k = absurd (not-le-of-lt h (k tt))
+    ltb-suc false k = refl
+
+pub eqb-false : (m n : ℕ) → (m ≡ n → ⊥) → eqb m n ≡ false
+eqb-false m n h = go (eqb m n) (eqb→eq m n)
+  where
+    go : (b : Bool) → (T b → m ≡ n) → b ≡ false
+    go true k = absurd (h (k tt))
+    go false k = refl
+
+-- ---- powers
+
+pub pow-split : (i j : ℕ) → i ≤ j → 2 ^ j ≡ 2 ^ (j - i) * 2 ^ i
+pow-split i j h = ap (λ (x : ℕ). 2 ^ x) e ∙ pow-add 2 (j - i) i
+  where
+    e : j ≡ j - i + i
+    e = omega arith
+
+-- ---- bit lengths: `size n` is the one z with n < 2^z, and 2^(z − 1) ≤ n where n is not 0
+
+pub size-is : (n z : ℕ) → n < 2 ^ suc z → 2 ^ z ≤ n → size n ≡ suc z
+size-is n z h k = le-antisymm (size-le n (suc z) h) (lt-of-not-le (λ (g : size n ≤ z). not-le-of-lt (lt-of-lt-of-le (size-lt n) (pow-mono g)) k))
+
+pub size-pos : (n : ℕ) → 0 < n → 0 < size n
+size-pos n h = go (size n) refl
+  where
+    go : (z : ℕ) → size n ≡ z → 0 < z
+    go zero e =
+        let k : n < 2 ^ zero = rw e at (size-lt n) in
+        absurd (not-le-of-lt k h)
+    go (suc z) e = omega arith
+
+-- a number of size z reaches 2^(z − 1)
+pub size-top : (n z : ℕ) → size n ≡ suc z → 2 ^ z ≤ n
+size-top n z e = size-reaches n z (rw e (le-refl (suc z)))
+
+-- ---- the lowest set bit
+
+whole : (n : ℕ) → n / 1 * 1 ≡ n
+whole n = mul-one (n / 1) ∙ div-one n
+
+twice-half : (n : ℕ) → n % 2 ≡ 0 → 2 * (n / 2) ≡ n
+twice-half n e = omega arith
+
+zeros-divide : (d n : ℕ) → n / 2 ^ trailingZeros d n * 2 ^ trailingZeros d n ≡ n
+unfolding trailingZeros
+zeros-divide zero n = whole n
+zeros-divide (suc d) n = go (n % 2) refl (zeros-divide d (n / 2))
+  where
+    go : (r : ℕ) → n % 2 ≡ r → n / 2 / 2 ^ trailingZeros d (n / 2) * 2 ^ trailingZeros d (n / 2) ≡ n / 2
+        → n / 2 ^ under r (trailingZeros d (n / 2)) * 2 ^ under r (trailingZeros d (n / 2)) ≡ n
+    go zero e ih =
+        let t = trailingZeros d (n / 2) in
+        ap (λ (x : ℕ). n / x * x) (pow-succ' 2 t)
+        ∙ ap (λ (x : ℕ). x * (2 * 2 ^ t)) (sym (div-div-eq-div-mul n 2 (2 ^ t)))
+        ∙ mul-left-comm (n / 2 / 2 ^ t) 2 (2 ^ t)
+        ∙ ap (λ (x : ℕ). 2 * x) ih
+        ∙ twice-half n e
+    go (suc r) e ih = whole n
+
+-- the bits below the lowest set bit are 0
+pub low-divides : (m : ℕ) → m / 2 ^ lowBit m * 2 ^ lowBit m ≡ m
+unfolding lowBit
+low-divides m = zeros-divide (size m) m
+
+-- a multiple of 2^j is one of 2^w for w ≤ j, and is not below 2^w unless it is 0
+pub multiple-mod : (m q j w : ℕ) → m ≡ q * 2 ^ j → w ≤ j → m % 2 ^ w ≡ 0
+multiple-mod m q j w e h =
+    ap (λ (x : ℕ). x % 2 ^ w) (e ∙ ap (λ (x : ℕ). q * x) (pow-split w j h) ∙ sym (mul-assoc q (2 ^ (j - w)) (2 ^ w))) ∙ mul-mod-left (q * 2 ^ (j - w)) (2 ^ w)
+
+pub multiple-ge : (m q j w : ℕ) → m ≡ q * 2 ^ j → w ≤ j → 0 < m → 2 ^ w ≤ m
+multiple-ge m zero j w e h k = absurd (not-le-of-lt (subst (λ (x : ℕ). 0 < x) (e ∙ zero-mul (2 ^ j)) k) (le-refl 0))
+multiple-ge m (suc q) j w e h k =
+    le-trans (pow-mono h) (le-trans (subst (λ (x : ℕ). x ≤ suc q * 2 ^ j) (one-mul (2 ^ j)) (mul-le-mul-right (2 ^ j) one)) (subst (λ (x : ℕ). suc q * 2 ^ j ≤ x) (sym e) (le-refl (suc q * 2 ^ j))))
+  where
+    one : 1 ≤ suc q
+    one = omega arith
+
+-- and that bit is set
+zeros-odd : (d n : ℕ) → 0 < n → n < 2 ^ d → n / 2 ^ trailingZeros d n % 2 ≡ 1
+unfolding trailingZeros
+zeros-odd zero n h k = absurd (not-le-of-lt k h)
+zeros-odd (suc d) n h k = go (n % 2) refl (zeros-odd d (n / 2))
+  where
+    go : (r : ℕ) → n % 2 ≡ r → (0 < n / 2 → n / 2 < 2 ^ d → n / 2 / 2 ^ trailingZeros d (n / 2) % 2 ≡ 1)
+        → n / 2 ^ under r (trailingZeros d (n / 2)) % 2 ≡ 1
+    go zero e ih =
+        ap (λ (x : ℕ). n / x % 2) (pow-succ' 2 (trailingZeros d (n / 2)))
+        ∙ ap (λ (x : ℕ). x % 2) (sym (div-div-eq-div-mul n 2 (2 ^ trailingZeros d (n / 2))))
+        ∙ ih (omega arith) (omega (arith, pow-succ' 2 d))
+    go (suc r) e ih = ap (λ (x : ℕ). x % 2) (div-one n) ∙ one
+      where
+        one : n % 2 ≡ 1
+        one = omega arith
+
+pub low-set : (m : ℕ) → 0 < m → m / 2 ^ lowBit m % 2 ≡ 1
+unfolding lowBit
+low-set m h = zeros-odd (size m) m h (size-lt m)

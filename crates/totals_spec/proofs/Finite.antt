@@ -1,0 +1,130 @@
+-- PROMISE 2, of finite values: no NaN, no infinity and no invalid product decides, so the record is that of the exact sum rounded once.
+use mathlib.Core.Path.{_≡_, refl, sym, ap, ap₂, _∙_, subst}
+use mathlib.Core.Bool.{Bool, true, false, not, _&&_, _||_, cond}
+use mathlib.Core.List.{List, [], _∷_, map}
+use Prim.Native.Nat.{ℕ, suc, _<_}
+use native.Mathlib.Nat.{not-suc-le-zero, suc-inj, suc-ne-zero}
+use native.Mathlib.Omega.{arith}
+use lib.ListN.{length}
+use lib.Dec.{T, eqb}
+use Rattle.totals_spec.specs.Basics.{any, isSet}
+use Rattle.totals_spec.specs.Format.{Format, digits, grid}
+use Rattle.totals_spec.specs.Settings.{Settings, Summand, value, magnitude, square, summandOf}
+use Rattle.totals_spec.specs.Decode.{Unpacked, zeroOf, finite, infinity, nan, decode, operand, isSubnormal, signBit}
+use Rattle.totals_spec.specs.Terms.{Item, nanItem, invalidItem, infinite, zeroItem, term, Term, item, itemOf, pairItem, pairOf, isNanItem, isInvalid, isInfinite, terms, exactSum}
+use Rattle.totals_spec.specs.Chain.{chain}
+use Rattle.totals_spec.specs.Totals.{Answer, sumRounded, reported, towardsNegative, finiteTotal, withoutNan, accepted, answered, isValue, isSquare, sumRefusal, sumTerms, sumAccepted, sumAnswer, pairs, dotRefusal, dotTerms, dotAccepted, dotAnswer}
+use Rattle.totals_spec.specs.Promises.{isNumber, AllFinite, Sum-exact, Dot-exact}
+use Rattle.totals_spec.proofs.Order.{dot-lengths}
+
+-- ---- zeros and terms
+
+abbrev Plain : Item → Type 0
+Plain nanItem = ⊥
+Plain invalidItem = ⊥
+Plain (infinite s) = ⊥
+Plain (zeroItem s) = Unit {0}
+Plain (term t) = Unit {0}
+
+abbrev AllPlain : List Item → Type 0
+AllPlain [] = Unit {0}
+AllPlain (x ∷ l) = Plain x × AllPlain l
+
+-- what holds of neither holds of none
+none-of : (t : Item → Bool) → ((s : Bool) → t (zeroItem s) ≡ false) → ((x : Term) → t (term x) ≡ false) → (l : List Item) → AllPlain l → any t l ≡ false
+none-of t z g [] h = refl
+none-of t z g (nanItem ∷ l) h = absurd (h .0)
+none-of t z g (invalidItem ∷ l) h = absurd (h .0)
+none-of t z g (infinite s ∷ l) h = absurd (h .0)
+none-of t z g (zeroItem s ∷ l) h = ap₂ _||_ (z s) (none-of t z g l (h .1))
+none-of t z g (term x ∷ l) h = ap₂ _||_ (g x) (none-of t z g l (h .1))
+
+some-term : (ts : List Term) → 0 < length ts → any (λ t. true) ts ≡ true
+some-term [] h = absurd (not-suc-le-zero h)
+some-term (t ∷ ts) h = refl
+
+plain-accepted : (f : Format) (c : Settings) (sub products first signaling : Bool) (v : Unpacked) (l : List Item) → AllPlain l → 0 < length (terms l)
+    → accepted f c sub products first signaling v l
+    ≡ reported f sub products (sumRounded f c (grid f products) (towardsNegative c) (exactSum (terms l))) (chain (digits f) (terms l))
+unfolding accepted withoutNan finiteTotal
+plain-accepted f c sub products first signaling v l h some =
+    rw (
+      none-of isNanItem (λ s. refl) (λ x. refl) l h,
+      none-of isInvalid (λ s. refl) (λ x. refl) l h,
+      none-of (isInfinite false) (λ s. refl) (λ x. refl) l h,
+      none-of (isInfinite true) (λ s. refl) (λ x. refl) l h,
+      some-term (terms l) some,
+    )
+
+-- ---- finite values give zeros and terms
+
+number-cond : (b s : Bool) (x : Unpacked) → T (isNumber x) → T (isNumber (cond b (zeroOf s) x))
+number-cond true s x h = tt
+number-cond false s x h = h
+
+number-operand : (f : Format) (c : Settings) (b : ℕ) → T (isNumber (decode f b)) → T (isNumber (operand f c b))
+unfolding operand
+number-operand f c b h = number-cond (isSet (c .denormalsAreZero) && isSubnormal f b) (signBit f b) (decode f b) h
+
+plain-item : (u : Summand) (x : Unpacked) → T (isNumber x) → Plain (itemOf u x)
+plain-item value (zeroOf s) h = tt
+plain-item value (finite s k m) h = tt
+plain-item magnitude (zeroOf s) h = tt
+plain-item magnitude (finite s k m) h = tt
+plain-item square (zeroOf s) h = tt
+plain-item square (finite s k m) h = tt
+plain-item value (infinity s) h = absurd h
+plain-item value (nan s g m) h = absurd h
+plain-item magnitude (infinity s) h = absurd h
+plain-item magnitude (nan s g m) h = absurd h
+plain-item square (infinity s) h = absurd h
+plain-item square (nan s g m) h = absurd h
+
+plain-pair : (x y : Unpacked) → T (isNumber x) → T (isNumber y) → Plain (pairOf x y)
+plain-pair (zeroOf s) (zeroOf t) h k = tt
+plain-pair (zeroOf s) (finite t j n) h k = tt
+plain-pair (finite s i m) (zeroOf t) h k = tt
+plain-pair (finite s i m) (finite t j n) h k = tt
+plain-pair (zeroOf s) (infinity t) h k = absurd k
+plain-pair (zeroOf s) (nan t g n) h k = absurd k
+plain-pair (finite s i m) (infinity t) h k = absurd k
+plain-pair (finite s i m) (nan t g n) h k = absurd k
+plain-pair (infinity s) y h k = absurd h
+plain-pair (nan s g m) y h k = absurd h
+
+plain-items : (f : Format) (c : Settings) (u : Summand) (l : List ℕ) → AllFinite f l → AllPlain (map (item f c u) l)
+unfolding item
+plain-items f c u [] h = tt
+plain-items f c u (b ∷ l) h = (plain-item u (operand f c b) (number-operand f c b (h .0)), plain-items f c u l (h .1))
+
+plain-pairs : (f : Format) (c : Settings) (xs ys : List ℕ) → AllFinite f xs → AllFinite f ys → AllPlain (map (pairItem f c) (pairs xs ys))
+unfolding pairItem
+plain-pairs f c [] ys h k = tt
+plain-pairs f c (x ∷ xs) [] h k = tt
+plain-pairs f c (x ∷ xs) (y ∷ ys) h k =
+    (plain-pair (operand f c x) (operand f c y) (number-operand f c x (h .0)) (number-operand f c y (k .0)), plain-pairs f c xs ys (h .1) (k .1))
+
+-- a test of the elements of either list is one of the pairs
+or-mix : (a b x y : Bool) → ((a || b) || (x || y)) ≡ ((a || x) || (b || y))
+or-mix true b x y = refl
+or-mix false true true y = refl
+or-mix false true false y = refl
+or-mix false false x y = refl
+
+pairs-any : (t : ℕ → Bool) (xs ys : List ℕ) → length xs ≡ length ys → any (λ x. t (x .0) || t (x .1)) (pairs xs ys) ≡ (any t xs || any t ys)
+pairs-any t [] [] e = refl
+pairs-any t [] (y ∷ ys) e = absurd (suc-ne-zero (length ys) (sym e))
+pairs-any t (x ∷ xs) [] e = absurd (suc-ne-zero (length xs) e)
+pairs-any t (x ∷ xs) (y ∷ ys) e = ap (λ (b : Bool). (t x || t y) || b) (pairs-any t xs ys (suc-inj e)) ∙ or-mix (t x) (t y) (any t xs) (any t ys)
+
+-- ---- THE PROMISE
+
+pub sum-exact : Sum-exact
+unfolding sumAnswer sumAccepted
+sum-exact f c u l r h some = rw r (plain-accepted f c _ _ _ _ _ (map (item f c (summandOf u)) l) (plain-items f c (summandOf u) l h) some)
+
+pub dot-exact : Dot-exact
+unfolding dotAnswer dotAccepted
+dot-exact f c xs ys r h k some =
+    rw (r, pairs-any (isSubnormal f) xs ys (dot-lengths f c xs ys r))
+    (plain-accepted f c _ _ _ _ _ (map (pairItem f c) (pairs xs ys)) (plain-pairs f c xs ys h k) some)

@@ -1,0 +1,40 @@
+-- The document's examples, and refusals.
+pub mod Careers
+pub mod Places
+pub mod Refused
+-- Facts that the theorems share.
+pub mod Bits
+pub mod Valid
+pub mod Perm
+pub mod Good
+pub mod Accepted
+pub mod Tops
+pub mod Edges
+-- The order.
+pub mod Order
+-- The limit on the passes, and that a chain ends.
+pub mod Limit
+pub mod Passes
+pub mod Binary64
+-- The rounding: a chain's outcome rounds as the exact sum does.
+pub mod Wrap
+pub mod Cut
+pub mod Same
+pub mod Alike
+pub mod Margin
+pub mod Invariant
+pub mod FreePass
+pub mod NearPass
+pub mod Exact
+pub mod ByChain
+pub mod Finite
+-- The promises: what `specs/Promises.antt` states. Read this one first.
+pub mod Promises
+-- More of a pass: how near S is to the exact sum, and that a boundary need not be taken off.
+pub mod Parts
+pub mod Vanish
+-- For the code's proofs: a window filled part by part, a list walked, a chain walked, empty passes counted.
+pub mod Window
+pub mod Walk
+pub mod Reached
+pub mod Skip

@@ -1,0 +1,131 @@
+-- THE PROMISES, proved. Each theorem has the name of its statement in `specs/Promises.antt`, in small letters; its proof stands in the file that its
+-- part names.
+use mathlib.Core.Path.{_≡_, sym, ap, _∙_}
+use Prim.Native.Nat.{ℕ, _%_, _^_}
+use native.Mathlib.Nat.{mul-mod-left}
+use Rattle.totals_spec.specs.Settings.{summandOf}
+use Rattle.totals_spec.specs.Totals.{pairs}
+use Rattle.totals_spec.specs.Limit.{lowBit}
+use Rattle.totals_spec.specs.Promises.{Careers-agree, Margins-agree, Examples-agree, Zeros-accepted, Zeros-refused, Sum-refusal, Dot-refusal, Sum-refused, Dot-refused, Sum-place, Dot-place, Sum-entry-refused, Dot-entry-refused, Sum-exact, Dot-exact, Sum-by-chain, Dot-by-chain, Sum-order, Dot-order, Sum-entry-order, Dot-entry-order, Sum-limit, Dot-limit, Binary64-sum-limit, Binary64-square-limit, Binary64-dot-limit, Sum-ends, Dot-ends, Sum-edges, Dot-edges, Low-bit}
+use Rattle.totals_spec.proofs.Bits.{low-divides, low-set}
+use Rattle.totals_spec.proofs.Good.{good-terms, good-pairs}
+use Rattle.totals_spec.proofs.Valid.{digits-le}
+use Rattle.totals_spec.proofs.Limit.{chain-ends}
+use Rattle.totals_spec.proofs.Edges.{edges-true}
+use Rattle.totals_spec.specs.Careers as tests
+use Rattle.totals_spec.proofs.Careers as careers
+use Rattle.totals_spec.proofs.Refused as refusals
+use Rattle.totals_spec.proofs.Finite as finite
+use Rattle.totals_spec.proofs.ByChain as chains
+use Rattle.totals_spec.proofs.Order as order
+use Rattle.totals_spec.proofs.Passes as passes
+use Rattle.totals_spec.proofs.Binary64 as binary64s
+
+-- ==== the document's examples (specs/Careers, which computes them, and Careers)
+
+pub careers-agree : Careers-agree
+careers-agree = tests.careers-agree
+
+pub margins-agree : Margins-agree
+margins-agree = tests.margins-agree
+
+pub examples-agree : Examples-agree
+examples-agree = (tests.refusals-agree, tests.entry-agrees, tests.pence-agree, tests.program-agrees)
+
+pub zeros-accepted : Zeros-accepted
+zeros-accepted = careers.zeros-accepted
+
+pub zeros-refused : Zeros-refused
+zeros-refused = careers.zeros-refused
+
+-- ==== promise 1: refusals (Refused)
+
+pub sum-refusal : Sum-refusal
+sum-refusal = refusals.sum-refusal
+
+pub dot-refusal : Dot-refusal
+dot-refusal = refusals.dot-refusal
+
+pub sum-refused : Sum-refused
+sum-refused = refusals.sum-refused
+
+pub dot-refused : Dot-refused
+dot-refused = refusals.dot-refused
+
+pub sum-place : Sum-place
+sum-place = refusals.sum-place
+
+pub dot-place : Dot-place
+dot-place = refusals.dot-place
+
+pub sum-entry-refused : Sum-entry-refused
+sum-entry-refused = refusals.sum-entry-refused
+
+pub dot-entry-refused : Dot-entry-refused
+dot-entry-refused = refusals.dot-entry-refused
+
+-- ==== promise 2: the exact sum, rounded once (Finite)
+
+pub sum-exact : Sum-exact
+sum-exact = finite.sum-exact
+
+pub dot-exact : Dot-exact
+dot-exact = finite.dot-exact
+
+-- ==== promise 2: what a chain ends with, rounded, is the exact sum rounded (ByChain)
+
+pub sum-by-chain : Sum-by-chain
+sum-by-chain = chains.sum-by-chain
+
+pub dot-by-chain : Dot-by-chain
+dot-by-chain = chains.dot-by-chain
+
+-- ==== promise 3: the order (Order)
+
+pub sum-order : Sum-order
+sum-order = order.sum-order
+
+pub dot-order : Dot-order
+dot-order = order.dot-order
+
+pub sum-entry-order : Sum-entry-order
+sum-entry-order = order.sum-entry-order
+
+pub dot-entry-order : Dot-entry-order
+dot-entry-order = order.dot-entry-order
+
+-- ==== promise 3: the limit on the passes (Passes)
+
+pub sum-limit : Sum-limit
+sum-limit = passes.sum-limit
+
+pub dot-limit : Dot-limit
+dot-limit = passes.dot-limit
+
+-- ==== promise 3: the limit for binary64 (Binary64)
+
+pub binary64-sum-limit : Binary64-sum-limit
+binary64-sum-limit = binary64s.binary64-sum-limit
+
+pub binary64-square-limit : Binary64-square-limit
+binary64-square-limit = binary64s.binary64-square-limit
+
+pub binary64-dot-limit : Binary64-dot-limit
+binary64-dot-limit = binary64s.binary64-dot-limit
+
+-- ==== the definitions mean what they say (Limit, Edges, Bits)
+
+pub sum-ends : Sum-ends
+sum-ends f c u l v = chain-ends _ _ (passes.le-64 (digits-le f v)) (good-terms f c (summandOf u) l)
+
+pub dot-ends : Dot-ends
+dot-ends f c xs ys v = chain-ends _ _ (passes.le-64 (digits-le f v)) (good-pairs f c (pairs xs ys))
+
+pub sum-edges : Sum-edges
+sum-edges f c u l = edges-true _ (good-terms f c (summandOf u) l)
+
+pub dot-edges : Dot-edges
+dot-edges f c xs ys = edges-true _ (good-pairs f c (pairs xs ys))
+
+pub low-bit : Low-bit
+low-bit m h = (ap (λ (x : ℕ). x % 2 ^ lowBit m) (sym (low-divides m)) ∙ mul-mod-left _ (2 ^ lowBit m), low-set m h)

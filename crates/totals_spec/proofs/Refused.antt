@@ -1,0 +1,155 @@
+-- PROMISE 1: the refusal number, the record of a refused call, the place of number 7, and the buffer of a refused byte entry.
+use mathlib.Core.Path.{_≡_, refl, sym, ap, _∙_, subst}
+use mathlib.Core.Logic.{_≢_}
+use mathlib.Core.Bool.{Bool, true, false, not, _&&_, _||_, cond}
+use mathlib.Core.List.{List, map}
+use Prim.Native.Nat.{ℕ, _+_, _*_}
+use native.Mathlib.Omega.{arith}
+use lib.Dec.{T, eqb, eqb→eq, leb, ltb}
+use lib.ListN.{length}
+use Rattle.totals_spec.specs.Basics.{any}
+use Rattle.totals_spec.specs.Format.{Format, validFormat}
+use Rattle.totals_spec.specs.Settings.{Settings, validSettings, Summand, summandOf}
+use Rattle.totals_spec.specs.Decode.{Unpacked, decode, isSubnormal, isSignaling}
+use Rattle.totals_spec.specs.Terms.{item, pairItem}
+use Rattle.totals_spec.specs.Nan.{selectAll}
+use Rattle.totals_spec.specs.Totals.{Answer, refused, special, reported, answered, isValue, isSquare, stray, limit, refuseIf, firstIndex, sumRefusal, sumAccepted, sumAnswer, pairs, operands, dotRefusal, dotAccepted, dotPlace, dotAnswer}
+use Rattle.totals_spec.specs.Bytes.{Entry, valuesIn, uneven, short, entered, written, sumEntry, dotEntry}
+use Rattle.totals_spec.specs.Places.{StrayAt, DotStrayAt}
+use Rattle.totals_spec.specs.Promises.{Sum-refusal, Dot-refusal, Sum-refused, Dot-refused, Sum-place, Dot-place, Sum-entry-refused, Dot-entry-refused}
+use Rattle.totals_spec.proofs.Bits.{eqb-false}
+use Rattle.totals_spec.proofs.Accepted.{accepted-has}
+use Rattle.totals_spec.proofs.Places.{first-stray, dot-stray}
+
+-- ---- an accepted record has neither number nor place
+
+record Unrefused (a : Answer) : Type 0 where
+  pub number : a .refusal ≡ 0
+  pub place : a .place ≡ 0
+
+special-unrefused : (f : Format) (sub : Bool) (v : Unpacked) (b : Bool) → Unrefused (special f sub v b)
+unfolding special
+special-unrefused f sub v b = record { number = refl; place = refl }
+
+sum-unrefused : (f : Format) (c : Settings) (u : Summand) (l : List ℕ) → Unrefused (sumAccepted f c u l)
+unfolding sumAccepted reported
+sum-unrefused f c u l =
+    accepted-has Unrefused f c (any (isSubnormal f) l) (isSquare u) (map (item f c u) l) (special-unrefused f (any (isSubnormal f) l)) (record { number = refl; place = refl })
+    (not (isValue u)) (any (λ b. isSignaling (decode f b)) l) (selectAll c (map (decode f) l))
+
+dot-unrefused : (f : Format) (c : Settings) (l : List (ℕ × ℕ)) → Unrefused (dotAccepted f c l)
+unfolding dotAccepted reported
+dot-unrefused f c l =
+    let sub = any (λ x. isSubnormal f (x .0) || isSubnormal f (x .1)) l in
+    accepted-has Unrefused f c sub true (map (pairItem f c) l) (special-unrefused f sub) (record { number = refl; place = refl })
+    false (any (λ x. isSignaling (decode f (x .0)) || isSignaling (decode f (x .1))) l) (selectAll c (operands f l))
+
+-- ---- a call by its refusal number
+
+module _ (n at : ℕ) (a : Answer) where
+  answered-refused : n ≢ 0 → answered n at a ≡ refused n (cond (eqb n 7) at 0)
+  answered-refused h = rw (eqb-false n 0 h)
+
+  answered-number : Unrefused a → (answered n at a) .refusal ≡ n
+  answered-number h = go (eqb n 0) (eqb→eq n 0)
+    where
+      go : (b : Bool) → (T b → n ≡ 0) → (cond b a (refused n (cond (eqb n 7) at 0))) .refusal ≡ n
+      go true e = h .number ∙ sym (e tt)
+      go false e = refl
+
+  answered-whole : n ≢ 0 → answered n at a ≡ refused n ((answered n at a) .place)
+  answered-whole h = answered-refused h ∙ ap (refused n) (sym (ap (λ (x : Answer). x .place) (answered-refused h)))
+
+  no-place : Unrefused a → n ≢ 7 → (answered n at a) .place ≡ 0
+  no-place h k = rw (eqb-false n 7 k) (go (eqb n 0))
+    where
+      go : (b : Bool) → (cond b a (refused n 0)) .place ≡ 0
+      go true = h .place
+      go false = refl
+
+  place-at : n ≡ 7 → (answered n at a) .place ≡ at
+  place-at h = rw h
+
+-- ---- number 7 says that a stray bit is there
+
+seven : (a b d e : Bool) → refuseIf a 3 (refuseIf b 4 (refuseIf d 6 (refuseIf e 7 0))) ≡ 7 → T e
+seven true b d e h = absurd (let z : ⊥ = omega arith in z)
+seven false true d e h = absurd (let z : ⊥ = omega arith in z)
+seven false false true e h = absurd (let z : ⊥ = omega arith in z)
+seven false false false true h = tt
+seven false false false false h = absurd (let z : ⊥ = omega arith in z)
+
+seven-of-five : (a b g d e : Bool) → refuseIf a 3 (refuseIf b 4 (refuseIf g 5 (refuseIf d 6 (refuseIf e 7 0)))) ≡ 7 → T e
+seven-of-five a b true d e h = absurd (none a b h)
+  where
+    none : (a b : Bool) → refuseIf a 3 (refuseIf b 4 5) ≡ 7 → ⊥
+    none true b h = omega arith
+    none false true h = omega arith
+    none false false h = omega arith
+seven-of-five a b false d e h = seven a b d e h
+
+sum-stray : (f : Format) (c : Settings) (u : ℕ) (l : List ℕ) → sumRefusal f c u l ≡ 7 → T (any (stray f) l)
+unfolding sumRefusal
+sum-stray f c u l h = seven (not (validFormat f)) (not (validSettings f c && leb u 2)) (ltb limit (length l)) (any (stray f) l) h
+
+dot-strays : (f : Format) (c : Settings) (xs ys : List ℕ) → dotRefusal f c xs ys ≡ 7 → T (any (stray f) xs || any (stray f) ys)
+unfolding dotRefusal
+dot-strays f c xs ys h =
+    seven-of-five (not (validFormat f)) (not (validSettings f c)) (not (eqb (length xs) (length ys))) (ltb limit (length xs)) (any (stray f) xs || any (stray f) ys) h
+
+-- ---- THE PROMISES
+
+pub sum-refusal : Sum-refusal
+unfolding sumAnswer
+sum-refusal f c u l = answered-number (sumRefusal f c u l) (firstIndex (stray f) l) (sumAccepted f c (summandOf u) l) (sum-unrefused f c (summandOf u) l)
+
+pub dot-refusal : Dot-refusal
+unfolding dotAnswer
+dot-refusal f c xs ys = answered-number (dotRefusal f c xs ys) (dotPlace f xs ys) (dotAccepted f c (pairs xs ys)) (dot-unrefused f c (pairs xs ys))
+
+pub sum-refused : Sum-refused
+unfolding sumAnswer
+sum-refused f c u l h = answered-whole (sumRefusal f c u l) (firstIndex (stray f) l) (sumAccepted f c (summandOf u) l) h
+
+pub dot-refused : Dot-refused
+unfolding dotAnswer
+dot-refused f c xs ys h = answered-whole (dotRefusal f c xs ys) (dotPlace f xs ys) (dotAccepted f c (pairs xs ys)) h
+
+pub sum-place : Sum-place
+unfolding sumAnswer
+sum-place f c u l = (
+  no-place (sumRefusal f c u l) (firstIndex (stray f) l) (sumAccepted f c (summandOf u) l) (sum-unrefused f c (summandOf u) l),
+  λ h. subst (StrayAt f l) (sym (place-at (sumRefusal f c u l) (firstIndex (stray f) l) (sumAccepted f c (summandOf u) l) h)) (first-stray f l (sum-stray f c u l h)),
+)
+
+pub dot-place : Dot-place
+unfolding dotAnswer
+dot-place f c xs ys = (
+  no-place (dotRefusal f c xs ys) (dotPlace f xs ys) (dotAccepted f c (pairs xs ys)) (dot-unrefused f c (pairs xs ys)),
+  λ h. subst (DotStrayAt f xs ys) (sym (place-at (dotRefusal f c xs ys) (dotPlace f xs ys) (dotAccepted f c (pairs xs ys)) h)) (dot-stray f xs ys (dot-strays f c xs ys h)),
+)
+
+-- a byte entry by its two tests and the record's
+abbrev byTests : (a b d : Bool) (n : ℕ) (old new : List ℕ) → Entry
+byTests a b d n old new =
+    cond a (record { code = 1; buffer = old })
+    (cond b (record { code = 2; buffer = old })
+    (cond d (record { code = 0; buffer = new }) (record { code = n; buffer = old })))
+
+entry-refused : (a b d : Bool) (n : ℕ) (old new : List ℕ) → (byTests a b d n old new) .code ≢ 0 → (byTests a b d n old new) .buffer ≡ old
+entry-refused true b d n old new h = refl
+entry-refused false true d n old new h = refl
+entry-refused false false true n old new h = absurd (h refl)
+entry-refused false false false n old new h = refl
+
+pub sum-entry-refused : Sum-entry-refused
+unfolding sumEntry entered
+sum-entry-refused f c u bytes old h =
+    let r = sumAnswer f c u (valuesIn bytes) in
+    entry-refused (uneven bytes) (short old) (eqb (r .refusal) 0) (r .refusal + 256 * r .place) old (written r old) h
+
+pub dot-entry-refused : Dot-entry-refused
+unfolding dotEntry entered
+dot-entry-refused f c left right old h =
+    let r = dotAnswer f c (valuesIn left) (valuesIn right) in
+    entry-refused (uneven left || uneven right) (short old) (eqb (r .refusal) 0) (r .refusal + 256 * r .place) old (written r old) h

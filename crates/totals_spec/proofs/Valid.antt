@@ -1,0 +1,52 @@
+-- What the tests of refusals 3 and 4 say where they pass, as facts that `omega` reads.
+use mathlib.Core.Bool.{Bool, true, _&&_}
+use Prim.Native.Nat.{ℕ, zero, suc, _+_, _≤_}
+use native.Mathlib.Nat.{le-refl}
+use native.Mathlib.Omega.{arith}
+use lib.Dec.{T, leb, leb→le}
+use Rattle.totals_spec.specs.Format.{Format, validFormat, digits}
+use Rattle.totals_spec.specs.Settings.{Settings, validSettings, chosen, precisionOf}
+use Rattle.totals_spec.specs.Bounds.{FormatBounds, SettingsBounds}
+
+pub and-left : (a b : Bool) → T (a && b) → T a
+and-left true true t = tt
+
+pub and-right : (a b : Bool) → T (a && b) → T b
+and-right true true t = tt
+
+pub format-bounds : (f : Format) → T (validFormat f) → FormatBounds f
+unfolding validFormat
+format-bounds f t =
+    let k = leb (f .kind) 3 in
+    let a = leb 2 (f .E) in
+    let b = leb (f .E) 28 in
+    let c = leb (f .E + 2) (f .W) in
+    let d = leb (f .W) 64 in
+    let t3 = and-left (k && a && b && c) d t in
+    let t2 = and-left (k && a && b) c t3 in
+    let t1 = and-left (k && a) b t2 in
+    record {
+      kind-le = leb→le (f .kind) 3 (and-left k a t1);
+      e-ge = leb→le 2 (f .E) (and-right k a t1);
+      e-le = leb→le (f .E) 28 (and-right (k && a) b t2);
+      w-ge = leb→le (f .E + 2) (f .W) (and-right (k && a && b) c t3);
+      w-le = leb→le (f .W) 64 (and-right (k && a && b && c) d t);
+    }
+
+pub digits-le : (f : Format) → T (validFormat f) → digits f ≤ 62
+digits-le f t = let b = format-bounds f t in omega (arith, b .e-ge, b .w-le)
+
+pub digits-ge : (f : Format) → T (validFormat f) → 2 ≤ digits f
+digits-ge f t = let b = format-bounds f t in omega (arith, b .w-ge)
+
+-- q is at most p
+pub precision-le : (f : Format) (c : Settings) → T (validSettings f c) → precisionOf f c ≤ digits f
+unfolding validSettings precisionOf
+precision-le f c t = go (c .precision) (leb→le (c .precision) (digits f) (and-right others (leb (c .precision) (digits f)) t))
+  where
+    others : Bool
+    others = leb (c .rounding) 7 && leb (c .tininess) 1 && leb (c .nanPropagation) 3 && leb (c .defaultNanSign) 1 && leb (c .flushToZero) 1 && leb (c .denormalsAreZero) 1 && leb (c .saturate) 1
+
+    go : (q : ℕ) → q ≤ digits f → chosen q (digits f) ≤ digits f
+    go zero h = le-refl (digits f)
+    go (suc q) h = h

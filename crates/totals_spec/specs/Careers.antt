@@ -1,0 +1,277 @@
+-- "Careers to check" (document 01): C1 to C12 as the rows of a table, and the document's other examples, as tests that the checker computes.
+--
+-- The last edges, which the document gives for C7 alone, follow from its text. The first edge is T − 702, and without a pass the edge is 0:
+--   C1, C2, C3, C12   no pass: 0
+--   C4, C6            T = 0, and the first pass is exact: −702
+--   C5                T = 1000, so 298; there S = 0 and the lost bit is 0; the next edge is 766 below the larger of 298 and 65: −468, exact
+--   C7                T = 0, so −702; n = 703, r = 649, d = 0: a boundary; the next edge is −702 − 701 = −1403, exact
+--   C8, C9            T = 1023: 321
+--   C10               T = −1074: −1776
+--   C11               T = −600 − 600 + 1: −1901
+use Prim.Native.Nat.{ℕ, _+_, _*_}
+use mathlib.Core.Bool.{Bool, true, false, _&&_}
+use mathlib.Core.List.{List, [], _∷_, _++_}
+use lib.Dec.{T, eqb}
+use lib.ListN.{replicate}
+use lib.IntN.{ℤ, pos, negsuc}
+use lib.Ieee.{size, span, climb}
+use Rattle.totals_spec.specs.Basics.{difference}
+use Rattle.totals_spec.specs.Format.{Format, validFormat, bias, exponentRange, depth, origin, grid}
+use Rattle.totals_spec.specs.Settings.{Settings, validSettings, precisionOf}
+use Rattle.totals_spec.specs.Decode.{decode, isSubnormal, operand}
+use Rattle.totals_spec.specs.Terms.{single, product, item, pairItem, plusSum, minusSum, topOf}
+use Rattle.totals_spec.specs.Chain.{lostEnd, lookAt, half, wrapped, decide, sumOf, pass, run, chain}
+use Rattle.totals_spec.specs.Round.{dropped, roundedAt, overflows, largest, overflow, numberOf, finished, tinySum, roundTo, round}
+use Rattle.totals_spec.specs.Encode.{encode}
+use Rattle.totals_spec.specs.Nan.{defaultNanOf, selectAll}
+use Rattle.totals_spec.specs.Totals.{Answer, special, sumRounded, reported, finiteTotal, withoutNan, accepted, sumRefusal, sumAccepted, sumAnswer, dotRefusal, dotPlace, dotAnswer}
+use Rattle.totals_spec.specs.Bytes.{Entry, valuesIn, written, entered, sumEntry}
+use Rattle.totals_spec.specs.Pence.{Pence, penceOf, penceAnswer}
+use Rattle.totals_spec.specs.Program.{readFrom, hexText, decimalFrom, answerText, programText}
+
+unfoldable pub binary64 : Format
+binary64 = record { kind = 0; E = 11; W = 64 }
+
+unfoldable pub binary16 : Format
+binary16 = record { kind = 0; E = 5; W = 16 }
+
+-- every setting 0 but the rounding
+unfoldable pub rounded : ℕ → Settings
+rounded m =
+    record { rounding = m; tininess = 0; nanPropagation = 0; defaultNanSign = 0; flushToZero = 0; denormalsAreZero = 0; saturate = 0; precision = 0 }
+
+-- ---- C1 to C12. Modes: 0 ties to even, 4 toward negative, 5 toward zero. Summands: 0 value, 1 magnitude, 2 square
+
+pub record Row : Type 0 where
+  pub mode : ℕ
+  pub summand : ℕ
+  pub list : List ℕ
+  pub result : ℕ
+  pub flags : ℕ
+  pub passes : ℕ
+  pub lastEdge : ℤ
+
+unfoldable pub careers : List Row
+careers =
+    -- C1: empty, toward negative
+    record { mode = 4; summand = 0; list = []; result = 0; flags = 0x00; passes = 0; lastEdge = pos 0 }
+    -- C2: −0
+    ∷ record { mode = 0; summand = 0; list = 0x8000000000000000 ∷ []; result = 0x8000000000000000; flags = 0x00; passes = 0; lastEdge = pos 0 }
+    -- C3: +0, −0, toward negative
+    ∷ record { mode = 4; summand = 0; list = 0 ∷ 0x8000000000000000 ∷ []; result = 0x8000000000000000; flags = 0x00; passes = 0; lastEdge = pos 0 }
+    -- C4: 1, −1
+    ∷ record { mode = 0; summand = 0; list = 0x3ff0000000000000 ∷ 0xbff0000000000000 ∷ []; result = 0; flags = 0x00; passes = 1; lastEdge = negsuc 701 }
+    -- C5: 2^1000, 1, −2^1000
+    ∷ record { mode = 0; summand = 0; list = 0x7e70000000000000 ∷ 0x3ff0000000000000 ∷ 0xfe70000000000000 ∷ []; result = 0x3ff0000000000000; flags = 0x00; passes = 2; lastEdge = negsuc 467 }
+    -- C6: 1, 2^−53
+    ∷ record { mode = 0; summand = 0; list = 0x3ff0000000000000 ∷ 0x3ca0000000000000 ∷ []; result = 0x3ff0000000000000; flags = 0x10; passes = 1; lastEdge = negsuc 701 }
+    -- C7: 1, 2^−53, 2^−1000
+    ∷ record { mode = 0; summand = 0; list = 0x3ff0000000000000 ∷ 0x3ca0000000000000 ∷ 0x0170000000000000 ∷ []; result = 0x3ff0000000000001; flags = 0x50; passes = 2; lastEdge = negsuc 1402 }
+    -- C8: 7fefffffffffffff twice
+    ∷ record { mode = 0; summand = 0; list = 0x7fefffffffffffff ∷ 0x7fefffffffffffff ∷ []; result = 0x7ff0000000000000; flags = 0x54; passes = 1; lastEdge = pos 321 }
+    -- C9: C8 toward zero
+    ∷ record { mode = 5; summand = 0; list = 0x7fefffffffffffff ∷ 0x7fefffffffffffff ∷ []; result = 0x7fefffffffffffff; flags = 0x14; passes = 1; lastEdge = pos 321 }
+    -- C10: 0000000000000001
+    ∷ record { mode = 0; summand = 0; list = 1 ∷ []; result = 1; flags = 0xa0; passes = 1; lastEdge = negsuc 1775 }
+    -- C11: square of 2^−600
+    ∷ record { mode = 0; summand = 2; list = 0x1a70000000000000 ∷ []; result = 0; flags = 0x38; passes = 1; lastEdge = negsuc 1900 }
+    -- C12: magnitude of −∞, quiet NaN
+    ∷ record { mode = 0; summand = 1; list = 0xfff0000000000000 ∷ 0x7ff8000000000000 ∷ []; result = 0x7ff0000000000000; flags = 0x00; passes = 0; lastEdge = pos 0 }
+    ∷ []
+
+-- ---- rows at the margins of the passes' rules, worked out from document 01's text; binary64 has p = 53
+
+unfoldable pub margins : List Row
+margins =
+    -- 1, 2^−638, 2^−1000: at −702 n = 703, r = 649 and d = 2^64, under the margin of 2^65: a boundary, and the next pass at −1403 is exact
+    record { mode = 0; summand = 0; list = 0x3ff0000000000000 ∷ 0x1810000000000000 ∷ 0x0170000000000000 ∷ []; result = 0x3ff0000000000000; flags = 0x10; passes = 2; lastEdge = negsuc 1402 }
+    -- 1, 2^−637, 2^−1000: d = 2^65, so the first pass is final
+    ∷ record { mode = 0; summand = 0; list = 0x3ff0000000000000 ∷ 0x1820000000000000 ∷ 0x0170000000000000 ∷ []; result = 0x3ff0000000000000; flags = 0x10; passes = 1; lastEdge = negsuc 701 }
+    -- 1, 2^−53, −2^−702, −2^−1000: d = 2^649 − 1, near the multiple above, which is a tie; the sum lies below it
+    ∷ record { mode = 0; summand = 0; list = 0x3ff0000000000000 ∷ 0x3ca0000000000000 ∷ 0x9410000000000000 ∷ 0x8170000000000000 ∷ []; result = 0x3ff0000000000000; flags = 0x10; passes = 2; lastEdge = negsuc 1402 }
+    -- 1, −1, 2^−580, 2^−1000: n = 123 = p + 70, d = 0: a boundary
+    ∷ record { mode = 0; summand = 0; list = 0x3ff0000000000000 ∷ 0xbff0000000000000 ∷ 0x1bb0000000000000 ∷ 0x0170000000000000 ∷ []; result = 0x1bb0000000000000; flags = 0x10; passes = 2; lastEdge = negsuc 1402 }
+    -- 1, −1, 2^−581, 2^−1000: n = 122, so the next edge is 766 below −702 + 122
+    ∷ record { mode = 0; summand = 0; list = 0x3ff0000000000000 ∷ 0xbff0000000000000 ∷ 0x1ba0000000000000 ∷ 0x0170000000000000 ∷ []; result = 0x1ba0000000000000; flags = 0x10; passes = 2; lastEdge = negsuc 1345 }
+    -- 2^1000, 2^−338, 2^−1074: a boundary at 298, and at −403 S = 2^65, n = 66: the side is known
+    ∷ record { mode = 0; summand = 0; list = 0x7e70000000000000 ∷ 0x2ad0000000000000 ∷ 1 ∷ []; result = 0x7e70000000000000; flags = 0x90; passes = 2; lastEdge = negsuc 402 }
+    -- 2^1000, 2^−339, 2^−1074: n = 65, so the next edge is 766 below −403 + 65, and that pass is exact
+    ∷ record { mode = 0; summand = 0; list = 0x7e70000000000000 ∷ 0x2ac0000000000000 ∷ 1 ∷ []; result = 0x7e70000000000000; flags = 0x90; passes = 3; lastEdge = negsuc 1103 }
+    -- 2^1000, −2^−338, 2^−1074: below the boundary
+    ∷ record { mode = 0; summand = 0; list = 0x7e70000000000000 ∷ 0xaad0000000000000 ∷ 1 ∷ []; result = 0x7e70000000000000; flags = 0xd0; passes = 2; lastEdge = negsuc 402 }
+    -- C5 in another order
+    ∷ record { mode = 0; summand = 0; list = 0x3ff0000000000000 ∷ 0x7e70000000000000 ∷ 0xfe70000000000000 ∷ []; result = 0x3ff0000000000000; flags = 0x00; passes = 2; lastEdge = negsuc 467 }
+    -- squares of 2^−538 twice and of 2^−600: 2^−1075 + 2^−1200, just above half of the least number; rounded to 53 digits first it would be a tie
+    ∷ record { mode = 0; summand = 2; list = 0x1e50000000000000 ∷ 0x1e50000000000000 ∷ 0x1a70000000000000 ∷ []; result = 1; flags = 0x78; passes = 1; lastEdge = negsuc 1776 }
+    -- −0, 1, −1: terms that cancel, whichever zeros stand among them
+    ∷ record { mode = 0; summand = 0; list = 0x8000000000000000 ∷ 0x3ff0000000000000 ∷ 0xbff0000000000000 ∷ []; result = 0; flags = 0x00; passes = 1; lastEdge = negsuc 701 }
+    ∷ []
+
+abbrev pub sameInt : ℤ → ℤ → Bool
+sameInt (pos m) (pos n) = eqb m n
+sameInt (pos m) (negsuc n) = false
+sameInt (negsuc m) (pos n) = false
+sameInt (negsuc m) (negsuc n) = eqb m n
+
+abbrev pub agrees : Row → Answer → Bool
+agrees r a =
+    eqb (a .result) (r .result) && eqb (a .flags) (r .flags) && eqb (a .passes) (r .passes) && sameInt (a .lastEdge) (r .lastEdge)
+    && eqb (a .refusal) 0 && eqb (a .place) 0
+
+-- each row is what the definitions give
+unfoldable pub allAgree : List Row → Bool
+allAgree [] = true
+allAgree (r ∷ rs) = agrees r (sumAnswer binary64 (rounded (r .mode)) (r .summand) (r .list)) && allAgree rs
+
+-- ---- the examples of the refusals 1 to 5 and 7 (6 is in `Promises.antt`)
+
+abbrev pub refusedAs : ℕ → ℕ → Answer → Bool
+refusedAs n at a =
+    eqb (a .refusal) n && eqb (a .place) at && eqb (a .result) 0 && eqb (a .flags) 0 && eqb (a .passes) 0 && sameInt (a .lastEdge) (pos 0)
+
+abbrev pub sameList : List ℕ → List ℕ → Bool
+sameList [] [] = true
+sameList [] (y ∷ ys) = false
+sameList (x ∷ xs) [] = false
+sameList (x ∷ xs) (y ∷ ys) = eqb x y && sameList xs ys
+
+-- the number n, and a buffer left as it was
+abbrev pub enteredAs : ℕ → List ℕ → Entry → Bool
+enteredAs n old e = eqb (e .code) n && sameList (e .buffer) old
+
+unfoldable pub refusals : Bool
+refusals =
+    -- 1: 7 bytes
+    enteredAs 1 (replicate 24 7) (sumEntry binary64 (rounded 0) 0 (replicate 7 0) (replicate 24 7))
+    -- 2: 23 bytes
+    && enteredAs 2 (replicate 23 7) (sumEntry binary64 (rounded 0) 0 [] (replicate 23 7))
+    -- 3: E 11, W 12
+    && refusedAs 3 0 (sumAnswer (record { kind = 0; E = 11; W = 12 }) (rounded 0) 0 [])
+    -- 4: rounding 8; a summand above 2
+    && refusedAs 4 0 (sumAnswer binary64 (rounded 8) 0 [])
+    && refusedAs 4 0 (sumAnswer binary64 (rounded 0) 3 [])
+    -- 5: 2 and 3 values
+    && refusedAs 5 0 (dotAnswer binary64 (rounded 0) (0 ∷ 0 ∷ []) (0 ∷ 0 ∷ 0 ∷ []))
+    -- 7: W 16, value 10000 hex
+    && refusedAs 7 1 (sumAnswer binary16 (rounded 0) 0 (0 ∷ 0x10000 ∷ []))
+    && refusedAs 7 0 (dotAnswer binary16 (rounded 0) (0 ∷ 0 ∷ []) (0x10000 ∷ 0 ∷ []))
+    && enteredAs (7 + 256) (replicate 24 7) (sumEntry binary16 (rounded 0) 0 (replicate 10 0 ++ (1 ∷ replicate 5 0)) (replicate 24 7))
+    -- two at once: the smaller number
+    && enteredAs 1 (replicate 23 7) (sumEntry binary64 (rounded 0) 0 (replicate 7 0) (replicate 23 7))
+    && enteredAs 2 (replicate 23 7) (sumEntry binary64 (rounded 8) 0 [] (replicate 23 7))
+    && refusedAs 3 0 (sumAnswer (record { kind = 4; E = 5; W = 16 }) (rounded 8) 0 (0x10000 ∷ []))
+    && refusedAs 4 0 (dotAnswer binary16 (rounded 8) (0x10000 ∷ []) [])
+    && refusedAs 5 0 (dotAnswer binary16 (rounded 0) (0x10000 ∷ []) [])
+
+-- ---- an accepted byte entry: 1 and 2^−53 (C6), and two bytes behind the 24
+
+unfoldable pub entryExample : Bool
+entryExample =
+    enteredAs 0
+    (0 ∷ 0 ∷ 0 ∷ 0 ∷ 0 ∷ 0 ∷ 0xf0 ∷ 0x3f ∷ 0x10 ∷ 0 ∷ 0 ∷ 0 ∷ 0 ∷ 0 ∷ 0 ∷ 0 ∷ 1 ∷ 0 ∷ 0 ∷ 0 ∷ 0 ∷ 0 ∷ 0 ∷ 0 ∷ 7 ∷ 7 ∷ [])
+    (sumEntry binary64 (rounded 0) 0 (0 ∷ 0 ∷ 0 ∷ 0 ∷ 0 ∷ 0 ∷ 0xf0 ∷ 0x3f ∷ 0 ∷ 0 ∷ 0 ∷ 0 ∷ 0 ∷ 0 ∷ 0xa0 ∷ 0x3c ∷ []) (replicate 26 7))
+
+-- ---- pence: 0.125 is 13, −0.125 is −13; refusal 8: an infinity
+
+abbrev pub penceIs : ℤ → ℕ → Pence → Bool
+penceIs x n p = sameInt (p .figure) x && eqb (p .refusal) n && eqb (p .place) 0
+
+unfoldable pub penceExamples : Bool
+penceExamples =
+    penceIs (pos 13) 0 (penceAnswer binary64 0x3fc0000000000000)
+    && penceIs (negsuc 12) 0 (penceAnswer binary64 0xbfc0000000000000)
+    && penceIs (pos 0) 8 (penceAnswer binary64 0x7ff0000000000000)
+
+-- ---- the program: what it reads and what it prints, as bytes. A hex digit d is the byte 48 + d, or 87 + d from a on; 10 ends a line
+
+pub record Run : Type 0 where
+  pub input : List ℕ
+  pub output : List ℕ
+
+-- `refused line 1`, `refused line 2`
+unfoldable pub refusedLine : ℕ → List ℕ
+refusedLine n = 114 ∷ 101 ∷ 102 ∷ 117 ∷ 115 ∷ 101 ∷ 100 ∷ 32 ∷ 108 ∷ 105 ∷ 110 ∷ 101 ∷ 32 ∷ (48 + n) ∷ 10 ∷ []
+
+-- the 16 digits `3ff0000000000000`, and with a last digit of its own byte
+unfoldable pub oneWith : ℕ → List ℕ
+oneWith b = 51 ∷ 102 ∷ 102 ∷ 48 ∷ 48 ∷ 48 ∷ 48 ∷ 48 ∷ 48 ∷ 48 ∷ 48 ∷ 48 ∷ 48 ∷ 48 ∷ 48 ∷ b ∷ []
+
+unfoldable pub programRuns : List Run
+programRuns =
+    -- document 01's example: `3ff0000000000000`, `3fd0000000000000` prints `3ff4000000000000`, `00`, `1`, `125`
+    record {
+      input = oneWith 48 ++ (10 ∷ 51 ∷ 102 ∷ 100 ∷ 48 ∷ 48 ∷ 48 ∷ 48 ∷ 48 ∷ 48 ∷ 48 ∷ 48 ∷ 48 ∷ 48 ∷ 48 ∷ 48 ∷ 48 ∷ 10 ∷ []);
+      output = 51 ∷ 102 ∷ 102 ∷ 52 ∷ 48 ∷ 48 ∷ 48 ∷ 48 ∷ 48 ∷ 48 ∷ 48 ∷ 48 ∷ 48 ∷ 48 ∷ 48 ∷ 48 ∷ 10 ∷ 48 ∷ 48 ∷ 10 ∷ 49 ∷ 10 ∷ 49 ∷ 50 ∷ 53 ∷ 10 ∷ [];
+    }
+    -- the last line end is optional: 1.0 prints `3ff0000000000000`, `00`, `1`, `100`
+    ∷ record { input = oneWith 48; output = oneWith 48 ++ (10 ∷ 48 ∷ 48 ∷ 10 ∷ 49 ∷ 10 ∷ 49 ∷ 48 ∷ 48 ∷ 10 ∷ []) }
+    -- nothing is the empty list: +0, no flags, no passes, 0 pence
+    ∷ record { input = []; output = replicate 16 48 ++ (10 ∷ 48 ∷ 48 ∷ 10 ∷ 48 ∷ 10 ∷ 48 ∷ 10 ∷ []) }
+    -- ∞ has no pence: `7ff0000000000000` prints itself, `00`, `0`, `none`
+    ∷ record {
+      input = 55 ∷ 102 ∷ 102 ∷ replicate 13 48;
+      output = 55 ∷ 102 ∷ 102 ∷ replicate 13 48 ++ (10 ∷ 48 ∷ 48 ∷ 10 ∷ 48 ∷ 10 ∷ 110 ∷ 111 ∷ 110 ∷ 101 ∷ 10 ∷ []);
+    }
+    -- a line of 17 digits
+    ∷ record { input = 51 ∷ oneWith 48; output = refusedLine 1 }
+    -- an empty line is bad; so is a capital digit, and a line of 15 digits
+    ∷ record { input = 10 ∷ []; output = refusedLine 1 }
+    ∷ record { input = oneWith 48 ++ (10 ∷ 10 ∷ []); output = refusedLine 2 }
+    ∷ record { input = oneWith 65; output = refusedLine 1 }
+    ∷ record { input = oneWith 10 ++ (10 ∷ []); output = refusedLine 1 }
+    ∷ []
+
+unfoldable pub programAgrees : List Run → Bool
+programAgrees [] = true
+programAgrees (r ∷ rs) = sameList (programText (r .input)) (r .output) && programAgrees rs
+
+-- ==== THE THEOREMS: each test computes to true. The lines under `unfolding` name every definition that takes part
+
+pub careers-agree : T (allAgree careers)
+unfolding
+    binary64 rounded careers allAgree
+    difference validFormat bias exponentRange depth origin grid validSettings precisionOf
+    decode isSubnormal operand single product item pairItem plusSum minusSum topOf
+    lostEnd lookAt half wrapped decide sumOf pass run chain size span climb
+    dropped roundedAt overflows largest overflow numberOf finished tinySum roundTo round encode defaultNanOf selectAll
+    special sumRounded reported finiteTotal withoutNan accepted sumRefusal sumAccepted sumAnswer
+careers-agree = tt
+
+pub margins-agree : T (allAgree margins)
+unfolding
+    binary64 rounded margins allAgree
+    difference validFormat bias exponentRange depth origin grid validSettings precisionOf
+    decode isSubnormal operand single product item pairItem plusSum minusSum topOf
+    lostEnd lookAt half wrapped decide sumOf pass run chain size span climb
+    dropped roundedAt overflows largest overflow numberOf finished tinySum roundTo round encode defaultNanOf selectAll
+    special sumRounded reported finiteTotal withoutNan accepted sumRefusal sumAccepted sumAnswer
+margins-agree = tt
+
+pub refusals-agree : T refusals
+unfolding
+    refusals binary64 binary16 rounded validFormat validSettings sumRefusal sumAnswer dotRefusal dotAnswer dotPlace valuesIn entered sumEntry
+refusals-agree = tt
+
+pub entry-agrees : T entryExample
+unfolding
+    entryExample valuesIn written entered sumEntry binary64 rounded
+    difference validFormat bias exponentRange depth origin grid validSettings precisionOf
+    decode isSubnormal operand single product item pairItem plusSum minusSum topOf
+    lostEnd lookAt half wrapped decide sumOf pass run chain size span climb
+    dropped roundedAt overflows largest overflow numberOf finished tinySum roundTo round encode defaultNanOf selectAll
+    special sumRounded reported finiteTotal withoutNan accepted sumRefusal sumAccepted sumAnswer
+entry-agrees = tt
+
+pub pence-agree : T penceExamples
+unfolding penceExamples penceAnswer penceOf validFormat depth bias decode binary64
+pence-agree = tt
+
+pub program-agrees : T (programAgrees programRuns)
+unfolding
+    programAgrees programRuns refusedLine oneWith programText readFrom hexText decimalFrom answerText penceAnswer penceOf
+    difference validFormat bias exponentRange depth origin grid validSettings precisionOf
+    decode isSubnormal operand single product item pairItem plusSum minusSum topOf
+    lostEnd lookAt half wrapped decide sumOf pass run chain size span climb
+    dropped roundedAt overflows largest overflow numberOf finished tinySum roundTo round encode defaultNanOf selectAll
+    special sumRounded reported finiteTotal withoutNan accepted sumRefusal sumAccepted sumAnswer
+program-agrees = tt

@@ -1,0 +1,196 @@
+-- THE PROMISES, as statements about the definitions. The file of the same name in `proofs/` proves each, under the same name in small letters.
+-- The contracts of the code say that its answers are what the definitions give.
+use mathlib.Core.Path.{_≡_}
+use mathlib.Core.Logic.{_≢_}
+use mathlib.Core.Bool.{Bool, true, false, _||_}
+use mathlib.Core.List.{List, [], _∷_}
+use Prim.Native.Nat.{ℕ, _+_, _-_, _*_, _/_, _%_, _^_, _≤_, _<_, max}
+use lib.ListN.{length, replicate, take, drop}
+use lib.Dec.{T, eqb}
+use Rattle.totals_spec.specs.Basics.{any}
+use Rattle.totals_spec.specs.Format.{Format, validFormat, digits, grid}
+use Rattle.totals_spec.specs.Settings.{Settings, summandOf}
+use Rattle.totals_spec.specs.Decode.{Unpacked, zeroOf, finite, infinity, nan, decode, isSubnormal}
+use Rattle.totals_spec.specs.Terms.{Term, exactSum, topOf}
+use Rattle.totals_spec.specs.Chain.{Outcome, zeroSum, exactly, nearly, beside, unfinished, lookAt, chain}
+use Rattle.totals_spec.specs.Totals.{Answer, refused, sumRounded, reported, towardsNegative, finiteTotal, isSquare, sumRefusal, sumTerms, sumAnswer, dotRefusal, pairs, dotTerms, dotAnswer}
+use Rattle.totals_spec.specs.Bytes.{valuesIn, written, uneven, short, sumEntry, dotEntry}
+use Rattle.totals_spec.specs.Rearranged.{AsOften, samePair, holdsNan}
+use Rattle.totals_spec.specs.Limit.{lowBit, bottomOf, mostPasses}
+use Rattle.totals_spec.specs.Settled.{settled, chainTotal}
+use Rattle.totals_spec.specs.Places.{StrayAt, DotStrayAt}
+use Rattle.totals_spec.specs.Careers.{binary64, rounded, careers, margins, allAgree, refusals, entryExample, penceExamples, programRuns, programAgrees}
+
+-- ==== the document's examples
+
+-- C1 to C12
+abbrev pub Careers-agree : Type 0
+Careers-agree = T (allAgree careers)
+
+-- rows at the margins of the passes' rules
+abbrev pub Margins-agree : Type 0
+Margins-agree = T (allAgree margins)
+
+-- the examples of the refusals, of a byte entry, of pence and of the program
+abbrev pub Examples-agree : Type 0
+Examples-agree = T refusals × T entryExample × T penceExamples × T (programAgrees programRuns)
+
+-- "1,048,576 zeros are accepted", and one more gets 6
+abbrev pub Zeros-accepted : Type 0
+Zeros-accepted = (n : ℕ) → n ≤ 1048576 → (sumAnswer binary64 (rounded 0) 0 (replicate n 0)) .refusal ≡ 0
+
+abbrev pub Zeros-refused : Type 0
+Zeros-refused = (n : ℕ) → 1048576 < n → sumAnswer binary64 (rounded 0) 0 (replicate n 0) ≡ refused 6 0
+
+-- ==== PROMISE 1: refusals
+
+-- the number in the record is that of the first condition that holds, 0 where none does
+abbrev pub Sum-refusal : Type 0
+Sum-refusal = (f : Format) (c : Settings) (u : ℕ) (l : List ℕ) → (sumAnswer f c u l) .refusal ≡ sumRefusal f c u l
+
+abbrev pub Dot-refusal : Type 0
+Dot-refusal = (f : Format) (c : Settings) (xs ys : List ℕ) → (dotAnswer f c xs ys) .refusal ≡ dotRefusal f c xs ys
+
+-- a refused record is 0 but for number and place
+abbrev pub Sum-refused : Type 0
+Sum-refused = (f : Format) (c : Settings) (u : ℕ) (l : List ℕ) → sumRefusal f c u l ≢ 0
+    → sumAnswer f c u l ≡ refused (sumRefusal f c u l) ((sumAnswer f c u l) .place)
+
+abbrev pub Dot-refused : Type 0
+Dot-refused = (f : Format) (c : Settings) (xs ys : List ℕ) → dotRefusal f c xs ys ≢ 0
+    → dotAnswer f c xs ys ≡ refused (dotRefusal f c xs ys) ((dotAnswer f c xs ys) .place)
+
+-- the place is 0 but for number 7, and there that of an element with a stray bit
+abbrev pub Sum-place : Type 0
+Sum-place = (f : Format) (c : Settings) (u : ℕ) (l : List ℕ)
+    → (sumRefusal f c u l ≢ 7 → (sumAnswer f c u l) .place ≡ 0) × (sumRefusal f c u l ≡ 7 → StrayAt f l ((sumAnswer f c u l) .place))
+
+abbrev pub Dot-place : Type 0
+Dot-place = (f : Format) (c : Settings) (xs ys : List ℕ)
+    → (dotRefusal f c xs ys ≢ 7 → (dotAnswer f c xs ys) .place ≡ 0) × (dotRefusal f c xs ys ≡ 7 → DotStrayAt f xs ys ((dotAnswer f c xs ys) .place))
+
+-- a refused byte entry writes nothing
+abbrev pub Sum-entry-refused : Type 0
+Sum-entry-refused = (f : Format) (c : Settings) (u : ℕ) (bytes old : List ℕ) → (sumEntry f c u bytes old) .code ≢ 0
+    → (sumEntry f c u bytes old) .buffer ≡ old
+
+abbrev pub Dot-entry-refused : Type 0
+Dot-entry-refused = (f : Format) (c : Settings) (left right old : List ℕ) → (dotEntry f c left right old) .code ≢ 0
+    → (dotEntry f c left right old) .buffer ≡ old
+
+-- ==== PROMISE 2: the exact sum, rounded once
+
+-- neither a NaN nor an infinity
+abbrev pub isNumber : Unpacked → Bool
+isNumber (zeroOf s) = true
+isNumber (finite s k m) = true
+isNumber (infinity s) = false
+isNumber (nan s g m) = false
+
+-- every value is finite
+abbrev pub AllFinite : Format → List ℕ → Type 0
+AllFinite f [] = Unit {0}
+AllFinite f (b ∷ l) = T (isNumber (decode f b)) × AllFinite f l
+
+-- of finite values with a non-zero term the result and the flags are those of the exact sum rounded once, the passes those of the chain
+abbrev pub Sum-exact : Type 0
+Sum-exact = (f : Format) (c : Settings) (u : ℕ) (l : List ℕ) → sumRefusal f c u l ≡ 0 → AllFinite f l
+    → 0 < length (sumTerms f c (summandOf u) l)
+    → sumAnswer f c u l
+    ≡ reported f (any (isSubnormal f) l) (isSquare (summandOf u))
+    (sumRounded f c (grid f (isSquare (summandOf u))) (towardsNegative c) (exactSum (sumTerms f c (summandOf u) l)))
+    (chain (digits f) (sumTerms f c (summandOf u) l))
+
+abbrev pub Dot-exact : Type 0
+Dot-exact = (f : Format) (c : Settings) (xs ys : List ℕ) → dotRefusal f c xs ys ≡ 0 → AllFinite f xs → AllFinite f ys
+    → 0 < length (dotTerms f c xs ys)
+    → dotAnswer f c xs ys
+    ≡ reported f (any (isSubnormal f) xs || any (isSubnormal f) ys) true
+    (sumRounded f c (grid f true) (towardsNegative c) (exactSum (dotTerms f c xs ys)))
+    (chain (digits f) (dotTerms f c xs ys))
+
+-- what a chain ends with, rounded once, is the exact sum rounded once: near a tie too, for every format, setting and precision. (For every place
+-- of the grid: `products` and the sign of a zero do not matter)
+abbrev pub Sum-by-chain : Type 0
+Sum-by-chain = (f : Format) (c : Settings) (u : ℕ) (l : List ℕ) (sub products minus : Bool) → sumRefusal f c u l ≡ 0
+    → chainTotal f c sub products minus (sumTerms f c (summandOf u) l) ≡ finiteTotal f c sub products minus (sumTerms f c (summandOf u) l)
+
+abbrev pub Dot-by-chain : Type 0
+Dot-by-chain = (f : Format) (c : Settings) (xs ys : List ℕ) (sub products minus : Bool) → dotRefusal f c xs ys ≡ 0
+    → chainTotal f c sub products minus (dotTerms f c xs ys) ≡ finiteTotal f c sub products minus (dotTerms f c xs ys)
+
+-- ==== PROMISE 3: the order
+
+-- a rearrangement of an accepted list without a NaN is accepted, and has the same record
+abbrev pub Sum-order : Type 0
+Sum-order = (f : Format) (c : Settings) (u : ℕ) (l₁ l₂ : List ℕ) → AsOften eqb l₁ l₂ → sumRefusal f c u l₁ ≡ 0 → holdsNan f l₁ ≡ false
+    → (sumRefusal f c u l₂ ≡ 0) × (sumAnswer f c u l₁ ≡ sumAnswer f c u l₂)
+
+-- its pairs, of two lists of one length, move together
+abbrev pub Dot-order : Type 0
+Dot-order = (f : Format) (c : Settings) (xs ys xs′ ys′ : List ℕ) → length xs′ ≡ length ys′ → AsOften samePair (pairs xs ys) (pairs xs′ ys′)
+    → dotRefusal f c xs ys ≡ 0 → holdsNan f xs ≡ false → holdsNan f ys ≡ false
+    → (dotRefusal f c xs′ ys′ ≡ 0) × (dotAnswer f c xs ys ≡ dotAnswer f c xs′ ys′)
+
+-- through a byte entry the list is the values in its bytes: the number returned and the buffer are alike
+abbrev pub Sum-entry-order : Type 0
+Sum-entry-order = (f : Format) (c : Settings) (u : ℕ) (b₁ b₂ old : List ℕ) → uneven b₁ ≡ false → uneven b₂ ≡ false
+    → AsOften eqb (valuesIn b₁) (valuesIn b₂) → sumRefusal f c u (valuesIn b₁) ≡ 0 → holdsNan f (valuesIn b₁) ≡ false
+    → sumEntry f c u b₁ old ≡ sumEntry f c u b₂ old
+
+abbrev pub Dot-entry-order : Type 0
+Dot-entry-order = (f : Format) (c : Settings) (x y x′ y′ old : List ℕ) → (uneven x || uneven y) ≡ false → (uneven x′ || uneven y′) ≡ false
+    → length (valuesIn x′) ≡ length (valuesIn y′) → AsOften samePair (pairs (valuesIn x) (valuesIn y)) (pairs (valuesIn x′) (valuesIn y′))
+    → dotRefusal f c (valuesIn x) (valuesIn y) ≡ 0 → holdsNan f (valuesIn x) ≡ false → holdsNan f (valuesIn y) ≡ false
+    → dotEntry f c x y old ≡ dotEntry f c x′ y′ old
+
+-- ==== PROMISE 3: the limit on the passes
+
+-- of every call, refused ones too; where there is no term no pass is run
+abbrev pub Sum-limit : Type 0
+Sum-limit = (f : Format) (c : Settings) (u : ℕ) (l : List ℕ) → (sumAnswer f c u l) .passes ≤ mostPasses f (sumTerms f c (summandOf u) l)
+
+abbrev pub Dot-limit : Type 0
+Dot-limit = (f : Format) (c : Settings) (xs ys : List ℕ) → (dotAnswer f c xs ys) .passes ≤ mostPasses f (dotTerms f c xs ys)
+
+-- binary64: at most 4 passes in a sum or magnitude sum, at most 7 in a square sum or dot
+abbrev pub Binary64-sum-limit : Type 0
+Binary64-sum-limit = (c : Settings) (u : ℕ) (l : List ℕ) → u ≤ 1 → (sumAnswer binary64 c u l) .passes ≤ 4
+
+abbrev pub Binary64-square-limit : Type 0
+Binary64-square-limit = (c : Settings) (u : ℕ) (l : List ℕ) → (sumAnswer binary64 c u l) .passes ≤ 7
+
+abbrev pub Binary64-dot-limit : Type 0
+Binary64-dot-limit = (c : Settings) (xs ys : List ℕ) → (dotAnswer binary64 c xs ys) .passes ≤ 7
+
+-- ==== the definitions mean what they say
+
+-- a chain ends by its own rule: the number of passes that `chain` allows is never used up
+abbrev pub Finished : Outcome → Type 0
+Finished zeroSum = Unit {0}
+Finished (exactly s m w) = Unit {0}
+Finished (nearly s m w) = Unit {0}
+Finished (beside x s m w) = Unit {0}
+Finished unfinished = ⊥
+
+abbrev pub Sum-ends : Type 0
+Sum-ends = (f : Format) (c : Settings) (u : ℕ) (l : List ℕ) → T (validFormat f) → Finished (chain (digits f) (sumTerms f c (summandOf u) l) .outcome)
+
+abbrev pub Dot-ends : Type 0
+Dot-ends = (f : Format) (c : Settings) (xs ys : List ℕ) → T (validFormat f) → Finished (chain (digits f) (dotTerms f c xs ys) .outcome)
+
+-- no edge lies below the unit from which positions are counted, so each `-` in an edge's definition is a true difference: in T − 702, and after a
+-- pass that has lost something in w − 701, and in 766 below the larger of w + n and the lost bit plus 65
+abbrev pub EdgesTrue : List Term → Type 0
+EdgesTrue ts = (0 < length ts → 702 ≤ topOf ts)
+    × ((w n : ℕ) → 0 < lookAt ts w .lost → (701 ≤ w) × (766 ≤ max (w + n) (lookAt ts w .lost + 64)))
+
+abbrev pub Sum-edges : Type 0
+Sum-edges = (f : Format) (c : Settings) (u : ℕ) (l : List ℕ) → EdgesTrue (sumTerms f c (summandOf u) l)
+
+abbrev pub Dot-edges : Type 0
+Dot-edges = (f : Format) (c : Settings) (xs ys : List ℕ) → EdgesTrue (dotTerms f c xs ys)
+
+-- `lowBit` is the lowest set bit: the bits below it are 0, and it is 1
+abbrev pub Low-bit : Type 0
+Low-bit = (m : ℕ) → 0 < m → (m % 2 ^ lowBit m ≡ 0) × (m / 2 ^ lowBit m % 2 ≡ 1)
