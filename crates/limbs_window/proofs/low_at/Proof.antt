@@ -1,0 +1,38 @@
+-- `limbs_window::low_at` meets its contract.
+-- Assumes nothing.
+use mathlib.Core.Path.{ap₂, _∙_}
+use Prim.Native.Nat.{ℕ, _%_, _^_}
+use borrow.Author.Needs.{needs}
+use Rattle.limbs.specs.Value.{value}
+use Rattle.limbs.proofs.Words.{words}
+use Rattle.limbs.proofs.Digits.{word-digit, low-digit}
+use Rattle.limbs_window.proofs.low_at.Statement.{statement}
+use Rattle.limbs_window.proofs.low_at.Tie as tie
+
+mul-low-bits : tie.Need-mul-low-bits
+mul-low-bits c = search needs
+
+array-read-low-bits : tie.Need-array-read-low-bits
+array-read-low-bits c = search needs
+
+mul-minus : tie.Need-mul-minus
+mul-minus c = search needs
+
+minus-requires : tie.Need-minus-requires
+minus-requires c κs = search needs
+
+low-bits-requires : tie.Need-low-bits-requires
+low-bits-requires c κs = search needs
+
+returns : tie.Need-returns
+returns c =
+    let s = c .before .before in
+    let a = s .args .t1 in
+    c .low-bits .ensures
+    ∙ ap₂ (λ (x y : ℕ). x % 2 ^ y) (word-digit a (words 12 a _ (s .good .0) .fit) (s .args .i)) (c .before .minus .ensures)
+    ∙ low-digit (value a) (s .args .i) (s .args .count)
+
+pub low-at-spec : {M : Type 1} → statement M
+low-at-spec =
+    tie.close
+    (tie.spec mul-low-bits array-read-low-bits mul-minus minus-requires low-bits-requires returns)

@@ -1,0 +1,59 @@
+-- `limbs_window::low_bits` meets its contract. The loop fills the result with the number's digits.
+-- Assumes nothing.
+use mathlib.Core.Path.{_∙_}
+use Prim.Native.Nat.{_-_, _%_, _^_}
+use borrow.Author.Needs.{needs}
+use Rattle.limbs.specs.Value.{value}
+use native.Mathlib.Nat.{mod-eq-of-lt, lt-of-le-of-lt, mod-le}
+use Rattle.limbs.proofs.Words.{words, zeros, value-lt}
+use Rattle.limbs.proofs.Digits.{Filled, fill-none, fill-next, fill-done}
+use Rattle.limbs_window.proofs.low_bits.Statement.{statement}
+use Rattle.limbs_window.proofs.low_bits.Tie as tie
+
+abbrev Inv-loop : tie.InvT-loop
+Inv-loop a count r₀ i₀ r i = Filled 12 r i (value a % 2 ^ count)
+
+abbrev μ-loop : tie.MeasureT-loop
+μ-loop a count r₀ i₀ r i = 12 - i
+
+loop-holds : tie.Need-loop-holds Inv-loop μ-loop
+loop-holds c = fill-none _ (zeros 12)
+
+low-at-requires : tie.Need-low-at-requires Inv-loop μ-loop
+low-at-requires c κs = search needs
+
+mul-r : tie.Need-mul-r Inv-loop μ-loop
+mul-r c = search needs
+
+array-write-r : tie.Need-array-write-r Inv-loop μ-loop
+array-write-r c = search needs
+
+add-i : tie.Need-add-i Inv-loop μ-loop
+add-i c = search needs
+
+loop-less : tie.Need-loop-less Inv-loop μ-loop
+loop-less c = search needs
+
+loop-again : tie.Need-loop-again Inv-loop μ-loop
+loop-again c = fill-next (c .before .before .loop .inv) (c .before .loop-test .taken) (c .low-at .ensures)
+
+returns : tie.Need-returns Inv-loop μ-loop
+returns c =
+    let s = c .before .before in
+    fill-done (c .before .loop .inv) (c .loop-test .left)
+    ∙ mod-eq-of-lt (lt-of-le-of-lt (mod-le (value (s .args .a)) (2 ^ s .args .count)) (value-lt (words 12 (s .args .a) _ (s .good .0))))
+
+pub low-bits-spec : {M : Type 1} → statement M
+low-bits-spec =
+    tie.close
+    (tie.spec
+    Inv-loop
+    μ-loop
+    loop-holds
+    low-at-requires
+    mul-r
+    array-write-r
+    add-i
+    loop-less
+    loop-again
+    returns)

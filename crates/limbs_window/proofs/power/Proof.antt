@@ -1,0 +1,19 @@
+-- `limbs_window::power` meets its contract.
+-- Assumes nothing.
+use mathlib.Core.Path.{ap, _∙_}
+use Prim.Native.Nat.{ℕ, _%_, _^_}
+use borrow.Author.Needs.{needs}
+use Rattle.limbs.specs.Value.{value}
+use native.Mathlib.Nat.{one-mul}
+use Rattle.limbs_window.proofs.power.Statement.{statement}
+use Rattle.limbs_window.proofs.power.Tie as tie
+
+shl-requires : tie.Need-shl-requires
+shl-requires c κs = search needs
+
+returns : tie.Need-returns
+unfolding value
+returns c = c .shl .ensures ∙ ap (λ (x : ℕ). x % 2 ^ 768) (one-mul _)
+
+pub power-spec : {M : Type 1} → statement M
+power-spec = tie.close (tie.spec shl-requires returns)
