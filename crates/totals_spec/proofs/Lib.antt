@@ -38,4 +38,5 @@ pub mod Window
 pub mod Walk
 pub mod Values
 pub mod Reached
+pub mod Kept
 pub mod Skip

@@ -1,15 +1,16 @@
 -- Promise 3, the limit: a chain takes at most 1 + ⌈(T − 702 − B) / (697 − p)⌉ passes, and 1 where T − 702 − B is negative. Each pass that goes on
 -- lowers the edge by at least 697 − p, and a pass whose edge is at B or below is exact. So the fuel of `chain` is always enough.
-use mathlib.Core.Path.{_≡_, refl, sym, ap₂, _∙_}
-use mathlib.Core.Bool.{Bool, true, false, not, _&&_, cond}
+use mathlib.Core.Path.{_≡_, refl, sym, ap, ap₂, _∙_}
+use mathlib.Core.Bool.{Bool, true, false, not, _&&_, cond, true≢false}
 use mathlib.Core.List.{List, [], _∷_}
 use Prim.Native.Nat.{ℕ, zero, suc, _+_, _-_, _*_, _/_, _%_, _^_, _≤_, _<_, max, min, suc-le-suc}
-use native.Mathlib.Nat.{le-refl, not-le-of-lt, lt-div-mul-add, max-le, suc-mul, mul-one, mul-le-mul-left, max-zero, not-suc-le-zero, le-of-suc-le-suc, lt-of-not-le}
+use native.Mathlib.Nat.{le-refl, lt-of-lt-of-le, not-le-of-lt, lt-div-mul-add, max-le, suc-mul, mul-one, mul-le-mul-left, max-zero, not-suc-le-zero, le-of-suc-le-suc, lt-of-not-le}
 use native.Mathlib.Numerals.{one-add}
 use native.Mathlib.Omega.{arith}
 use lib.Dec.{T, leb, ltb, eqb, ltb→lt, nleb→lt}
 use lib.Ieee.{size}
-use lib.Ieee.Digits.{size-le}
+use lib.Ieee.Digits.{size-le, size-lt}
+use lib.Pow.{pow-mono}
 use Rattle.totals_spec.specs.Basics.{Signed, greatest, least}
 use Rattle.totals_spec.proofs.Bits.{low-divides, multiple-mod, multiple-ge, ltb-false}
 use Rattle.totals_spec.specs.Limit.{lowBit}
@@ -56,6 +57,29 @@ losses-room : (w : ℕ) (ts : List Term) → AllGood ts → w ≤ room → great
 losses-room w [] g h = refl
 losses-room w (t ∷ ts) g h =
     ap₂ max (lost-none w (t .mag) (g .0 .units) room (g .0 .whole) h (g .0 .positive)) (losses-room w ts (g .1) h) ∙ max-zero 0
+
+-- a lost bit lies above `room`
+deep-max : (a b : ℕ) → (0 < a → room < a) → (0 < b → room < b) → 0 < max a b → room < max a b
+deep-max zero zero f g h = absurd (let z : ⊥ = omega arith in z)
+deep-max zero (suc b) f g h = omega (arith, g (omega arith))
+deep-max (suc a) b f g h = omega (arith, f (omega arith))
+
+lost-deep-one : (w m q : ℕ) → m ≡ q * 2 ^ room → 0 < m → 0 < lostEnd w m → room < lostEnd w m
+unfolding lostEnd
+lost-deep-one w m q e k h = go (ltb m (2 ^ w)) (eqb (m % 2 ^ w) 0) refl h
+  where
+    go : (b z : Bool) → eqb (m % 2 ^ w) 0 ≡ z → 0 < cond b (size m) (cond z 0 w) → room < cond b (size m) (cond z 0 w)
+    go true z f h = lt-of-not-le (λ (g : size m ≤ room). not-le-of-lt (lt-of-lt-of-le (size-lt m) (pow-mono g)) (multiple-ge m q room room e (le-refl room) k))
+    go false true f h = absurd (not-suc-le-zero h)
+    go false false f h = lt-of-not-le (λ (g : w ≤ room). true≢false (sym (ap (λ (x : ℕ). eqb x 0) (multiple-mod m q room w e g)) ∙ f))
+
+losses-deep : (w : ℕ) (ts : List Term) → AllGood ts → 0 < greatest (lostOf w) ts → room < greatest (lostOf w) ts
+losses-deep w [] g h = absurd (not-suc-le-zero h)
+losses-deep w (t ∷ ts) g h = deep-max (lostOf w t) (greatest (lostOf w) ts) (lost-deep-one w (t .mag) (g .0 .units) (g .0 .whole) (g .0 .positive)) (losses-deep w ts (g .1)) h
+
+pub lost-deep : (ts : List Term) (w : ℕ) → AllGood ts → 0 < lookAt ts w .lost → room < lookAt ts w .lost
+unfolding lookAt
+lost-deep ts w g h = losses-deep w ts g h
 
 -- ---- a pass that goes on has lost something, and lowers the edge by 697 − p at least
 
