@@ -15,7 +15,6 @@ use Rattle.totals_spec.specs.Basics.{Signed}
 use Rattle.totals_spec.specs.Format.{room}
 use Rattle.totals_spec.specs.Terms.{Term, topOf}
 use Rattle.totals_spec.specs.Chain.{Look, lookAt, half, residue, signedOf, wrapped, Boundary, noBoundary, boundary, Outcome, zeroSum, exactly, nearly, beside, unfinished, sideOf, Step, done, next, nextEdge, finalOrBoundary, decide, sumOf, pass}
-use Rattle.totals_spec.specs.Settled.{EndsAs}
 use Rattle.totals_spec.proofs.Good.{AllGood}
 use Rattle.totals_spec.proofs.Limit.{fair-look, lost-deep}
 use Rattle.totals_spec.proofs.Edges.{top-deep}
@@ -29,6 +28,15 @@ pub record Kept (p top : ℕ) (b : Boundary) (w : ℕ) : Type 0 where
   pub low : 322 ≤ w
   pub high : w ≤ top
   pub bound : KeptBoundary p top b
+
+-- What is known of the numbers that a chain ends with, for terms with T = `top`: S or the boundary has the digits that a rounding to p digits asks
+-- for, and lies well above the unit
+abbrev pub EndsAs : ℕ → ℕ → Outcome → Type 0
+EndsAs p top zeroSum = Unit {0}
+EndsAs p top (exactly s m w) = (0 < m) × (322 ≤ w) × (w ≤ top)
+EndsAs p top (nearly s m w) = (2 ^ (p + 69) ≤ m) × (322 ≤ w) × (w ≤ top)
+EndsAs p top (beside x s m e) = (2 ^ p ≤ m) × (m ≤ 2 ^ suc p) × (322 ≤ e) × (e ≤ top + 768)
+EndsAs p top unfinished = ⊥
 
 abbrev pub KeptStep : ℕ → ℕ → Step → Type 0
 KeptStep p top (done o) = EndsAs p top o

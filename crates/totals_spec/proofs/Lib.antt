@@ -37,6 +37,7 @@ pub mod Vanish
 pub mod Window
 pub mod Walk
 pub mod Values
+pub mod Accepts
 pub mod Reached
 pub mod Kept
 pub mod Skip

@@ -117,11 +117,11 @@ pairOf-nan (infinity s) (zeroOf t) = refl
 pairOf-nan (infinity s) (finite t j n) = refl
 pairOf-nan (infinity s) (infinity t) = refl
 
-item-nan : (f : Format) (c : Settings) (u : Summand) (b : ℕ) → isNanItem (item f c u b) ≡ isNan (decode f b)
+pub item-nan : (f : Format) (c : Settings) (u : Summand) (b : ℕ) → isNanItem (item f c u b) ≡ isNan (decode f b)
 unfolding item
 item-nan f c u b = itemOf-nan u (operand f c b) ∙ operand-isNan f c b
 
-pair-nan : (f : Format) (c : Settings) (x : ℕ × ℕ) → isNanItem (pairItem f c x) ≡ (isNan (decode f (x .0)) || isNan (decode f (x .1)))
+pub pair-nan : (f : Format) (c : Settings) (x : ℕ × ℕ) → isNanItem (pairItem f c x) ≡ (isNan (decode f (x .0)) || isNan (decode f (x .1)))
 unfolding pairItem
 pair-nan f c x = pairOf-nan (operand f c (x .0)) (operand f c (x .1)) ∙ ap₂ _||_ (operand-isNan f c (x .0)) (operand-isNan f c (x .1))
 

@@ -17,7 +17,7 @@ use Rattle.totals_spec.specs.Settings.{Settings, Rounding, roundingOf, p
 use Rattle.totals_spec.specs.Round.{belowHalf, aboveHalf, compared, dropped, roundedAt, tinySum, lastPlace, roundTo, round}
 
 -- a test against a power of two is a test of the bit length
-ltb-size : (x k : ℕ) → ltb x (2 ^ k) ≡ leb (size x) k
+pub ltb-size : (x k : ℕ) → ltb x (2 ^ k) ≡ leb (size x) k
 ltb-size x k = go (leb (size x) k) (leb→le (size x) k) (nleb→lt (size x) k)
   where
     go : (b : Bool) → (T b → size x ≤ k) → (T (not b) → k < size x) → ltb x (2 ^ k) ≡ b

@@ -39,14 +39,50 @@ digits-le f t = let b = format-bounds f t in omega (arith, b .e-ge, b .w-le)
 pub digits-ge : (f : Format) → T (validFormat f) → 2 ≤ digits f
 digits-ge f t = let b = format-bounds f t in omega (arith, b .w-ge)
 
--- q is at most p
-pub precision-le : (f : Format) (c : Settings) → T (validSettings f c) → precisionOf f c ≤ digits f
-unfolding validSettings precisionOf
-precision-le f c t = go (c .precision) (leb→le (c .precision) (digits f) (and-right others (leb (c .precision) (digits f)) t))
-  where
-    others : Bool
-    others = leb (c .rounding) 7 && leb (c .tininess) 1 && leb (c .nanPropagation) 3 && leb (c .defaultNanSign) 1 && leb (c .flushToZero) 1 && leb (c .denormalsAreZero) 1 && leb (c .saturate) 1
+pub settings-bounds : (f : Format) (c : Settings) → T (validSettings f c) → SettingsBounds f c
+unfolding validSettings
+settings-bounds f c t =
+    let r = leb (c .rounding) 7 in
+    let i = leb (c .tininess) 1 in
+    let n = leb (c .nanPropagation) 3 in
+    let d = leb (c .defaultNanSign) 1 in
+    let z = leb (c .flushToZero) 1 in
+    let s = leb (c .denormalsAreZero) 1 in
+    let o = leb (c .saturate) 1 in
+    let q = leb (c .precision) (digits f) in
+    let t6 = and-left (r && i && n && d && z && s && o) q t in
+    let t5 = and-left (r && i && n && d && z && s) o t6 in
+    let t4 = and-left (r && i && n && d && z) s t5 in
+    let t3 = and-left (r && i && n && d) z t4 in
+    let t2 = and-left (r && i && n) d t3 in
+    let t1 = and-left (r && i) n t2 in
+    record {
+      rounding-le = leb→le (c .rounding) 7 (and-left r i t1);
+      tininess-le = leb→le (c .tininess) 1 (and-right r i t1);
+      propagation-le = leb→le (c .nanPropagation) 3 (and-right (r && i) n t2);
+      sign-le = leb→le (c .defaultNanSign) 1 (and-right (r && i && n) d t3);
+      flush-le = leb→le (c .flushToZero) 1 (and-right (r && i && n && d) z t4);
+      denormals-le = leb→le (c .denormalsAreZero) 1 (and-right (r && i && n && d && z) s t5);
+      saturate-le = leb→le (c .saturate) 1 (and-right (r && i && n && d && z && s) o t6);
+      precision-le = leb→le (c .precision) (digits f) (and-right (r && i && n && d && z && s && o) q t);
+    }
 
+-- q is at most p, and at least 1
+pub precision-most : (f : Format) (c : Settings) → SettingsBounds f c → precisionOf f c ≤ digits f
+unfolding precisionOf
+precision-most f c b = go (c .precision) (b .precision-le)
+  where
     go : (q : ℕ) → q ≤ digits f → chosen q (digits f) ≤ digits f
     go zero h = le-refl (digits f)
     go (suc q) h = h
+
+pub precision-least : (f : Format) (c : Settings) → 1 ≤ digits f → 1 ≤ precisionOf f c
+unfolding precisionOf
+precision-least f c h = go (c .precision)
+  where
+    go : (q : ℕ) → 1 ≤ chosen q (digits f)
+    go zero = h
+    go (suc q) = omega arith
+
+pub precision-le : (f : Format) (c : Settings) → T (validSettings f c) → precisionOf f c ≤ digits f
+precision-le f c t = precision-most f c (settings-bounds f c t)
