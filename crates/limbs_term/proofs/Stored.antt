@@ -1,4 +1,4 @@
--- A term's words added in place to a window, and what the carry out of them says. Assumes nothing.
+-- A term's words added in place to a window, and what the carry out of them says.
 use mathlib.Core.Path.{_≡_, refl, sym, ap, _∙_}
 use mathlib.Core.Bool.{Bool, true, false}
 use mathlib.Core.List.{List}

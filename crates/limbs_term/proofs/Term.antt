@@ -1,4 +1,4 @@
--- A term's words after its shift, and their complement. Assumes nothing.
+-- A term's words after its shift, and their complement.
 use mathlib.Core.Path.{_≡_, sym, ap, _∙_}
 use Prim.Native.Nat.{ℕ, _+_, _-_, _*_, _^_, _<_}
 use native.Mathlib.Nat.{add-mul, mul-assoc, add-comm}

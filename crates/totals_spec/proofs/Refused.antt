@@ -1,11 +1,12 @@
 -- PROMISE 1: the refusal number, the record of a refused call, the place of number 7, and the buffer of a refused byte entry.
+use borrow.Author.Tests.{not-false, eq-eqb}
 use mathlib.Core.Path.{_≡_, refl, sym, ap, _∙_, subst}
 use mathlib.Core.Logic.{_≢_}
 use mathlib.Core.Bool.{Bool, true, false, not, _&&_, _||_, cond}
 use mathlib.Core.List.{List, map}
-use Prim.Native.Nat.{ℕ, _+_, _*_}
+use Prim.Native.Nat.{ℕ, _+_, _*_, _<_, _≤_}
 use native.Mathlib.Omega.{arith}
-use lib.Dec.{T, eqb, eqb→eq, leb, ltb}
+use lib.Dec.{T, eqb, eqb→eq, leb, ltb, nltb→le}
 use lib.ListN.{length}
 use Rattle.totals_spec.specs.Basics.{any}
 use Rattle.totals_spec.specs.Format.{Format, validFormat}
@@ -15,9 +16,9 @@ use Rattle.totals_spec.specs.Terms.{item, pairItem}
 use Rattle.totals_spec.specs.Nan.{selectAll}
 use Rattle.totals_spec.specs.Totals.{Answer, refused, special, reported, answered, isValue, isSquare, stray, limit, refuseIf, firstIndex, sumRefusal, sumAccepted, sumAnswer, pairs, operands, dotRefusal, dotAccepted, dotPlace, dotAnswer}
 use Rattle.totals_spec.specs.Bytes.{Entry, valuesIn, uneven, short, entered, written, sumEntry, dotEntry}
-use Rattle.totals_spec.specs.Places.{StrayAt, DotStrayAt}
+use Rattle.totals_spec.specs.Places.{StrayAt, StrayBy, DotStrayAt}
 use Rattle.totals_spec.specs.Promises.{Sum-refusal, Dot-refusal, Sum-refused, Dot-refused, Sum-place, Dot-place, Sum-entry-refused, Dot-entry-refused}
-use Rattle.totals_spec.proofs.Bits.{eqb-false}
+use Rattle.totals_spec.proofs.Bits.{eqb-false, T-of, notT-of}
 use Rattle.totals_spec.proofs.Accepted.{accepted-has}
 use Rattle.totals_spec.proofs.Places.{first-stray, dot-stray}
 
@@ -70,32 +71,46 @@ module _ (n at : ℕ) (a : Answer) where
   place-at : n ≡ 7 → (answered n at a) .place ≡ at
   place-at h = rw h
 
--- ---- number 7 says that a stray bit is there
+-- ---- number 7 says that a stray bit is there, and that no other test has refused
 
-seven : (a b d e : Bool) → refuseIf a 3 (refuseIf b 4 (refuseIf d 6 (refuseIf e 7 0))) ≡ 7 → T e
-seven true b d e h = absurd (let z : ⊥ = omega arith in z)
-seven false true d e h = absurd (let z : ⊥ = omega arith in z)
-seven false false true e h = absurd (let z : ⊥ = omega arith in z)
-seven false false false true h = tt
-seven false false false false h = absurd (let z : ⊥ = omega arith in z)
+-- a test with another number has not refused
+passed : (b : Bool) (n rest : ℕ) → n ≢ 7 → refuseIf b n rest ≡ 7 → (b ≡ false) × (rest ≡ 7)
+passed true n rest k e = absurd (k e)
+passed false n rest k e = (refl, e)
 
-seven-of-five : (a b g d e : Bool) → refuseIf a 3 (refuseIf b 4 (refuseIf g 5 (refuseIf d 6 (refuseIf e 7 0)))) ≡ 7 → T e
-seven-of-five a b true d e h = absurd (none a b h)
-  where
-    none : (a b : Bool) → refuseIf a 3 (refuseIf b 4 5) ≡ 7 → ⊥
-    none true b h = omega arith
-    none false true h = omega arith
-    none false false h = omega arith
-seven-of-five a b false d e h = seven a b d e h
+seven : (b : Bool) → refuseIf b 7 0 ≡ 7 → T b
+seven true e = tt
+seven false e = omega (arith, e)
 
-sum-stray : (f : Format) (c : Settings) (u : ℕ) (l : List ℕ) → sumRefusal f c u l ≡ 7 → T (any (stray f) l)
+record SumSeven (f : Format) (l : List ℕ) : Type 0 where
+  pub few : length l ≤ limit
+  pub some : T (any (stray f) l)
+
+sum-seven : (f : Format) (c : Settings) (u : ℕ) (l : List ℕ) → sumRefusal f c u l ≡ 7 → SumSeven f l
 unfolding sumRefusal
-sum-stray f c u l h = seven (not (validFormat f)) (not (validSettings f c && leb u 2)) (ltb limit (length l)) (any (stray f) l) h
+sum-seven f c u l e =
+    let a = passed (not (validFormat f)) 3 _ (λ q. omega (arith, q)) e in
+    let b = passed (not (validSettings f c && leb u 2)) 4 _ (λ q. omega (arith, q)) (a .1) in
+    let d = passed (ltb limit (length l)) 6 _ (λ q. omega (arith, q)) (b .1) in
+    record { few = nltb→le limit (length l) (notT-of (d .0)); some = seven (any (stray f) l) (d .1) }
 
-dot-strays : (f : Format) (c : Settings) (xs ys : List ℕ) → dotRefusal f c xs ys ≡ 7 → T (any (stray f) xs || any (stray f) ys)
+record DotSeven (f : Format) (xs ys : List ℕ) : Type 0 where
+  pub same : length xs ≡ length ys
+  pub few : length xs ≤ limit
+  pub some : T (any (stray f) xs || any (stray f) ys)
+
+dot-seven : (f : Format) (c : Settings) (xs ys : List ℕ) → dotRefusal f c xs ys ≡ 7 → DotSeven f xs ys
 unfolding dotRefusal
-dot-strays f c xs ys h =
-    seven-of-five (not (validFormat f)) (not (validSettings f c)) (not (eqb (length xs) (length ys))) (ltb limit (length xs)) (any (stray f) xs || any (stray f) ys) h
+dot-seven f c xs ys e =
+    let a = passed (not (validFormat f)) 3 _ (λ q. omega (arith, q)) e in
+    let b = passed (not (validSettings f c)) 4 _ (λ q. omega (arith, q)) (a .1) in
+    let g = passed (not (eqb (length xs) (length ys))) 5 _ (λ q. omega (arith, q)) (b .1) in
+    let d = passed (ltb limit (length xs)) 6 _ (λ q. omega (arith, q)) (g .1) in
+    record {
+      same = eqb→eq (length xs) (length ys) (T-of (not-false (eqb (length xs) (length ys)) (g .0)));
+      few = nltb→le limit (length xs) (notT-of (d .0));
+      some = seven (any (stray f) xs || any (stray f) ys) (d .1);
+    }
 
 -- ---- THE PROMISES
 
@@ -119,15 +134,69 @@ pub sum-place : Sum-place
 unfolding sumAnswer
 sum-place f c u l = (
   no-place (sumRefusal f c u l) (firstIndex (stray f) l) (sumAccepted f c (summandOf u) l) (sum-unrefused f c (summandOf u) l),
-  λ h. subst (StrayAt f l) (sym (place-at (sumRefusal f c u l) (firstIndex (stray f) l) (sumAccepted f c (summandOf u) l) h)) (first-stray f l (sum-stray f c u l h)),
+  λ h. subst (StrayAt f l) (sym (place-at (sumRefusal f c u l) (firstIndex (stray f) l) (sumAccepted f c (summandOf u) l) h)) (first-stray f l (sum-seven f c u l h .some)),
 )
 
 pub dot-place : Dot-place
 unfolding dotAnswer
 dot-place f c xs ys = (
   no-place (dotRefusal f c xs ys) (dotPlace f xs ys) (dotAccepted f c (pairs xs ys)) (dot-unrefused f c (pairs xs ys)),
-  λ h. subst (DotStrayAt f xs ys) (sym (place-at (dotRefusal f c xs ys) (dotPlace f xs ys) (dotAccepted f c (pairs xs ys)) h)) (dot-stray f xs ys (dot-strays f c xs ys h)),
+  λ h. subst (DotStrayAt f xs ys) (sym (place-at (dotRefusal f c xs ys) (dotPlace f xs ys) (dotAccepted f c (pairs xs ys)) h)) (dot-stray f xs ys (dot-seven f c xs ys h .some)),
 )
+
+-- ---- numbers and places are small
+
+pub record Small (a : Answer) : Type 0 where
+  pub number : a .refusal < 256
+  pub place : a .place < 4294967296
+
+small-number : (b : Bool) (n rest : ℕ) → n < 256 → rest < 256 → refuseIf b n rest < 256
+small-number true n rest h k = h
+small-number false n rest h k = k
+
+sum-number : (f : Format) (c : Settings) (u : ℕ) (l : List ℕ) → sumRefusal f c u l < 256
+unfolding sumRefusal
+sum-number f c u l =
+    small-number (not (validFormat f)) 3 _ (omega arith)
+    (small-number (not (validSettings f c && leb u 2)) 4 _ (omega arith)
+    (small-number (ltb limit (length l)) 6 _ (omega arith)
+    (small-number (any (stray f) l) 7 _ (omega arith) (omega arith))))
+
+dot-number : (f : Format) (c : Settings) (xs ys : List ℕ) → dotRefusal f c xs ys < 256
+unfolding dotRefusal
+dot-number f c xs ys =
+    small-number (not (validFormat f)) 3 _ (omega arith)
+    (small-number (not (validSettings f c)) 4 _ (omega arith)
+    (small-number (not (eqb (length xs) (length ys))) 5 _ (omega arith)
+    (small-number (ltb limit (length xs)) 6 _ (omega arith)
+    (small-number (any (stray f) xs || any (stray f) ys) 7 _ (omega arith) (omega arith)))))
+
+-- by whether the number is 7
+small-place : (n at : ℕ) → (n ≢ 7 → at ≡ 0) → (n ≡ 7 → at < limit) → at < 4294967296
+small-place n at other is = go (eqb n 7) (eqb→eq n 7) (λ e. T-of (eq-eqb n 7 e))
+  where
+    go : (b : Bool) → (T b → n ≡ 7) → (n ≡ 7 → T b) → at < 4294967296
+    go true e k = let h : at < 1048576 = is (e tt) in omega arith
+    go false e k = omega (arith, other k)
+
+pub sum-small : (f : Format) (c : Settings) (u : ℕ) (l : List ℕ) → Small (sumAnswer f c u l)
+sum-small f c u l = record {
+  number = subst (λ (n : ℕ). n < 256) (sym (sum-refusal f c u l)) (sum-number f c u l);
+  place = small-place (sumRefusal f c u l) ((sumAnswer f c u l) .place) (sum-place f c u l .0) (λ e. lt-le (sum-place f c u l .1 e .inside) (sum-seven f c u l e .few));
+}
+  where
+    lt-le : {a b k : ℕ} → a < b → b ≤ k → a < k
+    lt-le h k = omega arith
+
+pub dot-small : (f : Format) (c : Settings) (xs ys : List ℕ) → Small (dotAnswer f c xs ys)
+dot-small f c xs ys = record {
+  number = subst (λ (n : ℕ). n < 256) (sym (dot-refusal f c xs ys)) (dot-number f c xs ys);
+  place = small-place (dotRefusal f c xs ys) ((dotAnswer f c xs ys) .place) (dot-place f c xs ys .0) (λ e. inside _ (any (stray f) xs) (dot-seven f c xs ys e) (dot-place f c xs ys .1 e));
+}
+  where
+    inside : (i : ℕ) (b : Bool) → DotSeven f xs ys → StrayBy b f xs ys i → i < limit
+    inside i true d s = omega (arith, s .inside, d .few)
+    inside i false d s = omega (arith, s .inside, d .same, d .few)
 
 -- a byte entry by its two tests and the record's
 abbrev byTests : (a b d : Bool) (n : ℕ) (old new : List ℕ) → Entry

@@ -1,5 +1,4 @@
 -- `limbs_term::add_part` meets its contract.
--- Assumes nothing.
 use borrow.Author.Needs.{needs}
 use Rattle.limbs.proofs.Words.{words}
 use Rattle.limbs_term.proofs.Stored.{unmoved-term, at-end, even, odd}

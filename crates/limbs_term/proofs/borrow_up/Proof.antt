@@ -1,5 +1,4 @@
 -- `limbs_term::borrow_up` meets its contract. The loop's invariant says what number the window holds at each turn.
--- Assumes nothing.
 use mathlib.Core.Path.{_≡_, refl}
 use Prim.Native.Nat.{_≤_, _*_, _-_, _+_, _^_}
 use borrow.Author.Needs.{needs}

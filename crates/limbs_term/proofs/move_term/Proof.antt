@@ -1,5 +1,4 @@
 -- `limbs_term::move_term` meets its contract.
--- Assumes nothing.
 use mathlib.Core.Path.{_≡_, ap, _∙_}
 use Prim.Native.Nat.{ℕ, _*_, _-_, _+_, _%_, _^_}
 use native.Mathlib.Nat.{add-mod-mod, mod-mod}

@@ -1,5 +1,4 @@
 -- `limbs_term::place` meets its contract.
--- Assumes nothing.
 use mathlib.Core.Path.{refl, ap, _∙_}
 use Prim.Native.Nat.{ℕ, _<_, _*_, _^_}
 use native.Mathlib.Nat.{zero-add, le-of-suc-le-suc}

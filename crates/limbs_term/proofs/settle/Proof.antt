@@ -1,5 +1,4 @@
 -- `limbs_term::settle` meets its contract.
--- Assumes nothing.
 use mathlib.Core.Path.{ap, _∙_}
 use Prim.Native.Nat.{ℕ, _*_, _^_}
 use native.Mathlib.Nat.{one-mul}

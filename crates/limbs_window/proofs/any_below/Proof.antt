@@ -1,5 +1,4 @@
 -- `limbs_window::any_below` meets its contract.
--- Assumes nothing.
 use mathlib.Core.Path.{ap, _∙_}
 use Prim.Native.Nat.{ℕ}
 use borrow.Author.Needs.{needs}

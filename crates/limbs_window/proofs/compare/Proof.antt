@@ -1,5 +1,4 @@
 -- `limbs_window::compare` meets its contract. The loop's invariant says what number the window holds at each turn.
--- Assumes nothing.
 use mathlib.Core.Path.{_≡_, sym, ap, ap₂}
 use Prim.Native.Nat.{ℕ, _≤_, _<_}
 use native.Mathlib.Omega.{arith}

@@ -1,5 +1,4 @@
 -- `limbs_window::increment` meets its contract.
--- Assumes nothing.
 use borrow.Author.Needs.{needs}
 use Rattle.limbs.specs.Value.{value}
 use Rattle.limbs_window.proofs.increment.Statement.{statement}

@@ -1,5 +1,4 @@
 -- `limbs_window::is_zero` meets its contract. The loop's invariant says what number the window holds at each turn.
--- Assumes nothing.
 use mathlib.Core.Path.{_≡_, sym, _∙_}
 use Prim.Native.Nat.{_≤_, _-_}
 use native.Mathlib.Omega.{arith}

@@ -1,5 +1,4 @@
 -- `limbs_window::low_at` meets its contract.
--- Assumes nothing.
 use mathlib.Core.Path.{ap₂, _∙_}
 use Prim.Native.Nat.{ℕ, _%_, _^_}
 use borrow.Author.Needs.{needs}

@@ -1,5 +1,4 @@
 -- `limbs_window::negate` meets its contract.
--- Assumes nothing.
 use mathlib.Core.Path.{ap, _∙_}
 use Prim.Native.Nat.{ℕ, _-_, _%_, _^_}
 use native.Mathlib.Nat.{zero-add, mod-eq-of-lt}

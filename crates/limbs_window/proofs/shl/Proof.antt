@@ -1,5 +1,4 @@
 -- `limbs_window::shl` meets its contract. The loop fills the result with the number's digits.
--- Assumes nothing.
 use Prim.Native.Nat.{_*_, _-_, _^_}
 use borrow.Author.Needs.{needs}
 use Rattle.limbs.specs.Value.{value}

@@ -1,5 +1,4 @@
 -- `limbs_window::shl_at` meets its contract.
--- Assumes nothing.
 use mathlib.Core.Path.{ap₂, _∙_}
 use Prim.Native.Nat.{ℕ, _*_, _-_, _+_, _/_, _%_, _^_}
 use native.Mathlib.Omega.{arith}

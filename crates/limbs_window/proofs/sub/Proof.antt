@@ -1,5 +1,4 @@
 -- `limbs_window::sub` meets its contract. The loop's invariant says what number the window holds at each turn.
--- Assumes nothing.
 use mathlib.Core.Path.{_≡_, refl, sym, ap, _∙_}
 use Prim.Native.Nat.{ℕ, _≤_, _*_, _-_, _+_, _^_}
 use native.Mathlib.Omega.{arith}

@@ -1,5 +1,4 @@
 -- `limbs_window::word_at` meets its contract.
--- Assumes nothing.
 use mathlib.Core.Path.{sym}
 use native.Mathlib.Omega.{arith}
 use borrow.Author.Needs.{needs}

@@ -1,5 +1,4 @@
 -- `limbs_window::word_below` meets its contract.
--- Assumes nothing.
 use mathlib.Core.Path.{_∙_}
 use borrow.Author.Needs.{needs}
 use Rattle.limbs.proofs.Words.{cons-at}
