@@ -1,0 +1,171 @@
+-- `exact::round_small` meets its contract.
+use mathlib.Core.Path.{sym, _∙_}
+use native.Mathlib.Omega.{arith}
+use Rattle.totals_spec.specs.Basics.{isSet}
+use Rattle.exact.proofs.Rules.{is-flushed, is-kept}
+use Rattle.exact.proofs.Plan.{measured, small-word, small-sticky, small-sum, small-fits, small-encodes, flushed, unflushed}
+use borrow.Author.Needs.{needs}
+use Rattle.exact.proofs.round_small.Statement.{statement}
+use Rattle.exact.proofs.round_small.Tie as tie
+
+digits-requires : tie.Need-digits-requires
+digits-requires c κs = search needs
+
+precision-within-requires : tie.Need-precision-within-requires
+precision-within-requires c κs = search needs
+
+first-digits-requires : tie.Need-first-digits-requires
+first-digits-requires c κs = measured (c .before .before .pre .0) (c .precision-within .ensures)
+
+add-is-tiny : tie.Need-add-is-tiny
+add-is-tiny c = search needs
+
+emin-requires : tie.Need-emin-requires
+emin-requires c κs = search needs
+
+is-tiny-requires : tie.Need-is-tiny-requires
+is-tiny-requires c κs = search needs
+
+sub-cut : tie.Need-sub-cut
+sub-cut c = search needs
+
+add-cut : tie.Need-add-cut
+add-cut c = search needs
+
+cut-requires : tie.Need-cut-requires
+cut-requires c κs =
+    let s = c .before .before .before .before .before .before in
+    let digits = c .before .before .before .before .before .digits in
+    let precision-within = c .before .before .before .before .precision-within in
+    rw (digits .ensures)
+    ((s .pre .0 .rounds .some, small-word (s .pre .0) (precision-within .ensures) (s .pre .1)), small-sticky (s .pre .0) (precision-within .ensures) (s .pre .1))
+
+rounds-up-requires : tie.Need-rounds-up-requires
+rounds-up-requires c κs = search needs
+
+is-inexact-requires : tie.Need-is-inexact-requires
+is-inexact-requires c κs = search needs
+
+new-requires : tie.Need-new-requires
+new-requires c κs = search needs
+
+enum-known-flags : tie.Need-enum-known-flags
+enum-known-flags c = search needs
+
+enum-known-flags-2 : tie.Need-enum-known-flags-2
+enum-known-flags-2 c = search needs
+
+flag-requires : tie.Need-flag-requires
+flag-requires c κs = search needs
+
+add-small-number : tie.Need-add-small-number
+add-small-number c =
+    let s = c .before .before .before .before .before .before .before .before .before .before .before .before .before .before .before in
+    let digits = c .before .before .before .before .before .before .before .before .before .before .before .before .before .before .digits in
+    let precision-within = c .before .before .before .before .before .before .before .before .before .before .before .before .before .precision-within in
+    let cut = c .before .before .before .before .before .before .before .before .cut in
+    let rounds-up = c .before .before .before .before .before .before .before .rounds-up in
+    let flag = c .before .flag in
+    let cut = rw (digits .ensures) at (cut .ensures) in
+    record { fits = omega (arith, small-sum (s .pre .0) (precision-within .ensures) (s .pre .1) cut (rounds-up .ensures), flag .ensures .0) }
+
+sub-small-number : tie.Need-sub-small-number
+sub-small-number c = search needs
+
+small-number-requires : tie.Need-small-number-requires
+small-number-requires c κs =
+    let s = c .before .before .before .before .before .before .before .before .before .before .before .before .before .before .before in
+    let digits = c .before .before .before .before .before .before .before .before .before .before .before .before .before .before .digits in
+    let precision-within = c .before .before .before .before .before .before .before .before .before .before .before .before .before .precision-within in
+    let cut = c .before .before .before .before .before .before .before .before .cut in
+    let rounds-up = c .before .before .before .before .before .before .before .rounds-up in
+    let flag = c .before .flag in
+    let cut = rw (digits .ensures) at (cut .ensures) in
+    rw (digits .ensures, flag .ensures .0) (small-fits (s .pre .0) (precision-within .ensures) (s .pre .1) cut (rounds-up .ensures))
+
+flag-requires-2 : tie.Need-flag-requires-2
+flag-requires-2 c κs = search needs
+
+add-t27 : tie.Need-add-t27
+add-t27 c =
+    let s = c .before .before .before .before .before .before .before .before .before .before .before .before .before .before .before .before .before in
+    let is-tiny = c .before .before .before .before .before .before .before .before .before .before .before .is-tiny in
+    let is-inexact = c .before .before .before .before .before .before .before .before .is-inexact in
+    let new = c .before .before .before .before .before .before .before .new in
+    let flags2 = c .before .before .before .before .before .flags2 in
+    let flag2 = c .flag2 in
+    let k = is-kept (is-tiny .result) (is-inexact .result) (isSet (s .args .c .«flush_to_zero»)) _ (sym (new .ensures) ∙ flags2 .given .1) in
+    record { fits = omega (arith, k .small, flag2 .ensures .1) }
+
+returns : tie.Need-returns
+returns c =
+    let s = c .before .before .before .before .before .before .before .before .before .before .before .before .before in
+    let digits = c .before .before .before .before .before .before .before .before .before .before .before .before .digits in
+    let precision-within = c .before .before .before .before .before .before .before .before .before .before .before .precision-within in
+    let first-digits = c .before .before .before .before .before .before .before .before .before .before .first-digits in
+    let emin = c .before .before .before .before .before .before .before .before .emin in
+    let is-tiny = c .before .before .before .before .before .before .before .is-tiny in
+    let cut = c .before .before .before .before .before .before .cut in
+    let rounds-up = c .before .before .before .before .before .rounds-up in
+    let is-inexact = c .before .before .before .before .is-inexact in
+    let new = c .before .before .before .new in
+    let flags = c .before .flags in
+    let cut = rw (digits .ensures) at (cut .ensures) in
+    let k = is-flushed (is-tiny .result) (is-inexact .result) (isSet (s .args .c .«flush_to_zero»)) _ (sym (new .ensures) ∙ flags .given .1) in
+    let tiny = rw (emin .ensures) at (is-tiny .ensures) in
+    let same = flushed (s .pre .0) (precision-within .ensures) (s .pre .1) cut (rounds-up .ensures) (first-digits .ensures) tiny (k .0) in
+    record { equal = λ x st. rw (k .1) (same x st); encodes = tt; flags = omega (arith, k .1) }
+
+returns-2 : tie.Need-returns-2
+returns-2 c =
+    let s = c .before .before .before .before .before .before .before .before .before .before .before .before .before .before .before .before .before in
+    let digits = c .before .before .before .before .before .before .before .before .before .before .before .before .before .before .before .before .digits in
+    let precision-within = c .before .before .before .before .before .before .before .before .before .before .before .before .before .before .before .precision-within in
+    let first-digits = c .before .before .before .before .before .before .before .before .before .before .before .before .before .before .first-digits in
+    let emin = c .before .before .before .before .before .before .before .before .before .before .before .before .emin in
+    let is-tiny = c .before .before .before .before .before .before .before .before .before .before .before .is-tiny in
+    let cut = c .before .before .before .before .before .before .before .before .before .before .cut in
+    let rounds-up = c .before .before .before .before .before .before .before .before .before .rounds-up in
+    let is-inexact = c .before .before .before .before .before .before .before .before .is-inexact in
+    let new = c .before .before .before .before .before .before .before .new in
+    let flags2 = c .before .before .before .before .before .flags2 in
+    let flag = c .before .before .before .flag in
+    let small-number = c .before .small-number in
+    let flag2 = c .flag2 in
+    let cut = rw (digits .ensures) at (cut .ensures) in
+    let k = is-kept (is-tiny .result) (is-inexact .result) (isSet (s .args .c .«flush_to_zero»)) _ (sym (new .ensures) ∙ flags2 .given .1) in
+    let tiny = rw (emin .ensures) at (is-tiny .ensures) in
+    let same = unflushed (s .pre .0) (precision-within .ensures) (s .pre .1) cut (rounds-up .ensures) (first-digits .ensures) tiny (k .off) in
+    let can = small-encodes (s .pre .0) (precision-within .ensures) (s .pre .1) cut (rounds-up .ensures) in
+    record {
+      equal = λ x st. rw (small-number .ensures, flag .ensures .0, flag2 .ensures .0, k .are, is-inexact .ensures, digits .ensures) (same x st);
+      encodes = rw (small-number .ensures, flag .ensures .0, digits .ensures) can;
+      flags = omega (arith, k .small, flag2 .ensures .1);
+    }
+
+pub round-small-spec : {M : Type 1} → statement M
+round-small-spec =
+    tie.close
+    (tie.spec
+    digits-requires
+    precision-within-requires
+    first-digits-requires
+    add-is-tiny
+    emin-requires
+    is-tiny-requires
+    sub-cut
+    add-cut
+    cut-requires
+    rounds-up-requires
+    is-inexact-requires
+    new-requires
+    enum-known-flags
+    enum-known-flags-2
+    flag-requires
+    add-small-number
+    sub-small-number
+    small-number-requires
+    flag-requires-2
+    add-t27
+    returns
+    returns-2)

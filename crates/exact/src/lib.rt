@@ -1,0 +1,319 @@
+// Exact values, and their one rounding into a format. Positions are counted in units, from 0 (totals_spec, Format). Significands of the
+// formats have up to 64 digits.
+pub mod rounding;
+
+use crate::rounding::Dropped;
+use crate::rounding::Underflow;
+use crate::rounding::overflows_to_infinity;
+use crate::rounding::rounds_up;
+use format::Format;
+use format::digits;
+use format::emax;
+use format::emin;
+use format::env::INEXACT;
+use format::env::OVERFLOW;
+use format::env::ROUNDED_UP;
+use format::env::Settings;
+use format::env::precision_within;
+use format::exponent_range;
+use format::ones;
+use format::power;
+use format::scaled;
+use format::unpacked::Unpacked;
+use limbs_window as window;
+ghost use mathlib.Core.Path.{_≡_};
+ghost use mathlib.Core.Bool.{true, not, cond, _||_};
+ghost use Prim.Native.Nat.{ℕ, _+_, _-_, _*_, _/_, _%_, _^_, _<_, _≤_};
+ghost use lib.Dec.{eqb, leb};
+ghost use Rattle.limbs.specs.Value.{value, bitLength};
+ghost use Rattle.totals_spec.specs.Basics as basics;
+ghost use Rattle.totals_spec.specs.Bounds.{FormatBounds};
+ghost use Rattle.totals_spec.specs.Format as spec;
+ghost use Rattle.totals_spec.specs.Settings as env;
+ghost use Rattle.totals_spec.specs.Round as round;
+ghost use Rattle.format.specs.Joined.{formatOf, settingsOf, unpackedOf};
+ghost use Rattle.format.specs.Fits.{Encodes};
+ghost use Rattle.exact.specs.Joined.{droppedOf, smallOf, roundedOf, Stands, Measured, RoundedTo, Rounds, EndsAt, RoundedOnce};
+
+// A magnitude to round: significand * 2^position units, or with a sticky bit any number between that and significand + 1 of these.
+pub struct Unrounded {
+    pub negative: bool,
+    pub sticky: bool,
+    pub position: u64,
+    pub significand: [u64; 12],
+}
+
+// A magnitude cut at a position: the digits at and above it, and what is dropped.
+pub struct Cut {
+    pub kept: u64,
+    pub dropped: Dropped,
+}
+
+// Rounded digits: kept * 2^lowest, whether the magnitude went up, and whether it changed.
+pub struct Digits {
+    pub kept: u64,
+    pub lowest: u64,
+    pub up: bool,
+    pub inexact: bool,
+}
+
+pub struct Rounded {
+    pub value: Unpacked,
+    pub flags: u64,
+}
+
+// Whether something lies below a position: a bit of the words, or what the sticky bit stands for.
+fn some_below(s: [u64; 12], count: usize, sticky: bool) -> bool
+    ensures { λ r. ⌜ r ≡ (sticky || not (eqb (value s % 2 ^ count) 0)) ⌝ }
+{
+    if sticky {
+        return true;
+    }
+    window::any_below(s, count)
+}
+
+impl Unrounded {
+    // Cuts at a position from which the digits fit a word, and below which all lies that the sticky bit stands for.
+    pub fn cut(self, lowest: u64) -> Cut
+        requires { ⌜ (0 < value (self .significand)) × (self .position + bitLength (value (self .significand)) ≤ lowest + 64) ⌝ }
+        requires { ⌜ (self .sticky ≡ true → self .position < lowest) ⌝ }
+        ensures { λ r. ⌜ ((x : ℕ) → Stands self x → (r .kept ≡ x / 2 ^ lowest) × (droppedOf (r .dropped) ≡ round.dropped x lowest)) ⌝ }
+    {
+        let s = self.significand;
+        if lowest <= self.position {
+            return Cut {
+                kept: scaled(window::shr_at(s, 0, 0), self.position - lowest),
+                dropped: Dropped::Nothing,
+            };
+        }
+        let shift = (lowest - self.position) as usize;
+        let first = window::bit(s, shift - 1);
+        let rest = some_below(s, shift - 1, self.sticky);
+        let d = Dropped::new(first, rest);
+        Cut {
+            kept: window::shr_at(s, shift, 0),
+            dropped: d,
+        }
+    }
+}
+
+// The first q digits of a value whose highest bit lies just below `end`, rounded as if the exponent had no limit. Where they round up to
+// 2^q, they are one half of it, one position higher.
+fn first_digits(rounding: u64, v: Unrounded, end: u64, q: u64) -> Digits
+    requires { ⌜ Measured v end q ⌝ }
+    ensures { λ r. ⌜ RoundedTo (env.roundingOf rounding) v end q r ⌝ }
+{
+    let lowest = end - q;
+    let first = v.cut(lowest);
+    let d = first.dropped;
+    let up = rounds_up(rounding, v.negative, first.kept, d);
+    let inexact = d.is_inexact();
+    if !up {
+        return Digits {
+            kept: first.kept,
+            lowest,
+            up,
+            inexact,
+        };
+    }
+    if first.kept < ones(q) {
+        return Digits {
+            kept: first.kept + 1,
+            lowest,
+            up,
+            inexact,
+        };
+    }
+    Digits {
+        kept: power(q - 1),
+        lowest: lowest + 1,
+        up,
+        inexact,
+    }
+}
+
+// Whether q digits, kept * 2^lowest, are above the largest finite number. In NoInf the largest pattern of all is the NaN.
+fn overflows(f: Format, q: u64, g: u64, kept: u64, lowest: u64) -> bool
+    requires { ⌜ FormatBounds (formatOf f) × (g < 4611686018427387904) × (lowest < 9223372036854775808) ⌝ }
+    requires { ⌜ (1 ≤ q) × (q ≤ spec.digits (formatOf f)) × (bitLength kept ≡ q) ⌝ }
+    ensures { λ r. ⌜ r ≡ round.overflows (formatOf f) q g (kept * 2 ^ lowest) ⌝ }
+{
+    let top = lowest + (q - 1);
+    let most = emax(f, g);
+    if top > most {
+        return true;
+    }
+    if f.kind != 1 {
+        return false;
+    }
+    if q != digits(f) {
+        return false;
+    }
+    if top != most {
+        return false;
+    }
+    kept == ones(q)
+}
+
+// The largest finite number of q digits.
+fn largest(f: Format, q: u64, negative: bool) -> Unpacked
+    requires { ⌜ FormatBounds (formatOf f) × (1 ≤ q) × (q ≤ spec.digits (formatOf f)) ⌝ }
+    ensures { λ r. ⌜ (unpackedOf r ≡ round.largest (formatOf f) q negative) × Encodes (formatOf f) (unpackedOf r) ⌝ }
+{
+    let p = digits(f);
+    let all = scaled(ones(q), p - q);
+    let shift = exponent_range(f);
+    if f.kind == 1 {
+        if q == p {
+            return Unpacked::Finite {
+                negative,
+                shift,
+                significand: all - 1,
+            };
+        }
+    }
+    Unpacked::Finite {
+        negative,
+        shift,
+        significand: all,
+    }
+}
+
+const OVERFLOWED: u64 = OVERFLOW + INEXACT;
+
+const OVERFLOWED_UP: u64 = OVERFLOWED + ROUNDED_UP;
+
+// What an overflow gives: an infinity or, in a kind without one, the NaN; the largest number where the mode or `saturate` says so, and in a
+// kind that has neither. Only the infinity is above the exact value.
+fn overflow(f: Format, c: Settings, q: u64, negative: bool) -> Rounded
+    requires { ⌜ FormatBounds (formatOf f) × (1 ≤ q) × (q ≤ spec.digits (formatOf f)) ⌝ }
+    ensures { λ r. ⌜ (roundedOf r ≡ round.overflow (formatOf f) (settingsOf c) q negative) × Encodes (formatOf f) (unpackedOf (r .value)) × (r .flags < 128) ⌝ }
+{
+    let most = Rounded {
+        value: largest(f, q, negative),
+        flags: OVERFLOWED,
+    };
+    if c.saturate != 0 {
+        return most;
+    }
+    if !overflows_to_infinity(c.rounding, negative) {
+        return most;
+    }
+    if f.kind == 0 {
+        return Rounded {
+            value: Unpacked::Infinity(negative),
+            flags: OVERFLOWED_UP,
+        };
+    }
+    if f.kind == 3 {
+        return most;
+    }
+    Rounded {
+        value: Unpacked::Nan {
+            negative,
+            signaling: false,
+            payload: 0,
+        },
+        flags: most.flags,
+    }
+}
+
+// A flag's number where it is set.
+pub fn flag(n: u64, set: bool) -> u64
+    ensures { λ r. ⌜ (r ≡ basics.flag n set) × (r ≤ n) ⌝ }
+{
+    if set { n } else { 0 }
+}
+
+// A magnitude of at least 2^emin: the first q digits.
+fn round_normal(f: Format, c: Settings, g: u64, v: Unrounded, end: u64) -> Rounded
+    requires { ⌜ EndsAt (formatOf f) (settingsOf c) g v end × (spec.eminAt (formatOf f) g < end) ⌝ }
+    ensures { λ r. ⌜ RoundedOnce (formatOf f) (settingsOf c) g v r ⌝ }
+{
+    let p = digits(f);
+    let q = precision_within(f, c);
+    let d = first_digits(c.rounding, v, end, q);
+    if overflows(f, q, g, d.kept, d.lowest) {
+        return overflow(f, c, q, v.negative);
+    }
+    Rounded {
+        value: Unpacked::Finite {
+            negative: v.negative,
+            shift: d.lowest + q - (g + p),
+            significand: scaled(d.kept, p - q),
+        },
+        flags: flag(INEXACT, d.inexact) + flag(ROUNDED_UP, d.up),
+    }
+}
+
+// Whether a magnitude below 2^emin is tiny: before rounding it is; after rounding, while its rounded digits, up to `end`, stay below emin.
+fn is_tiny(tininess: u64, end: u64, least: u64) -> bool
+    ensures { λ r. ⌜ r ≡ cond (basics.isSet tininess) (leb end least) true ⌝ }
+{
+    if tininess == 0 {
+        return true;
+    }
+    end <= least
+}
+
+// Digits on the subnormal grid.
+fn small_number(negative: bool, kept: u64, n: u64) -> Unpacked
+    requires { ⌜ (n < 64) × (kept * 2 ^ n < 2 ^ 64) ⌝ }
+    ensures { λ r. ⌜ unpackedOf r ≡ smallOf negative kept n ⌝ }
+{
+    if kept == 0 {
+        return Unpacked::Zero(negative);
+    }
+    Unpacked::Finite {
+        negative,
+        shift: 0,
+        significand: scaled(kept, n),
+    }
+}
+
+// A magnitude below 2^emin: the digits down to the subnormal grid. They are cut from the value itself; the first q digits decide only
+// whether it is tiny.
+fn round_small(f: Format, c: Settings, g: u64, v: Unrounded, end: u64) -> Rounded
+    requires { ⌜ EndsAt (formatOf f) (settingsOf c) g v end × (end ≤ spec.eminAt (formatOf f) g) ⌝ }
+    ensures { λ r. ⌜ RoundedOnce (formatOf f) (settingsOf c) g v r ⌝ }
+{
+    let negative = v.negative;
+    let p = digits(f);
+    let q = precision_within(f, c);
+    let unlimited = first_digits(c.rounding, v, end, q);
+    let tiny = is_tiny(c.tininess, unlimited.lowest + q, emin(f, g));
+    let first = v.cut(g + (p - q));
+    let d = first.dropped;
+    let up = rounds_up(c.rounding, negative, first.kept, d);
+    match Underflow::new(tiny, d.is_inexact(), c.flush_to_zero) {
+        Underflow::Flushed(flags) => Rounded {
+            value: Unpacked::Zero(negative),
+            flags,
+        },
+        Underflow::Kept(flags) => Rounded {
+            value: small_number(negative, first.kept + flag(1, up), p - q),
+            flags: flags + flag(ROUNDED_UP, up),
+        },
+    }
+}
+
+// The digits of a significand.
+fn length(s: [u64; 12]) -> u64
+    ensures { λ r. ⌜ (r ≡ bitLength (value s)) × (r ≤ 768) ⌝ }
+{
+    window::bit_length(s) as u64
+}
+
+// One rounding of a non-zero magnitude, where g is the position of the format's least non-zero number.
+pub fn round(f: Format, c: Settings, g: u64, v: Unrounded) -> Rounded
+    requires { ⌜ Rounds (formatOf f) (settingsOf c) g v ⌝ }
+    ensures { λ r. ⌜ RoundedOnce (formatOf f) (settingsOf c) g v r ⌝ }
+{
+    let s = v.significand;
+    let end = v.position + length(s);
+    if end > emin(f, g) {
+        round_normal(f, c, g, v, end)
+    } else {
+        round_small(f, c, g, v, end)
+    }
+}
