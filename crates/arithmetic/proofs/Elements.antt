@@ -1,0 +1,173 @@
+-- An element as a term of the code: its significand, its small exponent, its position, and which of its kinds is no term.
+use mathlib.Core.Path.{_≡_, refl, sym, ap, _∙_, subst}
+use mathlib.Core.Logic.{_⊎_, inl, inr}
+use mathlib.Core.Bool.{Bool, true, false, _&&_, cond, true≢false}
+use mathlib.Core.List.{[], _∷_}
+use Prim.Native.Nat.{ℕ, zero, suc, _+_, _-_, _*_, _/_, _^_, _≤_, _<_}
+use native.Mathlib.Nat.{mod-lt, lt-of-lt-of-le, zero-mul, zero-add, pow-suc}
+use native.Mathlib.Omega.{arith}
+use lib.Ieee.{size}
+use lib.Pow.{pow-pos, pow-mono}
+use Rattle.totals_spec.specs.Basics.{isSet}
+use Rattle.totals_spec.specs.Format as spec
+use Rattle.totals_spec.specs.Settings as env
+use Rattle.totals_spec.specs.Decode as dec
+use Rattle.totals_spec.specs.Terms as terms
+use Rattle.totals_spec.specs.Totals.{isValue}
+use Rattle.totals_spec.specs.Bounds.{FormatBounds}
+use Rattle.totals_spec.proofs.Bits.{size-is}
+use Rattle.totals_spec.proofs.Good.{Decoded, decoded-operand}
+use types.Run.{OneOf}
+use denote.Enum.Declared.{tagOf}
+use Rattle.format.proofs.unpacked.Unpacked.{the-type}
+use Rattle.format.specs.declared.unpacked.Unpacked.{Unpacked}
+use Rattle.format.specs.declared.unpacked.Unpacked.the-variants.{Zero, Finite, Infinity, Nan}
+use Rattle.format.specs.Joined.{unpackedOf}
+use Rattle.arithmetic.specs.declared.Term.{Term}
+use Rattle.arithmetic.specs.declared.Item.the-variants as item
+use Rattle.binary.specs.Joined.{Plain}
+use Rattle.arithmetic.specs.Joined.{magnitude, StandsFor, Bounded, itemOf, plainNumber, PlainTop}
+
+-- ---- an operand: its exponent is below 2^28, its significand above 0
+
+module _ (f : spec.Format) (h : FormatBounds f) where
+  bounded : (x : dec.Unpacked) → Decoded f x → Bounded x
+  bounded (dec.zeroOf s) d = tt
+  bounded (dec.finite s k m) d = let p : 2 ^ (f .E) ≤ 2 ^ 28 = pow-mono (h .e-le) in (omega (arith, p), d .0)
+  bounded (dec.infinity s) d = tt
+  bounded (dec.nan s g m) d = tt
+
+  pub operand-bounded : (c : env.Settings) (b : ℕ) (x : dec.Unpacked) → dec.operand f c b ≡ x → Bounded x
+  operand-bounded c b x e = subst Bounded e (bounded (dec.operand f c b) (decoded-operand f c b))
+
+pub field-small : (f : spec.Format) (b : ℕ) → FormatBounds f → dec.fieldOf f b < 268435456
+field-small f b h = lt-of-lt-of-le (mod-lt (b / 2 ^ spec.fractionBits f) (pow-pos (f .E))) (pow-mono (h .e-le))
+
+pub fraction-le : (f : spec.Format) → FormatBounds f → 2 ^ spec.fractionBits f ≤ 2 ^ 62
+fraction-le f h = pow-mono {j = 62} (omega (arith, h .e-ge, h .w-le))
+
+-- ---- what is no term
+
+pub none-stands : (u : env.Summand) (x : dec.Unpacked) (t : Term) → dec.isFinite x ≡ false → magnitude t ≡ 0 → t .shift < 1073741824 → StandsFor t (terms.itemOf u x)
+none-stands u (dec.finite s k m) t e z h = absurd (true≢false e)
+none-stands env.value (dec.zeroOf s) t e z h = (z, h)
+none-stands env.value (dec.infinity s) t e z h = (z, h)
+none-stands env.value (dec.nan s g m) t e z h = (z, h)
+none-stands env.magnitude (dec.zeroOf s) t e z h = (z, h)
+none-stands env.magnitude (dec.infinity s) t e z h = (z, h)
+none-stands env.magnitude (dec.nan s g m) t e z h = (z, h)
+none-stands env.square (dec.zeroOf s) t e z h = (z, h)
+none-stands env.square (dec.infinity s) t e z h = (z, h)
+none-stands env.square (dec.nan s g m) t e z h = (z, h)
+
+-- the arms of a match other than that of a finite number
+pub other-arm : (v : Unpacked) → OneOf (0 ∷ 2 ∷ 3 ∷ []) (tagOf the-type v) → dec.isFinite (unpackedOf v) ≡ false
+other-arm (Zero s) h = refl
+other-arm (Finite s k m) h = absurd (none h)
+  where
+    none : (_≡_ {A = ℕ} 1 0) ⊎ ((_≡_ {A = ℕ} 1 2) ⊎ (_≡_ {A = ℕ} 1 3)) → ⊥
+    none (inl e) = omega arith
+    none (inr (inl e)) = omega arith
+    none (inr (inr e)) = omega arith
+other-arm (Infinity s) h = refl
+other-arm (Nan s g m) h = refl
+
+pub no-magnitude : (t : Term) → t .low ≡ 0 → t .high ≡ 0 → magnitude t ≡ 0
+unfolding magnitude
+no-magnitude t e f = ap (λ (n : ℕ). (t .high * 2 ^ 64 + n) * 2 ^ (t .shift)) e ∙ ap (λ (n : ℕ). (n * 2 ^ 64 + 0) * 2 ^ (t .shift)) f ∙ zero-mul (2 ^ (t .shift))
+
+-- ---- summands
+
+pub square-of : (u : ℕ) → 2 ≤ u → env.summandOf u ≡ env.square
+square-of zero h = absurd (no h)
+  where
+    no : 2 ≤ 0 → ⊥
+    no h = omega arith
+square-of (suc zero) h = absurd (no h)
+  where
+    no : 2 ≤ 1 → ⊥
+    no h = omega arith
+square-of (suc (suc n)) h = refl
+
+two-le : (n : ℕ) → suc (suc n) < 2 → ⊥
+two-le n h = omega arith
+
+-- the sign counts in a sum of values alone
+pub sign-dropped : (u : ℕ) (s : Bool) → (u ≡ 0 → ⊥) → false ≡ (isValue (env.summandOf u) && s)
+sign-dropped zero s h = absurd (h refl)
+sign-dropped (suc zero) s h = refl
+sign-dropped (suc (suc n)) s h = refl
+
+-- a number's own term, where it is not squared
+pub single-of : (u : ℕ) (s b : Bool) (k m : ℕ) → u < 2 → k < 268435456 → b ≡ (isValue (env.summandOf u) && s)
+    → StandsFor (record { negative = b; low = m; high = 0; shift = k + 1024 }) (terms.itemOf (env.summandOf u) (dec.finite s k m))
+unfolding magnitude terms.single
+single-of zero s b k m h g e = (ap (λ (n : ℕ). n * 2 ^ (k + 1024)) (zero-add m), e, omega arith)
+single-of (suc zero) s b k m h g e = (ap (λ (n : ℕ). n * 2 ^ (k + 1024)) (zero-add m), e, omega arith)
+single-of (suc (suc n)) s b k m h g e = absurd (two-le n h)
+
+-- ---- items, by the summand
+
+pub zero-item : (u : ℕ) (s b : Bool) → b ≡ (isValue (env.summandOf u) && s) → item.Zero b ≡ itemOf (terms.itemOf (env.summandOf u) (dec.zeroOf s))
+zero-item zero s b e = ap item.Zero e
+zero-item (suc zero) s b e = ap item.Zero e
+zero-item (suc (suc n)) s b e = ap item.Zero e
+
+pub infinite-item : (u : ℕ) (s b : Bool) → b ≡ (isValue (env.summandOf u) && s) → item.Infinite b ≡ itemOf (terms.itemOf (env.summandOf u) (dec.infinity s))
+infinite-item zero s b e = ap item.Infinite e
+infinite-item (suc zero) s b e = ap item.Infinite e
+infinite-item (suc (suc n)) s b e = ap item.Infinite e
+
+pub nan-item : (u : ℕ) (s g : Bool) (m : ℕ) → item.Nan ≡ itemOf (terms.itemOf (env.summandOf u) (dec.nan s g m))
+nan-item zero s g m = refl
+nan-item (suc zero) s g m = refl
+nan-item (suc (suc n)) s g m = refl
+
+pub single-item : (u : ℕ) (s : Bool) (k m r : ℕ) → u < 2 → r ≡ size m + k + 1024 - 1 → item.Top r ≡ itemOf (terms.itemOf (env.summandOf u) (dec.finite s k m))
+unfolding terms.single
+single-item zero s k m r h e = ap item.Top e
+single-item (suc zero) s k m r h e = ap item.Top e
+single-item (suc (suc n)) s k m r h e = absurd (two-le n h)
+
+pub square-item : (u : ℕ) (s : Bool) (k m r : ℕ) → 2 ≤ u → r ≡ size m + size m + k + k + 1024 - 1 → item.Top r ≡ itemOf (terms.itemOf (env.summandOf u) (dec.finite s k m))
+unfolding terms.product
+square-item u s k m r h e = rw (square-of u h) (ap item.Top e)
+
+-- ---- an element that is plainly a number
+
+pub plainly : (b : Bool) (f : spec.Format) (x : ℕ) → b ≡ true → Plain b f x → Plain true f x
+plainly b f x e h = subst (λ (z : Bool). Plain z f x) e h
+
+module _ (f : spec.Format) (x : ℕ) (h : Plain true f x) where
+  pub plain-operand : (c : env.Settings) → dec.operand f c x ≡ plainNumber f x
+  unfolding dec.operand
+  plain-operand c = rw (h .1) (off (isSet (c .denormalsAreZero)) ∙ h .0)
+    where
+      off : (b : Bool) → cond (b && false) (dec.zeroOf (dec.signBit f x)) (dec.decode f x) ≡ dec.decode f x
+      off true = refl
+      off false = refl
+
+  pub plain-nan : dec.isNan (dec.decode f x) ≡ false
+  plain-nan = ap dec.isNan (h .0)
+
+pub plain-item : (f : spec.Format) (c : env.Settings) (u : env.Summand) (x : ℕ) → Plain true f x → terms.itemOf u (plainNumber f x) ≡ terms.item f c u x
+unfolding terms.item
+plain-item f c u x h = ap (terms.itemOf u) (sym (plain-operand f x h c))
+
+-- a normal significand has p digits
+pub plain-size : (f : spec.Format) (x : ℕ) → FormatBounds f → size (2 ^ spec.fractionBits f + dec.fractionOf f x) ≡ spec.digits f
+plain-size f x h =
+    size-is (2 ^ spec.fractionBits f + dec.fractionOf f x) (spec.fractionBits f) (omega (arith, mod-lt x (pow-pos (spec.fractionBits f)), pow-suc 2 (spec.fractionBits f))) (omega arith)
+    ∙ omega (arith, h .w-ge)
+
+-- ---- the position of a normal number, by the summand
+
+module _ (f : spec.Format) (u x r : ℕ) (h : FormatBounds f) (p : Plain true f x) where
+  plain-top : item.Top r ≡ itemOf (terms.itemOf (env.summandOf u) (plainNumber f x)) → PlainTop r f (env.summandOf u) x
+  plain-top e z c = (p .1, plain-nan f x p, sym (e ∙ ap itemOf (plain-item f c (env.summandOf u) x p)))
+
+  pub plain-single : u < 2 → r ≡ dec.fieldOf f x - 1 + spec.digits f + 1023 → PlainTop r f (env.summandOf u) x
+  plain-single l e = plain-top (single-item u _ _ _ r l (omega (arith, plain-size f x h)))
+
+  pub plain-square : 2 ≤ u → r ≡ dec.fieldOf f x - 1 + (dec.fieldOf f x - 1) + 2 * spec.digits f + 1023 → PlainTop r f (env.summandOf u) x
+  plain-square l e = plain-top (square-item u _ _ _ r l (omega (arith, plain-size f x h)))

@@ -1,0 +1,62 @@
+-- The code's terms and items as those of totals_spec.
+use mathlib.Core.Path.{_≡_}
+use mathlib.Core.Bool.{Bool, true, false}
+use Prim.Native.Nat.{ℕ, _+_, _-_, _*_, _^_, _<_}
+use Rattle.totals_spec.specs.Format as spec
+use Rattle.totals_spec.specs.Settings as env
+use Rattle.totals_spec.specs.Decode as dec
+use Rattle.totals_spec.specs.Terms as terms
+use Rattle.binary.specs.Joined.{Plain}
+use Rattle.arithmetic.specs.declared.Term.{Term}
+use Rattle.arithmetic.specs.declared.Item.{Item}
+use Rattle.arithmetic.specs.declared.Item.the-variants as item
+
+-- ---- terms
+
+unfoldable pub magnitude : Term → ℕ
+magnitude t = (t .high * 2 ^ 64 + t .low) * 2 ^ (t .shift)
+
+-- the code's term of an item: what is no term has magnitude 0
+abbrev pub StandsFor : Term → terms.Item → Type 0
+StandsFor t (terms.term s) = (magnitude t ≡ s .mag) × (t .negative ≡ s .neg) × (t .shift < 1073741824)
+StandsFor t terms.nanItem = (magnitude t ≡ 0) × (t .shift < 1073741824)
+StandsFor t terms.invalidItem = (magnitude t ≡ 0) × (t .shift < 1073741824)
+StandsFor t (terms.infinite s) = (magnitude t ≡ 0) × (t .shift < 1073741824)
+StandsFor t (terms.zeroItem s) = (magnitude t ≡ 0) × (t .shift < 1073741824)
+
+-- a decoded value of a format with at most 28 exponent bits
+abbrev pub Bounded : dec.Unpacked → Type 0
+Bounded (dec.zeroOf s) = Unit
+Bounded (dec.finite s k m) = (k < 268435456) × (0 < m)
+Bounded (dec.infinity s) = Unit
+Bounded (dec.nan s g m) = Unit
+
+-- the code's item keeps of a term its position alone
+abbrev pub itemOf : terms.Item → Item
+itemOf terms.nanItem = item.Nan
+itemOf terms.invalidItem = item.Invalid
+itemOf (terms.infinite s) = item.Infinite s
+itemOf (terms.zeroItem s) = item.Zero s
+itemOf (terms.term t) = item.Top (t .top)
+
+abbrev pub BothPlain : Bool → spec.Format → ℕ → ℕ → Type 0
+BothPlain true f x y = Plain true f x × Plain true f y
+BothPlain false f x y = Unit
+
+abbrev pub plainNumber : spec.Format → ℕ → dec.Unpacked
+plainNumber f b = dec.finite (dec.signBit f b) (dec.fieldOf f b - 1) (2 ^ spec.fractionBits f + dec.fractionOf f b)
+
+-- the product of two normal numbers
+abbrev pub plainProduct : spec.Format → ℕ → ℕ → terms.Term
+plainProduct f x y =
+    terms.product (terms.unlike (dec.signBit f x) (dec.signBit f y)) (dec.fieldOf f x - 1) (2 ^ spec.fractionBits f + dec.fractionOf f x)
+    (dec.fieldOf f y - 1) (2 ^ spec.fractionBits f + dec.fractionOf f y)
+
+-- a position r above 0 says that the element (the pair) is a term there, neither subnormal nor a NaN; 0 says nothing
+abbrev pub PlainTop : ℕ → spec.Format → env.Summand → ℕ → Type 0
+PlainTop r f u b = 0 < r → (c : env.Settings) → (dec.isSubnormal f b ≡ false) × (dec.isNan (dec.decode f b) ≡ false) × (itemOf (terms.item f c u b) ≡ item.Top r)
+
+abbrev pub PlainPairTop : ℕ → spec.Format → ℕ → ℕ → Type 0
+PlainPairTop r f x y =
+    0 < r → (c : env.Settings) → (dec.isSubnormal f x ≡ false) × (dec.isSubnormal f y ≡ false) × (dec.isNan (dec.decode f x) ≡ false) × (dec.isNan (dec.decode f y) ≡ false)
+    × (itemOf (terms.pairItem f c (x, y)) ≡ item.Top r)

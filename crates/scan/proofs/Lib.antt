@@ -1,0 +1,5 @@
+pub mod Choice
+pub mod Step
+pub mod Lists
+pub mod Updates
+pub mod Special

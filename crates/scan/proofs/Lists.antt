@@ -1,0 +1,163 @@
+-- The scan of a list, and of the pairs of a dot, with one element more: what `take` and `take_pair` give, and a turn of a walk. Nothing here is about
+-- words: the list may lie anywhere.
+use mathlib.Core.Path.{_≡_, refl, sym, ap, ap₂, _∙_}
+use mathlib.Core.Bool.{Bool, false, _||_, or-false, or-assoc}
+use mathlib.Core.List.{List, [], _∷_, _++_, map, map-append}
+use Prim.Native.Nat.{ℕ, _+_, _≤_, _<_, max}
+use native.Mathlib.Omega.{arith}
+use lib.ListN.{length, take, getD}
+use Rattle.totals_spec.specs.Basics.{keep}
+use Rattle.totals_spec.specs.Format as spec
+use Rattle.totals_spec.specs.Settings as env
+use Rattle.totals_spec.specs.Decode as dec
+use Rattle.totals_spec.specs.Nan as nans
+use Rattle.totals_spec.specs.Terms as terms
+use Rattle.totals_spec.specs.Totals as totals
+use Rattle.totals_spec.proofs.Good.{AllGood, good-terms, good-pairs}
+use Rattle.totals_spec.proofs.Tops.{top-high}
+use Rattle.totals_spec.proofs.Order.{item-nan, pair-nan, pairs-length}
+use Rattle.binary.specs.Joined.{nanOf}
+use Rattle.arithmetic.specs.Joined.{itemOf, PlainTop, PlainPairTop}
+use Rattle.arithmetic.proofs.Pairs.{pairs-at}
+use Rattle.scan.specs.declared.Scan.{Scan}
+use Rattle.scan.specs.Joined.{topOfItem, taken, raised, seen, ifNan, Reads, ScannedPairs, Takes, TakesPair}
+use Rattle.scan.proofs.Choice.{if-left, if-right, if-signaling, none-signaling, decoded-encodes, operand-held}
+use Rattle.scan.proofs.Step.{Reading, Plainly, over-taken, walk-taken, walk-plain, walk-done}
+
+-- ---- what was read
+
+module _ (rule : ℕ) where
+  -- an operand reads as any value with the same NaN in it
+  reads-as : (sub : Bool) (v w : dec.Unpacked) (s r : Scan) → ifNan v ≡ ifNan w → Reads rule sub v s r → Reads rule sub w s r
+  reads-as sub v w s r e h = record {
+    rest = h .rest ∙ ap (λ b. seen sub b (r .nan) s) (sym (if-signaling v) ∙ ap dec.isSignaling e ∙ if-signaling w);
+    nan = h .nan ∙ sym (if-right (env.propagationOf rule) (nanOf (s .nan)) v) ∙ ap (λ y. ifNan (nans.choose (env.propagationOf rule) (nanOf (s .nan)) y)) e
+        ∙ if-right (env.propagationOf rule) (nanOf (s .nan)) w;
+  }
+
+  -- two operands read
+  module _ (sub sub₁ : Bool) (v w : dec.Unpacked) (s t r : Scan) (h : Reads rule sub v s t) (k : Reads rule sub₁ w t r) where
+    twice-rest : r ≡ seen (sub || sub₁) (dec.isSignaling v || dec.isSignaling w) (r .nan) s
+    twice-rest = k .rest ∙ ap (seen sub₁ (dec.isSignaling w) (r .nan)) (h .rest) ∙ (λ j. record {
+      subnormal = or-assoc (s .subnormal) sub sub₁ j;
+      signaling = or-assoc (s .signaling) (dec.isSignaling v) (dec.isSignaling w) j;
+      invalid = s .invalid;
+      «positive_infinity» = s .«positive_infinity»;
+      «negative_infinity» = s .«negative_infinity»;
+      «positive_zero» = s .«positive_zero»;
+      «negative_zero» = s .«negative_zero»;
+      top = s .top;
+      nan = r .nan;
+    })
+
+    twice-nan : nanOf (r .nan) ≡ ifNan (nans.chosenOf (env.propagationOf rule) (nanOf (s .nan)) (v ∷ w ∷ []))
+    twice-nan =
+        k .nan ∙ ap (λ x. ifNan (nans.choose (env.propagationOf rule) x w)) (h .nan)
+        ∙ if-left (env.propagationOf rule) (nans.choose (env.propagationOf rule) (nanOf (s .nan)) v) w
+
+-- a term lies above position 0
+pub placed : (i : terms.Item) → AllGood (keep (terms.termOf i) []) → topOfItem (itemOf i) ≡ 0 → keep (terms.termOf i) [] ≡ []
+placed terms.nanItem g e = refl
+placed terms.invalidItem g e = refl
+placed (terms.infinite s) g e = refl
+placed (terms.zeroItem s) g e = refl
+placed (terms.term t) g e = absurd (none (t .top) (top-high t (g .0)) e)
+  where
+    none : (n : ℕ) → 1024 ≤ n → n ≡ 0 → ⊥
+    none n h e = omega arith
+
+-- ---- the elements of a list
+
+module _ (f : spec.Format) (c : env.Settings) (u : env.Summand) where
+  abbrev pub list : Reading f ℕ
+  list = record {
+    subnormal = dec.isSubnormal f;
+    signaling = λ b. dec.isSignaling (dec.decode f b);
+    operands = λ b. dec.decode f b ∷ [];
+    item = terms.item f c u;
+    all = map (dec.decode f);
+    all-more = λ l b. map-append (dec.decode f) l (b ∷ []);
+    adds = λ b. record {
+      nan = item-nan f c u b ∙ sym (or-false (dec.isNan (dec.decode f b)));
+      encode = (decoded-encodes f b, tt);
+      placed = placed (terms.item f c u b) (good-terms f c u (b ∷ []));
+    };
+  }
+
+  -- what `take` gives
+  pub list-taken : (b : ℕ) (s t r : Scan) → Reads (c .nanPropagation) (dec.isSubnormal f b) (dec.operand f c b) s t → r ≡ taken (itemOf (terms.item f c u b)) t → Takes f c u b s r
+  list-taken b s t r h e l apart =
+      let k = reads-as (c .nanPropagation) (dec.isSubnormal f b) (dec.operand f c b) (dec.decode f b) s t (operand-held f c b) h in
+      over-taken f c list l b s r (t .nan) (e ∙ ap (taken (itemOf (terms.item f c u b))) (k .rest)) (k .nan) apart
+
+  -- what `plain_top` says
+  pub list-plainly : (b p : ℕ) → 0 < p → PlainTop p f u b → Plainly f c list b p
+  list-plainly b p z h =
+      let a = h z c in
+      record { subnormal = a .0; signaling = none-signaling (dec.decode f b) (a .1); nan = or-false (dec.isNan (dec.decode f b)) ∙ a .1; item = a .2 }
+
+-- ---- the pairs of a dot
+
+pub operands-more : (f : spec.Format) (l : List (ℕ × ℕ)) (x : ℕ × ℕ) → totals.operands f (l ++ (x ∷ [])) ≡ totals.operands f l ++ (dec.decode f (x .0) ∷ dec.decode f (x .1) ∷ [])
+operands-more f [] x = refl
+operands-more f (y ∷ l) x = ap (λ r. dec.decode f (y .0) ∷ dec.decode f (y .1) ∷ r) (operands-more f l x)
+
+neither : (a b : Bool) → a ≡ false → b ≡ false → (a || b) ≡ false
+neither a b p q = rw (p, q)
+
+module _ (f : spec.Format) (c : env.Settings) where
+  abbrev pub dot : Reading f (ℕ × ℕ)
+  dot = record {
+    subnormal = λ x. dec.isSubnormal f (x .0) || dec.isSubnormal f (x .1);
+    signaling = λ x. dec.isSignaling (dec.decode f (x .0)) || dec.isSignaling (dec.decode f (x .1));
+    operands = λ x. dec.decode f (x .0) ∷ dec.decode f (x .1) ∷ [];
+    item = terms.pairItem f c;
+    all = totals.operands f;
+    all-more = operands-more f;
+    adds = λ x. record {
+      nan = pair-nan f c x ∙ ap (λ b. dec.isNan (dec.decode f (x .0)) || b) (sym (or-false (dec.isNan (dec.decode f (x .1)))));
+      encode = (decoded-encodes f (x .0), (decoded-encodes f (x .1), tt));
+      placed = placed (terms.pairItem f c x) (good-pairs f c (x ∷ []));
+    };
+  }
+
+  -- what `take_pair` gives
+  pub pair-taken : (x y : ℕ) (s t q r : Scan) → Reads (c .nanPropagation) (dec.isSubnormal f x) (dec.operand f c x) s t
+      → Reads (c .nanPropagation) (dec.isSubnormal f y) (dec.operand f c y) t q → r ≡ taken (itemOf (terms.pairItem f c (x, y))) q → TakesPair f c (x, y) s r
+  pair-taken x y s t q r h k e l apart =
+      let a = reads-as (c .nanPropagation) (dec.isSubnormal f x) (dec.operand f c x) (dec.decode f x) s t (operand-held f c x) h in
+      let b = reads-as (c .nanPropagation) (dec.isSubnormal f y) (dec.operand f c y) (dec.decode f y) t q (operand-held f c y) k in
+      over-taken f c dot l (x, y) s r (q .nan)
+      (e ∙ ap (taken (itemOf (terms.pairItem f c (x, y)))) (twice-rest (c .nanPropagation) (dec.isSubnormal f x) (dec.isSubnormal f y) (dec.decode f x) (dec.decode f y) s t q a b))
+      (twice-nan (c .nanPropagation) (dec.isSubnormal f x) (dec.isSubnormal f y) (dec.decode f x) (dec.decode f y) s t q a b) apart
+
+  -- what `plain_pair_top` says
+  pub pair-plainly : (x y p : ℕ) → 0 < p → PlainPairTop p f x y → Plainly f c dot (x, y) p
+  pair-plainly x y p z h =
+      let a = h z c in
+      record {
+        subnormal = neither (dec.isSubnormal f x) (dec.isSubnormal f y) (a .0) (a .1);
+        signaling = neither (dec.isSignaling (dec.decode f x)) (dec.isSignaling (dec.decode f y)) (none-signaling (dec.decode f x) (a .2)) (none-signaling (dec.decode f y) (a .3));
+        nan = neither (dec.isNan (dec.decode f x)) (dec.isNan (dec.decode f y) || false) (a .2) (or-false (dec.isNan (dec.decode f y)) ∙ a .3);
+        item = a .4;
+      }
+
+  -- ---- the walk over two lists of one length: its invariant is about their pairs
+
+  module _ (xs ys : List ℕ) (n : length ys ≡ length xs) where
+    pub pairs-done : (i : ℕ) (s r : Scan) (t : ℕ) → i ≡ length xs → r ≡ raised t s → ScannedPairs f c (take i (totals.pairs xs ys)) (raised t s) → ScannedPairs f c (totals.pairs xs ys) r
+    pairs-done i s r t e = walk-done f c dot (totals.pairs xs ys) i s r t (e ∙ sym (pairs-length xs ys (sym n)))
+
+    -- a turn, at the elements x and y of index i
+    module _ (i x y : ℕ) (s : Scan) (t : ℕ) (h : i < length xs) (d : x ≡ getD xs i 0) (e : y ≡ getD ys i 0) (g : ScannedPairs f c (take i (totals.pairs xs ys)) (raised t s)) where
+      inside : i < length (totals.pairs xs ys)
+      inside = rw (pairs-length xs ys (sym n)) h
+
+      here : (x, y) ≡ getD (totals.pairs xs ys) i (0, 0)
+      here = ap₂ (λ a b. (a, b)) d e ∙ sym (pairs-at xs ys i n h)
+
+      pub pairs-taken : (r : Scan) → TakesPair f c (x, y) s r → ScannedPairs f c (take (i + 1) (totals.pairs xs ys)) (raised t r)
+      pairs-taken = walk-taken f c dot (totals.pairs xs ys) i (0, 0) (x, y) s t inside here g
+
+      pub pairs-plain : (p t′ : ℕ) → 0 < p → PlainPairTop p f x y → t′ ≡ max t p → ScannedPairs f c (take (i + 1) (totals.pairs xs ys)) (raised t′ s)
+      pairs-plain p t′ z a = walk-plain f c dot (totals.pairs xs ys) i (0, 0) (x, y) s t inside here g p t′ (pair-plainly x y p z a)

@@ -1,0 +1,200 @@
+-- One element more: what a scan has gathered with it. The same law serves elements of a list and pairs of a dot, taken or plainly normal.
+use mathlib.Core.Path.{_≡_, refl, sym, ap, ap₂, _∙_, subst}
+use mathlib.Core.Bool.{Bool, true, false, _||_, or-false}
+use mathlib.Core.List.{List, [], _∷_, _++_, map, map-append}
+use Prim.Native.Nat.{ℕ, _+_, _<_, max}
+use native.Mathlib.Nat.{max-zero}
+use native.Mathlib.Numerals.{add-one}
+use native.Mathlib.Omega.{arith}
+use lib.ListN.{length, take, getD}
+use lib.Seq.{take-suc, take-length}
+use Rattle.totals_spec.specs.Basics.{any, greatest, keep}
+use Rattle.totals_spec.specs.Format as spec
+use Rattle.totals_spec.specs.Settings as env
+use Rattle.totals_spec.specs.Decode as dec
+use Rattle.totals_spec.specs.Nan as nans
+use Rattle.totals_spec.specs.Terms as terms
+use Rattle.totals_spec.proofs.Walk.{any-append, greatest-append, picked-append}
+use Rattle.binary.specs.Joined.{nanOf}
+use Rattle.format.specs.Fits.{Encodes}
+use Rattle.binary.specs.declared.nan.Nan.{Nan}
+use Rattle.arithmetic.specs.declared.Item.{Item}
+use Rattle.arithmetic.specs.declared.Item.the-variants as item
+use Rattle.arithmetic.specs.Joined.{itemOf}
+use Rattle.scan.specs.declared.Scan.{Scan}
+use Rattle.scan.specs.Joined.{topOfItem, invalidOf, infiniteOf, zeroOf, taken, raised, seen, ifNan, Gathered}
+use Rattle.scan.proofs.Choice.{AllEncode, if-nan, held-some, held-if, chosen-append, chosen-held, chosen-nan, chosen-none, chosen-encodes}
+
+-- ---- what one item says, in the code and in totals_spec
+
+invalid-is : (i : terms.Item) → invalidOf (itemOf i) ≡ terms.isInvalid i
+invalid-is terms.nanItem = refl
+invalid-is terms.invalidItem = refl
+invalid-is (terms.infinite s) = refl
+invalid-is (terms.zeroItem s) = refl
+invalid-is (terms.term t) = refl
+
+infinite-is : (b : Bool) (i : terms.Item) → infiniteOf b (itemOf i) ≡ terms.isInfinite b i
+infinite-is b terms.nanItem = refl
+infinite-is b terms.invalidItem = refl
+infinite-is b (terms.infinite s) = refl
+infinite-is b (terms.zeroItem s) = refl
+infinite-is b (terms.term t) = refl
+
+zero-is : (b : Bool) (i : terms.Item) → zeroOf b (itemOf i) ≡ terms.isZero b i
+zero-is b terms.nanItem = refl
+zero-is b terms.invalidItem = refl
+zero-is b (terms.infinite s) = refl
+zero-is b (terms.zeroItem s) = refl
+zero-is b (terms.term t) = refl
+
+top-is : (i : terms.Item) → topOfItem (itemOf i) ≡ greatest terms.topOfTerm (keep (terms.termOf i) [])
+top-is terms.nanItem = refl
+top-is terms.invalidItem = refl
+top-is (terms.infinite s) = refl
+top-is (terms.zeroItem s) = refl
+top-is (terms.term t) = sym (max-zero (t .top))
+
+any-one : {A : Type 0} (p : A → Bool) (l : List A) (x : A) → any p (l ++ (x ∷ [])) ≡ (any p l || p x)
+any-one p l x = any-append p l (x ∷ []) ∙ ap (λ b. any p l || b) (or-false (p x))
+
+-- ---- one element more: its operands vs, and the item that it is
+
+pub record Adds (f : spec.Format) (vs : List dec.Unpacked) (i : terms.Item) : Type 0 where
+  pub nan : terms.isNanItem i ≡ any dec.isNan vs
+  pub encode : AllEncode f vs
+  pub placed : topOfItem (itemOf i) ≡ 0 → keep (terms.termOf i) [] ≡ []
+
+abbrev ruleOf : env.Settings → env.Propagation
+ruleOf c = env.propagationOf (c .nanPropagation)
+
+module _ (f : spec.Format) (c : env.Settings) where
+  gathered-more : (sub sig sub₁ sig₁ : Bool) (ops vs : List dec.Unpacked) (l : List terms.Item) (i : terms.Item) (s : Scan) (n : Nan)
+      → Gathered f c sub sig ops l s → Adds f vs i → nanOf n ≡ ifNan (nans.chosenOf (ruleOf c) (nanOf (s .nan)) vs)
+      → Gathered f c (sub || sub₁) (sig || sig₁) (ops ++ vs) (l ++ (i ∷ [])) (taken (itemOf i) (seen sub₁ sig₁ n s))
+  unfolding terms.topOf
+  gathered-more sub sig sub₁ sig₁ ops vs l i s n g a e =
+      record {
+        subnormal = ap (λ b. b || sub₁) (g .subnormal);
+        signaling = ap (λ b. b || sig₁) (g .signaling);
+        nan = e ∙ ap (λ x. ifNan (nans.chosenOf (ruleOf c) x vs)) (g .nan) ∙ chosen-held (ruleOf c) (nans.chosenOf (ruleOf c) (dec.zeroOf false) ops) vs
+            ∙ ap ifNan (sym (chosen-append (ruleOf c) (dec.zeroOf false) ops vs));
+        some = sym (held-some n) ∙ ap dec.isNan e ∙ if-nan (nans.chosenOf (ruleOf c) (nanOf (s .nan)) vs) ∙ chosen-nan (ruleOf c) (nanOf (s .nan)) vs
+            ∙ ap₂ _||_ (held-some (s .nan) ∙ g .some) (sym (a .nan)) ∙ sym (any-one terms.isNanItem l i);
+        encodes = subst (Encodes f) (sym e) (chosen-encodes (ruleOf c) f (nanOf (s .nan)) vs (subst (Encodes f) (sym (held-if (s .nan))) (g .encodes)) (a .encode));
+        invalid = ap₂ _||_ (g .invalid) (invalid-is i) ∙ sym (any-one terms.isInvalid l i);
+        positive-infinity = ap₂ _||_ (g .positive-infinity) (infinite-is false i) ∙ sym (any-one (terms.isInfinite false) l i);
+        negative-infinity = ap₂ _||_ (g .negative-infinity) (infinite-is true i) ∙ sym (any-one (terms.isInfinite true) l i);
+        positive-zero = ap₂ _||_ (g .positive-zero) (zero-is false i) ∙ sym (any-one (terms.isZero false) l i);
+        negative-zero = ap₂ _||_ (g .negative-zero) (zero-is true i) ∙ sym (any-one (terms.isZero true) l i);
+        top = ap₂ max (g .top) (top-is i) ∙ sym (greatest-append terms.topOfTerm (terms.terms l) (keep (terms.termOf i) [])) ∙ ap (greatest terms.topOfTerm) (sym (picked-append terms.termOf l (i ∷ [])));
+        no-term = λ z. picked-append terms.termOf l (i ∷ []) ∙ ap₂ _++_ (g .no-term (omega (arith, z))) (a .placed (omega (arith, z)));
+      }
+
+-- ---- the same scan, written two ways
+
+taken-raised : (i : Item) (t : ℕ) (s : Scan) → raised t (taken i s) ≡ taken i (raised t s)
+taken-raised i t s = λ j. record {
+  subnormal = s .subnormal;
+  signaling = s .signaling;
+  invalid = s .invalid || invalidOf i;
+  «positive_infinity» = s .«positive_infinity» || infiniteOf false i;
+  «negative_infinity» = s .«negative_infinity» || infiniteOf true i;
+  «positive_zero» = s .«positive_zero» || zeroOf false i;
+  «negative_zero» = s .«negative_zero» || zeroOf true i;
+  top = e j;
+  nan = s .nan;
+}
+  where
+    e : max (max (s .top) (topOfItem i)) t ≡ max (max (s .top) t) (topOfItem i)
+    e = omega arith
+
+-- nothing is kept apart yet
+raised-none : (s : Scan) → s ≡ raised 0 s
+raised-none s = λ j. record {
+  subnormal = s .subnormal;
+  signaling = s .signaling;
+  invalid = s .invalid;
+  «positive_infinity» = s .«positive_infinity»;
+  «negative_infinity» = s .«negative_infinity»;
+  «positive_zero» = s .«positive_zero»;
+  «negative_zero» = s .«negative_zero»;
+  top = sym (max-zero (s .top)) j;
+  nan = s .nan;
+}
+
+-- a plainly normal element only raises the position
+raised-more : (t p : ℕ) (s : Scan) → raised (max t p) s ≡ taken (item.Top p) (seen false false (s .nan) (raised t s))
+raised-more t p s = λ j. record {
+  subnormal = sym (or-false (s .subnormal)) j;
+  signaling = sym (or-false (s .signaling)) j;
+  invalid = sym (or-false (s .invalid)) j;
+  «positive_infinity» = sym (or-false (s .«positive_infinity»)) j;
+  «negative_infinity» = sym (or-false (s .«negative_infinity»)) j;
+  «positive_zero» = sym (or-false (s .«positive_zero»)) j;
+  «negative_zero» = sym (or-false (s .«negative_zero»)) j;
+  top = e j;
+  nan = s .nan;
+}
+  where
+    e : max (s .top) (max t p) ≡ max (max (s .top) t) p
+    e = omega arith
+
+-- ---- a list of elements
+
+-- how a list is read: the flags, the operands and the item of each element
+pub record Reading (f : spec.Format) (A : Type 0) : Type 0 where
+  pub subnormal : A → Bool
+  pub signaling : A → Bool
+  pub operands : A → List dec.Unpacked
+  pub item : A → terms.Item
+  pub all : List A → List dec.Unpacked
+  pub all-more : (l : List A) (x : A) → all (l ++ (x ∷ [])) ≡ all l ++ operands x
+  pub adds : (x : A) → Adds f (operands x) (item x)
+
+module _ {A : Type 0} (f : spec.Format) (c : env.Settings) (q : Reading f A) where
+  abbrev pub Over : List A → Scan → Type 0
+  Over l s = Gathered f c (any (q .subnormal) l) (any (q .signaling) l) (q .all l) (map (q .item) l) s
+
+  more : (l : List A) (x : A) (s : Scan) (n : Nan) → Over l s → nanOf n ≡ ifNan (nans.chosenOf (ruleOf c) (nanOf (s .nan)) (q .operands x))
+      → Over (l ++ (x ∷ [])) (taken (itemOf (q .item x)) (seen (q .subnormal x) (q .signaling x) n s))
+  more l x s n g e =
+      rw (any-one (q .subnormal) l x, any-one (q .signaling) l x, q .all-more l x, map-append (q .item) l (x ∷ []))
+      (gathered-more f c (any (q .subnormal) l) (any (q .signaling) l) (q .subnormal x) (q .signaling x) (q .all l) (q .operands x) (map (q .item) l) (q .item x) s n g (q .adds x) e)
+
+  -- an element that was taken, with a position t kept apart
+  pub over-taken : (l : List A) (x : A) (s r : Scan) (n : Nan) → r ≡ taken (itemOf (q .item x)) (seen (q .subnormal x) (q .signaling x) n s)
+      → nanOf n ≡ ifNan (nans.chosenOf (ruleOf c) (nanOf (s .nan)) (q .operands x)) → (t : ℕ) → Over l (raised t s) → Over (l ++ (x ∷ [])) (raised t r)
+  over-taken l x s r n e h t g =
+      subst (Over (l ++ (x ∷ []))) (sym (ap (raised t) e ∙ taken-raised (itemOf (q .item x)) t (seen (q .subnormal x) (q .signaling x) n s))) (more l x (raised t s) n g h)
+
+  -- an element that is plainly normal, with its position p
+  pub record Plainly (x : A) (p : ℕ) : Type 0 where
+    pub subnormal : q .subnormal x ≡ false
+    pub signaling : q .signaling x ≡ false
+    pub nan : any dec.isNan (q .operands x) ≡ false
+    pub item : itemOf (q .item x) ≡ item.Top p
+
+  over-plain : (l : List A) (x : A) (p : ℕ) (s : Scan) (t : ℕ) → Plainly x p → Over l (raised t s) → Over (l ++ (x ∷ [])) (raised (max t p) s)
+  over-plain l x p s t h g =
+      subst (Over (l ++ (x ∷ []))) (sym (raised-more t p s ∙ rw (h .subnormal, h .signaling, h .item)))
+      (more l x (raised t s) (s .nan) g (sym (chosen-none (ruleOf c) (nanOf (s .nan)) (q .operands x) (h .nan) ∙ held-if (s .nan))))
+
+  -- ---- a walk: the scan s and the position t kept apart are, together, the scan of the first i elements
+
+  pub walk-start : (l : List A) (s : Scan) → Over [] s → Over (take 0 l) (raised 0 s)
+  walk-start l s = subst (Over []) (raised-none s)
+
+  pub walk-done : (l : List A) (i : ℕ) (s r : Scan) (t : ℕ) → i ≡ length l → r ≡ raised t s → Over (take i l) (raised t s) → Over l r
+  walk-done l i s r t e h g = rw h (subst (λ k. Over k (raised t s)) (ap (λ (n : ℕ). take n l) e ∙ take-length l) g)
+
+  -- a turn, at the element x of index i
+  module _ (l : List A) (i : ℕ) (d x : A) (s : Scan) (t : ℕ) (h : i < length l) (e : x ≡ getD l i d) (g : Over (take i l) (raised t s)) where
+    next : (r : Scan) → Over (take i l ++ (x ∷ [])) r → Over (take (i + 1) l) r
+    next r = subst (λ k. Over k r) (ap (λ y. take i l ++ (y ∷ [])) e ∙ sym (take-suc l i d h) ∙ ap (λ (n : ℕ). take n l) (sym (add-one i)))
+
+    pub walk-taken : (r : Scan) → ((k : List A) (t : ℕ) → Over k (raised t s) → Over (k ++ (x ∷ [])) (raised t r)) → Over (take (i + 1) l) (raised t r)
+    walk-taken r m = next (raised t r) (m (take i l) t g)
+
+    pub walk-plain : (p t′ : ℕ) → Plainly x p → t′ ≡ max t p → Over (take (i + 1) l) (raised t′ s)
+    walk-plain p t′ a m = next (raised t′ s) (subst (λ (y : ℕ). Over (take i l ++ (x ∷ [])) (raised y s)) (sym m) (over-plain (take i l) x p s t a g))

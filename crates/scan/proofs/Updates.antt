@@ -1,0 +1,155 @@
+-- What each update of a scan leaves, and the scan of nothing.
+use mathlib.Core.Path.{_≡_, refl, sym, ap, _∙_, subst}
+use mathlib.Core.Logic.{_⊎_, inl, inr}
+use mathlib.Core.Bool.{Bool, true, false, not, _||_, cond, or-true, or-false}
+use mathlib.Core.List.{[], _∷_}
+use Prim.Native.Nat.{ℕ, max}
+use native.Mathlib.Omega.{arith}
+use types.Run.{OneOf}
+use denote.Enum.Declared.{tagOf}
+use Rattle.totals_spec.specs.Format as spec
+use Rattle.totals_spec.specs.Settings as env
+use Rattle.totals_spec.specs.Decode as dec
+use Rattle.totals_spec.specs.Nan as nans
+use Rattle.totals_spec.specs.Terms as terms
+use Rattle.format.proofs.unpacked.Unpacked.{the-type}
+use Rattle.format.specs.declared.unpacked.Unpacked.{Unpacked}
+use Rattle.format.specs.declared.unpacked.Unpacked.the-variants as unpacked
+use Rattle.format.specs.Joined.{unpackedOf}
+use Rattle.binary.specs.Joined.{nanOf}
+use Rattle.format.specs.Fits.{Encodes}
+use Rattle.binary.specs.declared.nan.Nan.{Nan}
+use Rattle.arithmetic.specs.declared.Item.{Item}
+use Rattle.scan.specs.declared.Scan.{Scan}
+use Rattle.scan.specs.Joined.{topOfItem, invalidOf, infiniteOf, zeroOf, taken, ifNan, Reads, Gathered, nanDecides}
+use Rattle.scan.proofs.Choice.{held-if, choose-none, none-signaling}
+
+-- ---- the scan of nothing
+
+pub gathered-none : (n : Nan) → n .some ≡ false → (f : spec.Format) (c : env.Settings) → Gathered f c false false [] [] (record {
+  subnormal = false;
+  signaling = false;
+  invalid = false;
+  «positive_infinity» = false;
+  «negative_infinity» = false;
+  «positive_zero» = false;
+  «negative_zero» = false;
+  top = 0;
+  nan = n;
+})
+unfolding terms.topOf
+gathered-none n e f c =
+    let none : nanOf n ≡ dec.zeroOf false = rw e in
+    record {
+      subnormal = refl;
+      signaling = refl;
+      nan = none;
+      some = e;
+      encodes = subst (Encodes f) (sym none) tt;
+      invalid = refl;
+      positive-infinity = refl;
+      negative-infinity = refl;
+      positive-zero = refl;
+      negative-zero = refl;
+      top = refl;
+      no-term = λ z. refl;
+    }
+
+-- ---- one item: what it does not set stays
+
+set-or : (x b : Bool) → cond x true b ≡ (b || x)
+set-or true b = sym (or-true b)
+set-or false b = sym (or-false b)
+
+pub taken-is : (s : Scan) (i : Item) (t : ℕ) → t ≡ max (s .top) (topOfItem i) → _≡_ {A = Scan} (record {
+  subnormal = s .subnormal;
+  signaling = s .signaling;
+  invalid = cond (invalidOf i) true (s .invalid);
+  «positive_infinity» = cond (infiniteOf false i) true (s .«positive_infinity»);
+  «negative_infinity» = cond (infiniteOf true i) true (s .«negative_infinity»);
+  «positive_zero» = cond (zeroOf false i) true (s .«positive_zero»);
+  «negative_zero» = cond (zeroOf true i) true (s .«negative_zero»);
+  top = t;
+  nan = s .nan;
+}) (taken i s)
+taken-is s i t e = λ j. record {
+  subnormal = s .subnormal;
+  signaling = s .signaling;
+  invalid = set-or (invalidOf i) (s .invalid) j;
+  «positive_infinity» = set-or (infiniteOf false i) (s .«positive_infinity») j;
+  «negative_infinity» = set-or (infiniteOf true i) (s .«negative_infinity») j;
+  «positive_zero» = set-or (zeroOf false i) (s .«positive_zero») j;
+  «negative_zero» = set-or (zeroOf true i) (s .«negative_zero») j;
+  top = e j;
+  nan = s .nan;
+}
+
+-- ---- an operand read
+
+-- the arms of a match other than that of a NaN
+pub other-arm : (v : Unpacked) → OneOf (0 ∷ 1 ∷ 2 ∷ []) (tagOf the-type v) → dec.isNan (unpackedOf v) ≡ false
+other-arm (unpacked.Zero s) h = refl
+other-arm (unpacked.Finite s k m) h = refl
+other-arm (unpacked.Infinity s) h = refl
+other-arm (unpacked.Nan s g m) h = absurd (none h)
+  where
+    none : (_≡_ {A = ℕ} 3 0) ⊎ ((_≡_ {A = ℕ} 3 1) ⊎ (_≡_ {A = ℕ} 3 2)) → ⊥
+    none (inl e) = omega arith
+    none (inr (inl e)) = omega arith
+    none (inr (inr e)) = omega arith
+
+module _ (rule : ℕ) (s : Scan) where
+  -- a scan with the first two flags and the NaN set
+  abbrev with : Bool → Bool → Nan → Scan
+  with sub sig n = record {
+    subnormal = sub;
+    signaling = sig;
+    invalid = s .invalid;
+    «positive_infinity» = s .«positive_infinity»;
+    «negative_infinity» = s .«negative_infinity»;
+    «positive_zero» = s .«positive_zero»;
+    «negative_zero» = s .«negative_zero»;
+    top = s .top;
+    nan = n;
+  }
+
+  same : {sub sub′ sig sig′ : Bool} (n : Nan) → sub ≡ sub′ → sig ≡ sig′ → with sub sig n ≡ with sub′ sig′ n
+  same n e h = λ j. with (e j) (h j) n
+
+  pub read-none : (v : dec.Unpacked) (sub b : Bool) → dec.isNan v ≡ false → b ≡ (s .subnormal || sub) → Reads rule sub v s (with b (s .signaling) (s .nan))
+  read-none v sub b e h = record {
+    rest = same (s .nan) h (sym (ap (λ g. s .signaling || g) (none-signaling v e) ∙ or-false (s .signaling)));
+    nan = sym (choose-none (env.propagationOf rule) (nanOf (s .nan)) v e ∙ held-if (s .nan));
+  }
+
+  pub read-nan : (v : dec.Unpacked) (sub b : Bool) (r : Scan) → b ≡ (s .subnormal || sub) → Reads rule false v (with b (s .signaling) (s .nan)) r → Reads rule sub v s r
+  read-nan v sub b r h k = record {
+    rest = k .rest ∙ same (r .nan) (or-false b ∙ h) refl;
+    nan = k .nan;
+  }
+
+  pub nan-read : (n m : Nan) (b : Bool) → n .some ≡ true → b ≡ (s .signaling || n .signaling) → nanOf m ≡ nans.choose (env.propagationOf rule) (nanOf (s .nan)) (nanOf n)
+      → Reads rule false (nanOf n) s (with (s .subnormal) b m)
+  nan-read n m b e h k = record {
+    rest = same m (sym (or-false (s .subnormal))) (h ∙ ap (λ g. s .signaling || g) (sym (ap dec.isSignaling is)));
+    nan = sym (held-if m) ∙ ap ifNan k;
+  }
+    where
+      is : nanOf n ≡ dec.nan (n .negative) (n .signaling) (n .payload)
+      is = rw e
+
+-- ---- whether a NaN decides
+
+module _ (first : Bool) (s : Scan) where
+  pub no-nan : s .nan .some ≡ false → false ≡ nanDecides first s
+  no-nan e = rw e
+
+  module _ (e : s .nan .some ≡ true) where
+    pub nan-alone : first ≡ false → true ≡ nanDecides first s
+    nan-alone h = rw (e, h)
+
+    pub nan-signals : first ≡ true → s .signaling ≡ true → true ≡ nanDecides first s
+    nan-signals h k = rw (e, h, k)
+
+    pub nan-quiet : first ≡ true → s .signaling ≡ false → not (s .«positive_infinity») ≡ nanDecides first s
+    nan-quiet h k = rw (e, h, k)

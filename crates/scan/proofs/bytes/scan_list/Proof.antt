@@ -1,0 +1,108 @@
+-- `scan::bytes::scan_list` meets its contract. The invariant: the scan, raised to the position kept apart, is that of the first i values.
+use mathlib.Core.Path.{_≡_}
+use Prim.Native.Nat.{_≤_, _-_, _/_, _<_, max}
+use native.Mathlib.Numerals.{add-one-le}
+use native.Mathlib.Omega.{arith}
+use borrow.Author.Needs.{needs}
+use lib.ListN.{length, take}
+use Rattle.totals_spec.specs.Settings.{summandOf}
+use Rattle.totals_spec.specs.Bytes.{valuesIn}
+use Rattle.totals_spec.proofs.Values.{values-length}
+use Rattle.format.specs.Joined.{formatOf, settingsOf}
+use Rattle.scan.specs.Joined.{raised, Scanned}
+use Rattle.scan.proofs.Step.{walk-start, walk-taken, walk-plain, walk-done}
+use Rattle.scan.proofs.Lists.{list, list-plainly}
+use Rattle.scan.proofs.bytes.scan_list.Statement.{statement}
+use Rattle.scan.proofs.bytes.scan_list.Tie as tie
+
+abbrev Inv-loop : tie.InvT-loop
+Inv-loop f c u values s₀ top₀ n i₀ s top i = (i ≤ n) × (n ≡ length values / 8) × Scanned (formatOf f) (settingsOf c) (summandOf u) (take i (valuesIn values)) (raised top s)
+
+abbrev μ-loop : tie.MeasureT-loop
+μ-loop f c u values s₀ top₀ n i₀ s top i = n - i
+
+new-requires : tie.Need-new-requires Inv-loop μ-loop
+new-requires c κs = search needs
+
+loop-holds : tie.Need-loop-holds Inv-loop μ-loop
+loop-holds c =
+    let a = c .before .before .args in
+    (search needs, search needs, walk-start (formatOf (a .f)) (settingsOf (a .c)) (list (formatOf (a .f)) (settingsOf (a .c)) (summandOf (a .u))) (valuesIn (a .values .now)) (c .new .result) (c .new .ensures .0 (formatOf (a .f)) (settingsOf (a .c)) (summandOf (a .u))))
+
+word-at-requires : tie.Need-word-at-requires Inv-loop μ-loop
+word-at-requires c κs = search needs
+
+add-i : tie.Need-add-i Inv-loop μ-loop
+add-i c = search needs
+
+plain-top-requires : tie.Need-plain-top-requires Inv-loop μ-loop
+plain-top-requires c κs = search needs
+
+take-requires : tie.Need-take-requires Inv-loop μ-loop
+take-requires c κs = search needs
+
+loop-less : tie.Need-loop-less Inv-loop μ-loop
+loop-less c = search needs
+
+loop-again : tie.Need-loop-again Inv-loop μ-loop
+loop-again c =
+    let a = c .before .before .before .before .before .before .before .before .args in
+    let p = c .before .before .before .before .before .loop in
+    let h = c .before .before .before .before .loop-test .taken in
+    (add-one-le h, p .inv .1, walk-taken (formatOf (a .f)) (settingsOf (a .c)) (list (formatOf (a .f)) (settingsOf (a .c)) (summandOf (a .u))) (valuesIn (a .values .now)) (p .i) 0 _ (p .s) (p .top) (omega (arith, values-length (a .values .now), p .inv .1)) (c .before .before .before .word-at .ensures) (p .inv .2) (c .take .result) (c .take .ensures))
+
+loop-less-2 : tie.Need-loop-less-2 Inv-loop μ-loop
+loop-less-2 c = search needs
+
+loop-again-2 : tie.Need-loop-again-2 Inv-loop μ-loop
+loop-again-2 c =
+    let a = c .before .before .before .before .before .before .before .before .args in
+    let p = c .before .before .before .before .before .loop in
+    let h = c .before .before .before .before .loop-test .taken in
+    let at = c .before .before .plain-top .result in
+    let z : 0 < at = omega arith in
+    let m : at ≡ max (p .top) at = omega arith in
+    (add-one-le h, p .inv .1, walk-plain (formatOf (a .f)) (settingsOf (a .c)) (list (formatOf (a .f)) (settingsOf (a .c)) (summandOf (a .u))) (valuesIn (a .values .now)) (p .i) 0 _ (p .s) (p .top) (omega (arith, values-length (a .values .now), p .inv .1)) (c .before .before .before .word-at .ensures) (p .inv .2) at at (list-plainly (formatOf (a .f)) (settingsOf (a .c)) (summandOf (a .u)) _ at z (c .before .before .plain-top .ensures)) m)
+
+loop-less-3 : tie.Need-loop-less-3 Inv-loop μ-loop
+loop-less-3 c = search needs
+
+loop-again-3 : tie.Need-loop-again-3 Inv-loop μ-loop
+loop-again-3 c =
+    let a = c .before .before .before .before .before .before .before .before .args in
+    let p = c .before .before .before .before .before .loop in
+    let h = c .before .before .before .before .loop-test .taken in
+    let at = c .before .before .plain-top .result in
+    let z : 0 < at = omega arith in
+    let m : p .top ≡ max (p .top) at = omega arith in
+    (add-one-le h, p .inv .1, walk-plain (formatOf (a .f)) (settingsOf (a .c)) (list (formatOf (a .f)) (settingsOf (a .c)) (summandOf (a .u))) (valuesIn (a .values .now)) (p .i) 0 _ (p .s) (p .top) (omega (arith, values-length (a .values .now), p .inv .1)) (c .before .before .before .word-at .ensures) (p .inv .2) at (p .top) (list-plainly (formatOf (a .f)) (settingsOf (a .c)) (summandOf (a .u)) _ at z (c .before .before .plain-top .ensures)) m)
+
+top-requires : tie.Need-top-requires Inv-loop μ-loop
+top-requires c κs = search needs
+
+returns : tie.Need-returns Inv-loop μ-loop
+returns c =
+    let a = c .before .before .before .before .before .args in
+    let p = c .before .before .loop in
+    walk-done (formatOf (a .f)) (settingsOf (a .c)) (list (formatOf (a .f)) (settingsOf (a .c)) (summandOf (a .u))) (valuesIn (a .values .now)) (p .i) (p .s) (c .top .result) (p .top) (omega (arith, values-length (a .values .now), p .inv .1)) (c .top .ensures) (p .inv .2)
+
+pub scan-list-spec : {M : Type 1} → statement M
+scan-list-spec =
+    tie.close
+    (tie.spec
+    Inv-loop
+    μ-loop
+    new-requires
+    loop-holds
+    word-at-requires
+    add-i
+    plain-top-requires
+    take-requires
+    loop-less
+    loop-again
+    loop-less-2
+    loop-again-2
+    loop-less-3
+    loop-again-3
+    top-requires
+    returns)

@@ -1,0 +1,112 @@
+-- `scan::bytes::scan_pairs` meets its contract. The invariant: the scan, raised to the position kept apart, is that of the first i pairs.
+use mathlib.Core.Path.{_≡_, sym, _∙_}
+use Prim.Native.Nat.{_≤_, _-_, _/_, _<_, max}
+use native.Mathlib.Numerals.{add-one-le}
+use native.Mathlib.Omega.{arith}
+use borrow.Author.Needs.{needs}
+use lib.ListN.{length, take}
+use Rattle.totals_spec.specs.Totals.{pairs}
+use Rattle.totals_spec.specs.Bytes.{valuesIn}
+use Rattle.totals_spec.proofs.Values.{values-length}
+use Rattle.format.specs.Joined.{formatOf, settingsOf}
+use Rattle.scan.specs.Joined.{raised, ScannedPairs}
+use Rattle.scan.proofs.Step.{walk-start}
+use Rattle.scan.proofs.Lists.{dot, pairs-taken, pairs-plain, pairs-done}
+use Rattle.scan.proofs.bytes.scan_pairs.Statement.{statement}
+use Rattle.scan.proofs.bytes.scan_pairs.Tie as tie
+
+abbrev Inv-loop : tie.InvT-loop
+Inv-loop f c left right s₀ top₀ n i₀ s top i = (i ≤ n) × (n ≡ length left / 8) × ScannedPairs (formatOf f) (settingsOf c) (take i (pairs (valuesIn left) (valuesIn right))) (raised top s)
+
+abbrev μ-loop : tie.MeasureT-loop
+μ-loop f c left right s₀ top₀ n i₀ s top i = n - i
+
+new-requires : tie.Need-new-requires Inv-loop μ-loop
+new-requires c κs = search needs
+
+loop-holds : tie.Need-loop-holds Inv-loop μ-loop
+loop-holds c =
+    let a = c .before .before .before .args in
+    (search needs, search needs, walk-start (formatOf (a .f)) (settingsOf (a .c)) (dot (formatOf (a .f)) (settingsOf (a .c))) (pairs (valuesIn (a .left .now)) (valuesIn (a .right .now))) (c .new .result) (c .new .ensures .1 (formatOf (a .f)) (settingsOf (a .c))))
+
+word-at-requires : tie.Need-word-at-requires Inv-loop μ-loop
+word-at-requires c κs = search needs
+
+word-at-requires-2 : tie.Need-word-at-requires-2 Inv-loop μ-loop
+word-at-requires-2 c κs = omega (arith, c .before .before .loop .inv .1, c .before .before .before .before .before .before .pre .1)
+
+add-i : tie.Need-add-i Inv-loop μ-loop
+add-i c = search needs
+
+plain-pair-top-requires : tie.Need-plain-pair-top-requires Inv-loop μ-loop
+plain-pair-top-requires c κs = search needs
+
+take-pair-requires : tie.Need-take-pair-requires Inv-loop μ-loop
+take-pair-requires c κs = search needs
+
+loop-less : tie.Need-loop-less Inv-loop μ-loop
+loop-less c = search needs
+
+loop-again : tie.Need-loop-again Inv-loop μ-loop
+loop-again c =
+    let a = c .before .before .before .before .before .before .before .before .before .before .args in
+    let p = c .before .before .before .before .before .before .loop in
+    let h = c .before .before .before .before .before .loop-test .taken in
+    (add-one-le h, p .inv .1, pairs-taken (formatOf (a .f)) (settingsOf (a .c)) (valuesIn (a .left .now)) (valuesIn (a .right .now)) (values-length (a .right .now) ∙ c .before .before .before .before .before .before .before .before .before .before .pre .1 ∙ sym (values-length (a .left .now))) (p .i) _ _ (p .s) (p .top) (omega (arith, values-length (a .left .now), p .inv .1)) (c .before .before .before .before .word-at .ensures) (c .before .before .before .word-at2 .ensures) (p .inv .2) (c .take-pair .result) (c .take-pair .ensures))
+
+loop-less-2 : tie.Need-loop-less-2 Inv-loop μ-loop
+loop-less-2 c = search needs
+
+loop-again-2 : tie.Need-loop-again-2 Inv-loop μ-loop
+loop-again-2 c =
+    let a = c .before .before .before .before .before .before .before .before .before .before .args in
+    let p = c .before .before .before .before .before .before .loop in
+    let h = c .before .before .before .before .before .loop-test .taken in
+    let at = c .before .before .plain-pair-top .result in
+    let z : 0 < at = omega arith in
+    let m : at ≡ max (p .top) at = omega arith in
+    (add-one-le h, p .inv .1, pairs-plain (formatOf (a .f)) (settingsOf (a .c)) (valuesIn (a .left .now)) (valuesIn (a .right .now)) (values-length (a .right .now) ∙ c .before .before .before .before .before .before .before .before .before .before .pre .1 ∙ sym (values-length (a .left .now))) (p .i) _ _ (p .s) (p .top) (omega (arith, values-length (a .left .now), p .inv .1)) (c .before .before .before .before .word-at .ensures) (c .before .before .before .word-at2 .ensures) (p .inv .2) at at z (c .before .before .plain-pair-top .ensures) m)
+
+loop-less-3 : tie.Need-loop-less-3 Inv-loop μ-loop
+loop-less-3 c = search needs
+
+loop-again-3 : tie.Need-loop-again-3 Inv-loop μ-loop
+loop-again-3 c =
+    let a = c .before .before .before .before .before .before .before .before .before .before .args in
+    let p = c .before .before .before .before .before .before .loop in
+    let h = c .before .before .before .before .before .loop-test .taken in
+    let at = c .before .before .plain-pair-top .result in
+    let z : 0 < at = omega arith in
+    let m : p .top ≡ max (p .top) at = omega arith in
+    (add-one-le h, p .inv .1, pairs-plain (formatOf (a .f)) (settingsOf (a .c)) (valuesIn (a .left .now)) (valuesIn (a .right .now)) (values-length (a .right .now) ∙ c .before .before .before .before .before .before .before .before .before .before .pre .1 ∙ sym (values-length (a .left .now))) (p .i) _ _ (p .s) (p .top) (omega (arith, values-length (a .left .now), p .inv .1)) (c .before .before .before .before .word-at .ensures) (c .before .before .before .word-at2 .ensures) (p .inv .2) at (p .top) z (c .before .before .plain-pair-top .ensures) m)
+
+top-requires : tie.Need-top-requires Inv-loop μ-loop
+top-requires c κs = search needs
+
+returns : tie.Need-returns Inv-loop μ-loop
+returns c =
+    let a = c .before .before .before .before .before .before .args in
+    let p = c .before .before .loop in
+    pairs-done (formatOf (a .f)) (settingsOf (a .c)) (valuesIn (a .left .now)) (valuesIn (a .right .now)) (values-length (a .right .now) ∙ c .before .before .before .before .before .before .pre .1 ∙ sym (values-length (a .left .now))) (p .i) (p .s) (c .top .result) (p .top) (omega (arith, values-length (a .left .now), p .inv .1)) (c .top .ensures) (p .inv .2)
+
+pub scan-pairs-spec : {M : Type 1} → statement M
+scan-pairs-spec =
+    tie.close
+    (tie.spec
+    Inv-loop
+    μ-loop
+    new-requires
+    loop-holds
+    word-at-requires
+    word-at-requires-2
+    add-i
+    plain-pair-top-requires
+    take-pair-requires
+    loop-less
+    loop-again
+    loop-less-2
+    loop-again-2
+    loop-less-3
+    loop-again-3
+    top-requires
+    returns)

@@ -1,0 +1,62 @@
+// The scan of lists of bytes, eight to a value, little end first.
+use crate::Scan;
+use crate::take;
+use crate::take_pair;
+use arithmetic::plain_pair_top;
+use arithmetic::plain_top;
+use format::Format;
+use format::env::Settings;
+use values::word_at;
+ghost use mathlib.Core.Path.{_≡_};
+ghost use Prim.Native.Nat.{_/_};
+ghost use lib.ListN.{length};
+ghost use Rattle.totals_spec.specs.Settings as env;
+ghost use Rattle.totals_spec.specs.Totals as totals;
+ghost use Rattle.totals_spec.specs.Bytes as bytes;
+ghost use Rattle.totals_spec.specs.Bounds.{FormatBounds};
+ghost use Rattle.format.specs.Joined.{formatOf, settingsOf};
+ghost use Rattle.scan.specs.Joined.{Scanned, ScannedPairs};
+
+pub fn scan_list(f: Format, c: Settings, u: u64, values: &[u8]) -> Scan
+    requires { ⌜ FormatBounds (formatOf f) ⌝ }
+    ensures { λ r. ⌜ Scanned (formatOf f) (settingsOf c) (env.summandOf u) (bytes.valuesIn (now (values .entry))) r ⌝ }
+{
+    let mut s = Scan::new();
+    let mut top: u64 = 0;
+    let n = values.len() / 8;
+    let mut i: usize = 0;
+    while i < n {
+        let x = word_at(values, i);
+        i += 1;
+        let at = plain_top(f, u, x);
+        if at == 0 {
+            s = take(f, c, u, s, x);
+        } else if top < at {
+            top = at;
+        }
+    }
+    s.top(top)
+}
+
+pub fn scan_pairs(f: Format, c: Settings, left: &[u8], right: &[u8]) -> Scan
+    requires { ⌜ FormatBounds (formatOf f) ⌝ }
+    requires { ⌜ length (now right) / 8 ≡ length (now left) / 8 ⌝ }
+    ensures { λ r. ⌜ ScannedPairs (formatOf f) (settingsOf c) (totals.pairs (bytes.valuesIn (now (left .entry))) (bytes.valuesIn (now (right .entry)))) r ⌝ }
+{
+    let mut s = Scan::new();
+    let mut top: u64 = 0;
+    let n = left.len() / 8;
+    let mut i: usize = 0;
+    while i < n {
+        let x = word_at(left, i);
+        let y = word_at(right, i);
+        i += 1;
+        let at = plain_pair_top(f, x, y);
+        if at == 0 {
+            s = take_pair(f, c, s, x, y);
+        } else if top < at {
+            top = at;
+        }
+    }
+    s.top(top)
+}

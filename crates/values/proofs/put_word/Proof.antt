@@ -1,0 +1,63 @@
+-- `values::put_word` meets its contract.
+use native.Mathlib.Numerals.{add-one-le}
+use native.Mathlib.Omega.{arith}
+use Prim.Native.Nat.{_+_, _-_, _≤_}
+use borrow.Author.Needs.{needs}
+use lib.ListN.{length}
+use Rattle.values.proofs.Lay.{Lays, lays-start, lays-next, lays-end}
+use Rattle.values.proofs.put_word.Statement.{statement}
+use Rattle.values.proofs.put_word.Tie as tie
+
+abbrev Inv-loop : tie.InvT-loop
+Inv-loop buffer₀ at x rest₀ i₀ buffer rest i = (i ≤ 8) × (at + 8 ≤ length buffer) × Lays buffer₀ buffer at x i rest
+
+abbrev μ-loop : tie.MeasureT-loop
+μ-loop buffer₀ at x rest₀ i₀ buffer rest i = 8 - i
+
+loop-holds : tie.Need-loop-holds Inv-loop μ-loop
+loop-holds c = (search needs, search needs, lays-start _ _ _)
+
+cast-buffer : tie.Need-cast-buffer Inv-loop μ-loop
+cast-buffer c = search needs
+
+add-buffer : tie.Need-add-buffer Inv-loop μ-loop
+add-buffer c = search needs
+
+slice-write-buffer : tie.Need-slice-write-buffer Inv-loop μ-loop
+slice-write-buffer c = search needs
+
+add-i : tie.Need-add-i Inv-loop μ-loop
+add-i c = search needs
+
+loop-less : tie.Need-loop-less Inv-loop μ-loop
+loop-less c = search needs
+
+loop-again : tie.Need-loop-again Inv-loop μ-loop
+loop-again c =
+    let p = c .before .loop in
+    let a = c .before .before .args in
+    let h = c .loop-test .taken in
+    let n = lays-next (a .buffer .now) (p .buffer) (a .at) (a .x) (p .i) (p .rest) h (omega arith) (p .inv .2) in
+    (add-one-le h, omega (arith, n .long, p .inv .1, p .inv .2 .long), n)
+
+same-length : tie.Need-same-length Inv-loop μ-loop
+same-length c = c .before .loop .inv .2 .long
+
+returns : tie.Need-returns Inv-loop μ-loop
+returns c = lays-end _ _ _ _ (c .before .loop .i) (c .before .loop .rest) (omega arith) (c .before .loop .inv .2)
+
+pub put-word-spec : {M : Type 1} → statement M
+put-word-spec =
+    tie.close
+    (tie.spec
+    Inv-loop
+    μ-loop
+    loop-holds
+    cast-buffer
+    add-buffer
+    slice-write-buffer
+    add-i
+    loop-less
+    loop-again
+    same-length
+    returns)
