@@ -1,0 +1,178 @@
+-- One turn of a pass: the window and the lost bit of the first i elements, with the part of one more.
+use mathlib.Core.Path.{_≡_, refl, sym, ap, ap₂, _∙_, subst}
+use mathlib.Core.Bool.{Bool, true, false, _&&_, cond}
+use mathlib.Core.List.{List, [], _∷_, _++_, map}
+use Prim.Native.Nat.{ℕ, zero, suc, _+_, _-_, _*_, _/_, _%_, _^_, _≤_, _<_, max}
+use native.Mathlib.Nat.{add-zero, zero-div, max-zero}
+use native.Mathlib.Numerals.{add-one}
+use native.Mathlib.Omega.{arith}
+use lib.ListN.{length, take, getD, replicate}
+use lib.Seq.{take-suc, take-length}
+use lib.Pow.{pow-pos}
+use Rattle.limbs.specs.Value.{value, moved}
+use Rattle.totals_spec.specs.Basics.{total, greatest, keep, isSet}
+use Rattle.totals_spec.specs.Format as spec
+use Rattle.totals_spec.specs.Settings as env
+use Rattle.totals_spec.specs.Decode as dec
+use Rattle.totals_spec.specs.Terms as terms
+use Rattle.totals_spec.specs.Chain.{residue, half, lookAt, lostEnd, lostOf, cutPlus, cutMinus}
+use Rattle.totals_spec.proofs.Window.{residue-zero, residue-plus, residue-minus}
+use Rattle.totals_spec.specs.Totals.{pairs}
+use Rattle.totals_spec.proofs.Order.{pairs-length}
+use Rattle.arithmetic.proofs.Pairs.{pairs-at}
+use Rattle.totals_spec.proofs.Walk.{total-append, greatest-append, picked-append}
+use Rattle.arithmetic.specs.declared.Term.{Term}
+use Rattle.binary.specs.Joined.{Plain}
+use Rattle.window.specs.declared.Pass.{Pass}
+use Rattle.arithmetic.specs.Joined.{magnitude, StandsFor, plainNumber, plainProduct, BothPlain}
+use Rattle.arithmetic.proofs.Elements.{plainly, plain-item}
+use Rattle.arithmetic.proofs.Pairs.{both-plainly, plain-pair}
+use Rattle.window.specs.Joined.{Passed}
+use Rattle.window.proofs.Parted.{lost-of-zero}
+use Rattle.reduction.specs.Held.{Held, Adds}
+
+window : half + half ≡ 2 ^ 768
+unfolding half
+window = refl
+
+pub half-pos : 0 < half
+unfolding half
+half-pos = pow-pos 767
+
+-- ---- one part more
+
+pub moved-is : (neg : Bool) (a b x : ℕ) → moved neg (residue half a b) x ≡ residue half (a + cond neg 0 x) (b + cond neg x 0)
+moved-is false a b x =
+    ap (λ (n : ℕ). (residue half a b + x) % n) (sym window) ∙ sym (residue-plus half half-pos a b x) ∙ ap (λ (n : ℕ). residue half (a + x) n) (sym (add-zero b))
+moved-is true a b x =
+    ap (λ (n : ℕ). (residue half a b + (n - x % n)) % n) (sym window) ∙ sym (residue-minus half half-pos a b x) ∙ ap (λ (n : ℕ). residue half n (b + x)) (sym (add-zero a))
+
+-- what an element adds
+record Counts (w : ℕ) (t : Term) (i : terms.Item) : Type 0 where
+  pub plus : total (cutPlus w) (keep (terms.termOf i) []) ≡ cond (t .negative) 0 (magnitude t / 2 ^ w)
+  pub minus : total (cutMinus w) (keep (terms.termOf i) []) ≡ cond (t .negative) (magnitude t / 2 ^ w) 0
+  pub lost : greatest (lostOf w) (keep (terms.termOf i) []) ≡ lostEnd w (magnitude t)
+
+none-left : (w m : ℕ) (b : Bool) → m ≡ 0 → 0 ≡ cond b 0 (m / 2 ^ w)
+none-left w m true e = refl
+none-left w m false e = sym (ap (λ (n : ℕ). n / 2 ^ w) e ∙ zero-div (2 ^ w))
+
+none-right : (w m : ℕ) (b : Bool) → m ≡ 0 → 0 ≡ cond b (m / 2 ^ w) 0
+none-right w m true e = sym (ap (λ (n : ℕ). n / 2 ^ w) e ∙ zero-div (2 ^ w))
+none-right w m false e = refl
+
+some-left : (w m : ℕ) (b : Bool) → cond b 0 m / 2 ^ w + 0 ≡ cond b 0 (m / 2 ^ w)
+some-left w m true = add-zero (0 / 2 ^ w) ∙ zero-div (2 ^ w)
+some-left w m false = add-zero (m / 2 ^ w)
+
+some-right : (w m : ℕ) (b : Bool) → cond b m 0 / 2 ^ w + 0 ≡ cond b (m / 2 ^ w) 0
+some-right w m true = add-zero (m / 2 ^ w)
+some-right w m false = add-zero (0 / 2 ^ w) ∙ zero-div (2 ^ w)
+
+adds-term : (w : ℕ) (t : Term) (s : terms.Term) → magnitude t ≡ s .mag → t .negative ≡ s .neg → Counts w t (terms.term s)
+adds-term w t s m n = record {
+  plus = some-left w (s .mag) (s .neg) ∙ ap₂ (λ (b : Bool) (x : ℕ). cond b 0 (x / 2 ^ w)) (sym n) (sym m);
+  minus = some-right w (s .mag) (s .neg) ∙ ap₂ (λ (b : Bool) (x : ℕ). cond b (x / 2 ^ w) 0) (sym n) (sym m);
+  lost = max-zero (lostEnd w (s .mag)) ∙ ap (lostEnd w) (sym m);
+}
+
+adds-none : (w : ℕ) (t : Term) (i : terms.Item) → keep (terms.termOf i) [] ≡ [] → magnitude t ≡ 0 → Counts w t i
+adds-none w t i k m = record {
+  plus = ap (total (cutPlus w)) k ∙ none-left w (magnitude t) (t .negative) m;
+  minus = ap (total (cutMinus w)) k ∙ none-right w (magnitude t) (t .negative) m;
+  lost = ap (greatest (lostOf w)) k ∙ sym (ap (lostEnd w) m ∙ lost-of-zero w);
+}
+
+adds : (w : ℕ) (t : Term) (i : terms.Item) → StandsFor t i → Counts w t i
+adds w t (terms.term s) h = adds-term w t s (h .0) (h .1)
+adds w t terms.nanItem h = adds-none w t terms.nanItem refl (h .0)
+adds w t terms.invalidItem h = adds-none w t terms.invalidItem refl (h .0)
+adds w t (terms.infinite s) h = adds-none w t (terms.infinite s) refl (h .0)
+adds w t (terms.zeroItem s) h = adds-none w t (terms.zeroItem s) refl (h .0)
+
+-- the shift of a term that stands for an item is small
+pub shift-small : (t : Term) (i : terms.Item) → StandsFor t i → t .shift < 1073741824
+shift-small t (terms.term s) h = h .2
+shift-small t terms.nanItem h = h .1
+shift-small t terms.invalidItem h = h .1
+shift-small t (terms.infinite s) h = h .1
+shift-small t (terms.zeroItem s) h = h .1
+
+-- ---- the gathering of a list of items, and of one more
+
+pub held-none : (w : ℕ) → Held [] w 0 0
+unfolding lookAt
+held-none w = record { window = sym (residue-zero half half-pos); lost-is = refl }
+
+held-more : (ts : List terms.Term) (w v lost v′ lost′ : ℕ) (t : Term) (i : terms.Item) → StandsFor t i → Held ts w v lost
+    → v′ ≡ moved (t .negative) v (magnitude t / 2 ^ w) → lost′ ≡ max lost (lostEnd w (magnitude t)) → Held (ts ++ keep (terms.termOf i) []) w v′ lost′
+unfolding lookAt
+held-more ts w v lost v′ lost′ t i s h e g =
+    let a = adds w t i s in
+    record {
+      window = e ∙ ap (λ (n : ℕ). moved (t .negative) n (magnitude t / 2 ^ w)) (h .window)
+          ∙ moved-is (t .negative) (total (cutPlus w) ts) (total (cutMinus w) ts) (magnitude t / 2 ^ w)
+          ∙ ap₂ (λ (n m : ℕ). residue half (total (cutPlus w) ts + n) (total (cutMinus w) ts + m)) (sym (a .plus)) (sym (a .minus))
+          ∙ sym (ap₂ (λ (n m : ℕ). residue half n m) (total-append (cutPlus w) ts (keep (terms.termOf i) [])) (total-append (cutMinus w) ts (keep (terms.termOf i) [])));
+      lost-is = g ∙ ap₂ max (h .lost-is) (sym (a .lost)) ∙ sym (greatest-append (lostOf w) ts (keep (terms.termOf i) []));
+    }
+
+-- a term of the code that stands for an item is added for it
+pub adds-item : (w : ℕ) (i : terms.Item) (t : Term) (v lost v′ lost′ : ℕ) → StandsFor t i
+    → v′ ≡ moved (t .negative) v (magnitude t / 2 ^ w) → lost′ ≡ max lost (lostEnd w (magnitude t)) → Adds w i v lost v′ lost′
+adds-item w i t v lost v′ lost′ s e g ts h = held-more ts w v lost v′ lost′ t i s h e g
+
+map-append : {A B : Type 0} (f : A → B) (s t : List A) → map f (s ++ t) ≡ map f s ++ map f t
+map-append f [] t = refl
+map-append f (x ∷ s) t = ap (λ l. f x ∷ l) (map-append f s t)
+
+-- the terms of one element more
+terms-next : {A : Type 0} (f : A → terms.Item) (l : List A) (i : ℕ) (d : A) → i < length l
+    → terms.terms (map f (take (i + 1) l)) ≡ terms.terms (map f (take i l)) ++ keep (terms.termOf (f (getD l i d))) []
+terms-next f l i d h =
+    ap (λ n. terms.terms (map f (take n l))) (add-one i) ∙ ap (λ s. terms.terms (map f s)) (take-suc l i d h)
+    ∙ ap terms.terms (map-append f (take i l) (getD l i d ∷ [])) ∙ picked-append terms.termOf (map f (take i l)) (f (getD l i d) ∷ [])
+
+-- ---- the start and the end
+
+pub held-start : (w : ℕ) → Held [] w (value (replicate 12 0)) 0
+unfolding value
+held-start w = held-none w
+
+pub passed : (ts : List terms.Term) (w : ℕ) (q : Pass) → Held ts w (value (q .total)) (q .lost) → Passed ts w q
+passed ts w q h = record { total = h .window; lost = h .lost-is }
+
+-- ---- an element, or a pair, that is plainly normal
+
+pub plain-stands : (f : spec.Format) (c : env.Settings) (u : env.Summand) (x : ℕ) (b : Bool) (t : Term) → b ≡ true → Plain b f x
+    → StandsFor t (terms.itemOf u (plainNumber f x)) → StandsFor t (terms.item f c u x)
+plain-stands f c u x b t e h s = subst (λ (i : terms.Item). StandsFor t i) (plain-item f c u x (plainly b f x e h)) s
+
+pub pair-stands : (f : spec.Format) (c : env.Settings) (x y : ℕ) (b : Bool) (t : Term) → b ≡ true → BothPlain b f x y
+    → StandsFor t (terms.term (plainProduct f x y)) → StandsFor t (terms.pairItem f c (x, y))
+pair-stands f c x y b t e h s = subst (λ (i : terms.Item). StandsFor t i) (plain-pair f c x y (both-plainly b f x y e h)) s
+
+-- ---- a walk over the elements of a list, whatever they are: g says which item an element is
+
+module _ {A : Type 0} (g : A → terms.Item) (l : List A) (w : ℕ) where
+  -- one turn: x is the element i
+  pub held-turn : (d x : A) (i v lost v′ lost′ : ℕ) → i < length l → x ≡ getD l i d → Held (terms.terms (map g (take i l))) w v lost
+      → Adds w (g x) v lost v′ lost′ → Held (terms.terms (map g (take (i + 1) l))) w v′ lost′
+  held-turn d x i v lost v′ lost′ h e k a =
+      subst (λ (ts : List terms.Term). Held ts w v′ lost′)
+      (ap (λ (z : A). terms.terms (map g (take i l)) ++ keep (terms.termOf (g z)) []) e ∙ sym (terms-next g l i d h)) (a (terms.terms (map g (take i l))) k)
+
+  -- the end: all elements
+  pub held-end : (i v lost : ℕ) → i ≡ length l → Held (terms.terms (map g (take i l))) w v lost → Held (terms.terms (map g l)) w v lost
+  held-end i v lost e h = subst (λ (s : List A). Held (terms.terms (map g s)) w v lost) (ap (λ (n : ℕ). take n l) e ∙ take-length l) h
+
+-- the same over the pairs of two lists of one length
+module _ (g : ℕ × ℕ → terms.Item) (x y : List ℕ) (w : ℕ) where
+  pub pair-turn : (s t i v lost v′ lost′ : ℕ) → length y ≡ length x → i < length x → s ≡ getD x i 0 → t ≡ getD y i 0
+      → Held (terms.terms (map g (take i (pairs x y)))) w v lost → Adds w (g (s, t)) v lost v′ lost′ → Held (terms.terms (map g (take (i + 1) (pairs x y)))) w v′ lost′
+  pair-turn s t i v lost v′ lost′ e h es et k a =
+      held-turn g (pairs x y) w (0, 0) (s, t) i v lost v′ lost′ (subst (λ (n : ℕ). i < n) (sym (pairs-length x y (sym e))) h)
+      ((λ j. (es j, et j)) ∙ sym (pairs-at x y i e h)) k a
+
+  pub pair-end : (i v lost : ℕ) → length y ≡ length x → i ≡ length x → Held (terms.terms (map g (take i (pairs x y)))) w v lost → Held (terms.terms (map g (pairs x y))) w v lost
+  pair-end i v lost e h k = held-end g (pairs x y) w i v lost (h ∙ sym (pairs-length x y (sym e))) k

@@ -1,0 +1,4 @@
+pub mod Gather
+pub mod Loop
+pub mod Records
+pub mod Reduce

@@ -1,0 +1,68 @@
+-- From what a scan decides, and from a chain of passes, to the record of an accepted list. Nothing here is about words or bytes.
+use mathlib.Core.Path.{_≡_, refl, sym, ap, ap₂, _∙_, subst}
+use mathlib.Core.Bool.{Bool, true, false, not, cond}
+use mathlib.Core.List.{List}
+use Prim.Native.Nat.{ℕ, zero, suc, _≤_, _<_}
+use native.Mathlib.Omega.{arith}
+use lib.Dec.{eqb, eqb·suc-zero}
+use Rattle.totals_spec.specs.Basics.{any}
+use Rattle.totals_spec.specs.Format as spec
+use Rattle.totals_spec.specs.Settings as env
+use Rattle.totals_spec.specs.Decode as dec
+use Rattle.totals_spec.specs.Nan as nans
+use Rattle.totals_spec.specs.Terms as terms
+use Rattle.totals_spec.specs.Chain as chain
+use Rattle.totals_spec.specs.Totals as totals
+use Rattle.totals_spec.specs.Settled.{settled, chainTotal}
+use Rattle.format.specs.declared.unpacked.Unpacked.{Unpacked}
+use Rattle.format.specs.Joined.{unpackedOf}
+use Rattle.format.specs.Fits.{Encodes}
+use Rattle.scan.specs.declared.Scan.{Scan}
+use Rattle.scan.specs.declared.Early.{Early}
+use Rattle.scan.specs.declared.Early.the-variants.{Given, Terms}
+use Rattle.scan.specs.Joined.{Gathered, Decides}
+use Rattle.window.specs.declared.ExactSum.{ExactSum}
+use Rattle.window.specs.Joined.{outcomeOf, runOf}
+
+-- the summand's number in the code's tests
+pub summand-first : (u : ℕ) → not (eqb u 0) ≡ not (totals.isValue (env.summandOf u))
+summand-first zero = refl
+summand-first (suc zero) = refl
+summand-first (suc (suc u)) = ap not (eqb·suc-zero (suc u))
+
+pub summand-square : (u : ℕ) → u ≤ 2 → eqb u 2 ≡ totals.isSquare (env.summandOf u)
+summand-square zero h = refl
+summand-square (suc zero) h = refl
+summand-square (suc (suc zero)) h = refl
+summand-square (suc (suc (suc u))) h = absurd (let z : ⊥ = omega arith in z)
+
+module _ (f : spec.Format) (c : env.Settings) (sub products sig first : Bool) (ops : List dec.Unpacked) (l : List terms.Item) (s : Scan) (d : Early)
+    (g : Gathered f c sub sig ops l s) (h : Decides d c first s) where
+  -- the scan alone decides
+  given : (v : Unpacked) (i : Bool) → d ≡ Given v i → (totals.accepted f c sub products first sig (nans.selectAll c ops) l ≡ totals.special f sub (unpackedOf v) i) × Encodes f (unpackedOf v)
+  given v i e = subst (λ (x : Early). Decides x c first s) e h f sub products sig ops l g
+
+  pub given-encodes : (v : Unpacked) (i : Bool) → d ≡ Given v i → Encodes f (unpackedOf v)
+  given-encodes v i e = given v i e .1
+
+  pub given-is : (v : Unpacked) (i : Bool) → d ≡ Given v i → (a : totals.Answer) → a ≡ totals.special f (s .subnormal) (unpackedOf v) i
+      → a ≡ totals.accepted f c sub products first sig (nans.selectAll c ops) l
+  given-is v i e a r = r ∙ ap (λ (b : Bool). totals.special f b (unpackedOf v) i) (g .subnormal) ∙ sym (given v i e .0)
+
+  -- there are terms
+  some : d ≡ Terms → (totals.accepted f c sub products first sig (nans.selectAll c ops) l ≡ totals.finiteTotal f c sub products false (terms.terms l))
+      × (any (λ t. true) (terms.terms l) ≡ true) × (0 < s .top)
+  some e = subst (λ (x : Early). Decides x c first s) e h f sub products sig ops l g
+
+  pub top-is : d ≡ Terms → (s .top ≡ terms.topOf (terms.terms l)) × (0 < s .top)
+  top-is e = (g .top, some e .2)
+
+  pub finish-is : d ≡ Terms → (e : ExactSum) → runOf e ≡ chain.chain (spec.digits f) (terms.terms l)
+      → chainTotal f c sub products false (terms.terms l) ≡ totals.finiteTotal f c sub products false (terms.terms l) → (a : totals.Answer)
+      → a ≡ totals.reported f (s .subnormal) products (totals.sumRounded f c (spec.grid f products) (totals.towardsNegative c) (settled (outcomeOf e))) (runOf e)
+      → a ≡ totals.accepted f c sub products first sig (nans.selectAll c ops) l
+  unfolding chainTotal
+  finish-is t e r b a q =
+      q ∙ ap₂ (λ (x : Bool) (z : chain.Run). totals.reported f x products (totals.sumRounded f c (spec.grid f products) (totals.towardsNegative c) (settled (z .outcome))) z) (g .subnormal) r
+      ∙ sym (ap (λ (x : Bool). cond x (totals.reported f sub products (totals.sumRounded f c (spec.grid f products) (totals.towardsNegative c) (settled (chain.chain (spec.digits f) (terms.terms l) .outcome))) (chain.chain (spec.digits f) (terms.terms l))) (totals.special f sub (dec.zeroOf false) false)) (some t .1))
+      ∙ b ∙ sym (some t .0)

@@ -1,0 +1,69 @@
+// One element of a pass: its part at or above the edge goes into the window in place, and its lost bit is remembered.
+use arithmetic::Term;
+use arithmetic::both_plain;
+use arithmetic::looked_pair;
+use arithmetic::looked_term;
+use arithmetic::plain_product;
+use arithmetic::plain_term;
+use binary::is_plain;
+use format::Format;
+use format::env::Settings;
+use limbs_term::add_part;
+use window::larger;
+use window::window_part;
+ghost use mathlib.Core.Path.{_≡_};
+ghost use mathlib.Core.List.{List, [], _++_};
+ghost use Prim.Native.Nat.{_/_, _^_, _<_, max};
+ghost use Rattle.limbs.specs.Value.{Words, value, moved};
+ghost use Rattle.totals_spec.specs.Basics.{keep};
+ghost use Rattle.totals_spec.specs.Settings as env;
+ghost use Rattle.totals_spec.specs.Terms as terms;
+ghost use Rattle.totals_spec.specs.Chain as chain;
+ghost use Rattle.totals_spec.specs.Bounds.{FormatBounds};
+ghost use Rattle.format.specs.Joined.{formatOf, settingsOf};
+ghost use Rattle.arithmetic.specs.Joined.{magnitude};
+ghost use Rattle.reduction.specs.Held.{Held, Adds};
+
+// The part of a term at or above the edge w, added to the window or taken off it. Returns the lost bit plus one of all terms so far.
+fn add_term(r: &mut [u64; 12], t: Term, w: u64, lost: u64) -> u64
+    requires { ⌜ Words 12 (now r) × (t .shift < 4611686018427387904) ⌝ }
+    ensures { λ _. ⌜ Words 12 (now (r .exit)) ⌝ }
+    ensures { λ _. ⌜ value (now (r .exit)) ≡ moved (t .negative) (value (now (r .entry))) (magnitude t / 2 ^ w) ⌝ }
+    ensures { λ s. ⌜ s ≡ max lost (chain.lostEnd w (magnitude t)) ⌝ }
+{
+    let p = window_part(t, w);
+    add_part(r, p.low, p.high, p.up, t.negative);
+    larger(lost, p.lost)
+}
+
+// One more element of a list.
+pub fn add_element(
+    r: &mut [u64; 12],
+    f: Format,
+    c: Settings,
+    u: u64,
+    x: u64,
+    w: u64,
+    lost: u64,
+) -> u64
+    requires { ⌜ Words 12 (now r) × FormatBounds (formatOf f) ⌝ }
+    ensures { λ _. ⌜ Words 12 (now (r .exit)) ⌝ }
+    ensures { λ s. ⌜ Adds w (terms.item (formatOf f) (settingsOf c) (env.summandOf u) x) (value (now (r .entry))) lost (value (now (r .exit))) s ⌝ }
+{
+    if is_plain(f, x) {
+        return add_term(r, plain_term(f, u, x), w, lost);
+    }
+    add_term(r, looked_term(f, c, u, x), w, lost)
+}
+
+// One more pair of a dot.
+pub fn add_pair(r: &mut [u64; 12], f: Format, c: Settings, x: u64, y: u64, w: u64, lost: u64) -> u64
+    requires { ⌜ Words 12 (now r) × FormatBounds (formatOf f) ⌝ }
+    ensures { λ _. ⌜ Words 12 (now (r .exit)) ⌝ }
+    ensures { λ s. ⌜ Adds w (terms.pairItem (formatOf f) (settingsOf c) (x, y)) (value (now (r .entry))) lost (value (now (r .exit))) s ⌝ }
+{
+    if both_plain(f, x, y) {
+        return add_term(r, plain_product(f, x, y), w, lost);
+    }
+    add_term(r, looked_pair(f, c, x, y), w, lost)
+}

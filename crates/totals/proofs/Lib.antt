@@ -1,0 +1,3 @@
+pub mod Stray
+pub mod Written
+mod Answers

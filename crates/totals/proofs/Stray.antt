@@ -1,0 +1,83 @@
+-- The search for an element with a stray bit: what a walk knows of the elements before i, and what it finds.
+use mathlib.Core.Path.{_≡_, refl, sym, ap, ap₂, _∙_, subst}
+use mathlib.Core.Bool.{Bool, true, false, not, _||_, cond, true≢false}
+use mathlib.Core.List.{List, [], _∷_}
+use Prim.Native.Nat.{ℕ, zero, suc, _+_, _-_, _*_, _/_, _^_, _≤_, _<_}
+use native.Mathlib.Nat.{not-suc-le-zero, le-of-suc-le-suc, div-eq-of-lt-le, suc-mul, add-mul}
+use native.Mathlib.Numerals.{add-one, sub-one}
+use native.Mathlib.Omega.{arith}
+use lib.Dec.{leb}
+use lib.ListN.{length, take, getD}
+use lib.Seq.{take-length}
+use lib.Pow.{pow-add, pow-pos}
+use Rattle.totals_spec.specs.Basics.{any}
+use Rattle.totals_spec.specs.Totals.{firstIndex}
+use Rattle.totals_spec.proofs.Bits.{leb-true, leb-false}
+use Rattle.totals_spec.proofs.Walk.{any-take}
+use Rattle.totals.specs.Refusal.{strayAt}
+
+or-false : (a b : Bool) → a ≡ false → b ≡ false → (a || b) ≡ false
+or-false a b p q = rw (p, q)
+
+left-false : (a b : Bool) → (a || b) ≡ false → a ≡ false
+left-false true b e = e
+left-false false b e = refl
+
+right-false : (a b : Bool) → (a || b) ≡ false → b ≡ false
+right-false true b e = absurd (true≢false e)
+right-false false b e = e
+
+module _ (t : ℕ → Bool) where
+  -- none of the first i + 1
+  pub none-next : (l : List ℕ) (i x : ℕ) → i < length l → x ≡ getD l i 0 → any t (take i l) ≡ false → t x ≡ false → any t (take (i + 1) l) ≡ false
+  none-next l i x h e p q = ap (λ (n : ℕ). any t (take n l)) (add-one i) ∙ any-take t l i 0 h ∙ or-false _ _ p (ap t (sym e) ∙ q)
+
+  -- none at all
+  pub none-all : (l : List ℕ) (i : ℕ) → i ≡ length l → any t (take i l) ≡ false → any t l ≡ false
+  none-all l i e p = ap (any t) (sym (ap (λ (n : ℕ). take n l) e ∙ take-length l)) ∙ p
+
+  -- the first one
+  pub first-some : (l : List ℕ) (i : ℕ) → i < length l → any t (take i l) ≡ false → t (getD l i 0) ≡ true → any t l ≡ true
+  first-some [] i h p q = absurd (not-suc-le-zero h)
+  first-some (x ∷ l) zero h p q = ap (λ (b : Bool). b || any t l) q
+  first-some (x ∷ l) (suc i) h p q = rw (left-false (t x) _ p) (first-some l i (le-of-suc-le-suc h) (right-false (t x) _ p) q)
+
+  pub first-index : (l : List ℕ) (i : ℕ) → i < length l → any t (take i l) ≡ false → t (getD l i 0) ≡ true → firstIndex t l ≡ i
+  first-index [] i h p q = absurd (not-suc-le-zero h)
+  first-index (x ∷ l) zero h p q = ap (λ (b : Bool). cond b 0 (suc (firstIndex t l))) q
+  first-index (x ∷ l) (suc i) h p q = rw (left-false (t x) _ p) (ap suc (first-index l i (le-of-suc-le-suc h) (right-false (t x) _ p) q))
+
+  -- no element has what every number below b lacks
+  pub none-below : (b : ℕ) (l : List ℕ) → ((x : ℕ) → x < b → t x ≡ false) → ((k : ℕ) → getD l k 0 < b) → any t l ≡ false
+  none-below b [] h f = refl
+  none-below b (x ∷ l) h f = or-false _ _ (h x (f 0)) (none-below b l h (λ k. f (suc k)))
+
+-- a stray bit is one above the greatest encoding
+pub stray-is : (w m x : ℕ) → m + 1 ≡ 2 ^ w → m < x → strayAt w x ≡ true
+stray-is w m x e h = let k : 2 ^ w ≤ x = omega (arith, e) in leb-true k
+
+pub stray-not : (w m x : ℕ) → m + 1 ≡ 2 ^ w → x ≤ m → strayAt w x ≡ false
+stray-not w m x e h = let k : x < 2 ^ w = omega (arith, e) in leb-false k
+
+-- 2^64 − 1 without its lowest 64 − w bits
+pub ones-shifted : (w : ℕ) → w ≤ 64 → 18446744073709551615 / 2 ^ (64 - w) + 1 ≡ 2 ^ w
+ones-shifted w h = ap (λ (n : ℕ). n + 1) (div-eq-of-lt-le {k = 2 ^ w - 1} (2 ^ (64 - w)) {m = 18446744073709551615} low high) ∙ back (2 ^ w) (pow-pos w)
+  where
+    whole : 2 ^ w * 2 ^ (64 - w) ≡ 18446744073709551616
+    whole = sym (pow-add 2 w (64 - w)) ∙ ap (λ (n : ℕ). 2 ^ n) place
+      where
+        place : w + (64 - w) ≡ 64
+        place = omega arith
+
+    less : (a b n : ℕ) → 0 < a → 0 < b → a * b ≡ n → (a - 1) * b + b ≡ n
+    less zero b n h k e = absurd (not-suc-le-zero h)
+    less (suc a) b n h k e = ap (λ (x : ℕ). x * b + b) (sub-one (suc a)) ∙ sym (suc-mul a b) ∙ e
+
+    back : (a : ℕ) → 0 < a → a - 1 + 1 ≡ a
+    back a h = omega arith
+
+    low : (2 ^ w - 1) * 2 ^ (64 - w) ≤ 18446744073709551615
+    low = omega (arith, less (2 ^ w) (2 ^ (64 - w)) 18446744073709551616 (pow-pos w) (pow-pos (64 - w)) whole, pow-pos (64 - w))
+
+    high : 18446744073709551615 < (2 ^ w - 1 + 1) * 2 ^ (64 - w)
+    high = omega (arith, add-mul (2 ^ w - 1) 1 (2 ^ (64 - w)), less (2 ^ w) (2 ^ (64 - w)) 18446744073709551616 (pow-pos w) (pow-pos (64 - w)) whole)

@@ -1,0 +1,33 @@
+-- `totals::entry::totals_sum` meets its contract.
+use mathlib.Core.Path.{sym, subst}
+use Prim.Native.Nat.{ℕ, _<_}
+use Rattle.totals_spec.specs.Totals.{Answer}
+use Rattle.totals_spec.proofs.Refused.{Small, sum-small}
+use Rattle.reduction.specs.Answered.{answerOf}
+use Rattle.totals.specs.Entered.{formatFrom, settingsFrom}
+use Rattle.totals.proofs.Written.{sum-uneven, sum-short, sum-enters}
+use borrow.Author.Needs.{needs}
+use Rattle.totals.proofs.entry.totals_sum.Statement.{statement}
+use Rattle.totals.proofs.entry.totals_sum.Tie as tie
+
+returns : tie.Need-returns
+returns c = sum-uneven _ _ _ _ _ (c .if1 .taken)
+
+returns-2 : tie.Need-returns-2
+returns-2 c = sum-short _ _ _ _ _ (c .before .if1 .left) (c .if2 .taken)
+
+sum-bytes-requires : tie.Need-sum-bytes-requires
+sum-bytes-requires c κs = search needs
+
+enter-requires : tie.Need-enter-requires
+enter-requires c κs = let small = subst Small (sym (c .before .sum-bytes .ensures)) (sum-small _ _ _ _) in (c .before .before .if2 .left, small .number, small .place)
+
+same-length : tie.Need-same-length
+same-length c = search needs
+
+returns-3 : tie.Need-returns-3
+returns-3 c = sum-enters _ _ _ _ _ (c .before .before .before .before .before .before .if1 .left) (c .before .before .before .before .before .if2 .left) (answerOf (c .before .before .before .before .sum-bytes .result)) (c .before .before .before .before .sum-bytes .ensures) _ _ (c .before .before .enter .ensures)
+
+pub totals-sum-spec : {M : Type 1} → statement M
+totals-sum-spec =
+    tie.close (tie.spec returns returns-2 sum-bytes-requires enter-requires same-length returns-3)

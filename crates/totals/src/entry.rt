@@ -1,0 +1,118 @@
+// The byte entries, for callers in other languages.
+use crate::dot_bytes;
+use crate::sum_bytes;
+use format::Format;
+use format::env::Settings;
+use reduction::total::Answer;
+use values::put_word;
+ghost use mathlib.Core.Path.{_≡_};
+ghost use Prim.Native.Nat.{_≤_, _<_};
+ghost use lib.ListN.{length};
+ghost use Rattle.totals_spec.specs.Bytes as bytes;
+ghost use Rattle.reduction.specs.Answered.{answerOf};
+ghost use Rattle.totals.specs.Entered.{Enters, formatFrom, settingsFrom};
+
+// An accepted record is written; any other leaves the buffer as it was. Returns the refusal, plus 256 times the place.
+fn enter(a: Answer, answer: &mut [u8]) -> u64
+    requires { ⌜ (24 ≤ length (now answer)) × (a .refusal < 256) × (a .place < 4294967296) ⌝ }
+    ensures { λ r. ⌜ Enters (bytes.entered (answerOf a) (now (answer .entry))) r (now (answer .exit)) ⌝ }
+{
+    if a.refusal != 0 {
+        return a.refusal + 256 * a.place;
+    }
+    put_word(answer, 0, a.result);
+    put_word(answer, 8, a.flags);
+    put_word(answer, 16, a.passes);
+    0
+}
+
+// The sum of the values (summand 0), of their magnitudes (1) or of their squares (2).
+#[no_mangle]
+pub extern "C" fn totals_sum(
+    kind: u64,
+    exponent_bits: u64,
+    width: u64,
+    rounding: u64,
+    tininess: u64,
+    nan_propagation: u64,
+    default_nan_negative: u64,
+    flush_to_zero: u64,
+    denormals_are_zero: u64,
+    saturate: u64,
+    precision: u64,
+    summand: u64,
+    values: &[u8],
+    answer: &mut [u8],
+) -> u64
+    ensures { λ r. ⌜ Enters (bytes.sumEntry (formatFrom kind «exponent_bits» width) (settingsFrom rounding tininess «nan_propagation» «default_nan_negative» «flush_to_zero» «denormals_are_zero» saturate precision) summand (now (values .entry)) (now (answer .entry))) r (now (answer .exit)) ⌝ }
+{
+    if values.len() % 8 != 0 {
+        return 1;
+    }
+    if answer.len() < 24 {
+        return 2;
+    }
+    let f = Format {
+        kind,
+        exponent_bits,
+        width,
+    };
+    let c = Settings {
+        rounding,
+        tininess,
+        nan_propagation,
+        default_nan_negative,
+        flush_to_zero,
+        denormals_are_zero,
+        saturate,
+        precision,
+    };
+    enter(sum_bytes(f, c, summand, values), answer)
+}
+
+// The sum of the products of the pairs.
+#[no_mangle]
+pub extern "C" fn totals_dot(
+    kind: u64,
+    exponent_bits: u64,
+    width: u64,
+    rounding: u64,
+    tininess: u64,
+    nan_propagation: u64,
+    default_nan_negative: u64,
+    flush_to_zero: u64,
+    denormals_are_zero: u64,
+    saturate: u64,
+    precision: u64,
+    left: &[u8],
+    right: &[u8],
+    answer: &mut [u8],
+) -> u64
+    ensures { λ r. ⌜ Enters (bytes.dotEntry (formatFrom kind «exponent_bits» width) (settingsFrom rounding tininess «nan_propagation» «default_nan_negative» «flush_to_zero» «denormals_are_zero» saturate precision) (now (left .entry)) (now (right .entry)) (now (answer .entry))) r (now (answer .exit)) ⌝ }
+{
+    if left.len() % 8 != 0 {
+        return 1;
+    }
+    if right.len() % 8 != 0 {
+        return 1;
+    }
+    if answer.len() < 24 {
+        return 2;
+    }
+    let f = Format {
+        kind,
+        exponent_bits,
+        width,
+    };
+    let c = Settings {
+        rounding,
+        tininess,
+        nan_propagation,
+        default_nan_negative,
+        flush_to_zero,
+        denormals_are_zero,
+        saturate,
+        precision,
+    };
+    enter(dot_bytes(f, c, left, right), answer)
+}
