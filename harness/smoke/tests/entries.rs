@@ -1,0 +1,138 @@
+//! Both entries with good, refused and empty input. Every byte of the buffer is looked at. The expectations are document 01's: its table of
+//! refusals, its layout of the answer, its careers C1 to C12, and small exact sums.
+use smoke::{bytes, dot, sum, Format, Settings};
+
+const BINARY64: Format = [0, 11, 64];
+const BINARY16: Format = [0, 5, 16];
+const PLAIN: Settings = [0; 8];
+const TOWARD_NEGATIVE: Settings = [4, 0, 0, 0, 0, 0, 0, 0];
+const TOWARD_ZERO: Settings = [5, 0, 0, 0, 0, 0, 0, 0];
+const UNTOUCHED: u8 = 0xa5;
+const LIMIT: usize = 1 << 20;
+
+fn one(x: f64) -> u64 {
+    x.to_bits()
+}
+
+/// 2^n as an encoding of binary64, for a normal number.
+fn power(n: i64) -> u64 {
+    ((n + 1023) as u64) << 52
+}
+
+/// An accepted call: 0 comes back, bytes 0 to 23 are result, flags, seven zeros, passes, and the rest is as it was.
+fn accepted(code: u64, buffer: &[u8], result: u64, flags: u8, passes: u64) {
+    assert_eq!(code, 0);
+    assert_eq!(buffer[0..8], result.to_le_bytes(), "result");
+    assert_eq!(buffer[8], flags, "flags");
+    assert_eq!(buffer[9..16], [0; 7], "zeros");
+    assert_eq!(buffer[16..24], passes.to_le_bytes(), "passes");
+    assert!(buffer[24..].iter().all(|&b| b == UNTOUCHED), "later bytes");
+}
+
+fn refused(code: u64, buffer: &[u8], number: u64, place: u64) {
+    assert_eq!(code, number + 256 * place);
+    assert!(buffer.iter().all(|&b| b == UNTOUCHED), "nothing is written");
+}
+
+fn check_sum(f: Format, c: Settings, u: u64, values: &[u64], result: u64, flags: u8, passes: u64) {
+    let mut buffer = [UNTOUCHED; 40];
+    let code = sum(f, c, u, &bytes(values), &mut buffer);
+    accepted(code, &buffer, result, flags, passes);
+}
+
+fn check_sum_refused(f: Format, c: Settings, u: u64, values: &[u8], room: usize, number: u64, place: u64) {
+    let mut buffer = vec![UNTOUCHED; room];
+    let code = sum(f, c, u, values, &mut buffer);
+    refused(code, &buffer, number, place);
+}
+
+fn check_dot(f: Format, c: Settings, left: &[u64], right: &[u64], result: u64, flags: u8, passes: u64) {
+    let mut buffer = [UNTOUCHED; 40];
+    let code = dot(f, c, &bytes(left), &bytes(right), &mut buffer);
+    accepted(code, &buffer, result, flags, passes);
+}
+
+fn check_dot_refused(f: Format, c: Settings, left: &[u8], right: &[u8], room: usize, number: u64, place: u64) {
+    let mut buffer = vec![UNTOUCHED; room];
+    let code = dot(f, c, left, right, &mut buffer);
+    refused(code, &buffer, number, place);
+}
+
+#[test]
+fn careers() {
+    let minus_zero = 1 << 63;
+    let largest = 0x7fef_ffff_ffff_ffff;
+    let infinity = 0x7ff0_0000_0000_0000;
+    let quiet = 0x7ff8_0000_0000_0000;
+    check_sum(BINARY64, TOWARD_NEGATIVE, 0, &[], 0, 0x00, 0);
+    check_sum(BINARY64, PLAIN, 0, &[minus_zero], minus_zero, 0x00, 0);
+    check_sum(BINARY64, TOWARD_NEGATIVE, 0, &[0, minus_zero], minus_zero, 0x00, 0);
+    check_sum(BINARY64, PLAIN, 0, &[one(1.0), one(-1.0)], 0, 0x00, 1);
+    check_sum(BINARY64, PLAIN, 0, &[power(1000), one(1.0), power(1000) | minus_zero], 0x3ff0_0000_0000_0000, 0x00, 2);
+    check_sum(BINARY64, PLAIN, 0, &[one(1.0), power(-53)], 0x3ff0_0000_0000_0000, 0x10, 1);
+    check_sum(BINARY64, PLAIN, 0, &[one(1.0), power(-53), power(-1000)], 0x3ff0_0000_0000_0001, 0x50, 2);
+    check_sum(BINARY64, PLAIN, 0, &[largest, largest], infinity, 0x54, 1);
+    check_sum(BINARY64, TOWARD_ZERO, 0, &[largest, largest], largest, 0x14, 1);
+    check_sum(BINARY64, PLAIN, 0, &[1], 1, 0xa0, 1);
+    check_sum(BINARY64, PLAIN, 2, &[power(-600)], 0, 0x38, 1);
+    check_sum(BINARY64, PLAIN, 1, &[infinity | minus_zero, quiet], infinity, 0x00, 0);
+}
+
+#[test]
+fn dots() {
+    check_dot(BINARY64, PLAIN, &[], &[], 0, 0, 0);
+    check_dot(BINARY64, PLAIN, &[one(1.5), one(2.0)], &[one(2.0), one(0.25)], one(3.5), 0, 1);
+    check_dot(BINARY64, PLAIN, &[one(3.0), one(-3.0)], &[one(7.0), one(7.0)], 0, 0, 1);
+    // an infinity times zero is invalid
+    check_dot(BINARY64, PLAIN, &[one(f64::INFINITY)], &[0], 0x7ff8_0000_0000_0000, 0x01, 0);
+}
+
+#[test]
+fn refusals_of_a_sum() {
+    let two = bytes(&[one(1.0), one(2.0)]);
+    check_sum_refused(BINARY64, PLAIN, 0, &two[..7], 24, 1, 0);
+    check_sum_refused(BINARY64, PLAIN, 0, &two, 23, 2, 0);
+    check_sum_refused([4, 11, 64], PLAIN, 0, &two, 24, 3, 0);
+    check_sum_refused(BINARY64, [8, 0, 0, 0, 0, 0, 0, 0], 0, &two, 24, 4, 0);
+    check_sum_refused(BINARY64, [0, 0, 0, 0, 0, 0, 0, 54], 0, &two, 24, 4, 0);
+    check_sum_refused(BINARY64, PLAIN, 3, &two, 24, 4, 0);
+    check_sum_refused(BINARY16, PLAIN, 0, &bytes(&[1, 1 << 16, 1 << 63]), 24, 7, 1);
+    // the lower number comes first
+    check_sum_refused([4, 11, 64], [8; 8], 3, &two[..7], 23, 1, 0);
+    check_sum_refused([4, 11, 64], [8; 8], 3, &two, 23, 2, 0);
+    check_sum_refused([4, 11, 64], [8; 8], 3, &two, 24, 3, 0);
+    check_sum_refused(BINARY16, [8; 8], 3, &two, 24, 4, 0);
+    check_sum_refused(BINARY64, PLAIN, 0, &[], 0, 2, 0);
+}
+
+#[test]
+fn refusals_of_a_dot() {
+    let one_value = bytes(&[one(1.0)]);
+    let two = bytes(&[one(1.0), one(2.0)]);
+    check_dot_refused(BINARY64, PLAIN, &two, &two[..15], 24, 1, 0);
+    check_dot_refused(BINARY64, PLAIN, &two[..9], &two, 24, 1, 0);
+    check_dot_refused(BINARY64, PLAIN, &two, &two, 23, 2, 0);
+    check_dot_refused([0, 1, 64], PLAIN, &two, &two, 24, 3, 0);
+    check_dot_refused(BINARY64, [0, 2, 0, 0, 0, 0, 0, 0], &two, &two, 24, 4, 0);
+    check_dot_refused(BINARY64, PLAIN, &two, &one_value, 24, 5, 0);
+    check_dot_refused(BINARY16, PLAIN, &bytes(&[1, 2, 1 << 20]), &bytes(&[1 << 16, 1, 1]), 24, 7, 2);
+    check_dot_refused(BINARY16, PLAIN, &bytes(&[1, 2, 3]), &bytes(&[1, 1 << 16, 1 << 17]), 24, 7, 1);
+    check_dot_refused(BINARY16, PLAIN, &two, &one_value, 24, 5, 0);
+}
+
+#[test]
+fn a_million_zeros_and_one_more() {
+    let zeros = vec![0u8; 8 * LIMIT];
+    let more = vec![0u8; 8 * (LIMIT + 1)];
+    let mut buffer = [UNTOUCHED; 24];
+    let code = sum(BINARY64, PLAIN, 0, &zeros, &mut buffer);
+    accepted(code, &buffer, 0, 0, 0);
+    check_sum_refused(BINARY64, PLAIN, 0, &more, 24, 6, 0);
+    let mut buffer = [UNTOUCHED; 24];
+    let code = dot(BINARY64, PLAIN, &zeros, &zeros, &mut buffer);
+    accepted(code, &buffer, 0, 0, 0);
+    check_dot_refused(BINARY64, PLAIN, &more, &more, 24, 6, 0);
+    // 6 comes before 7, and 5 before 6
+    check_sum_refused(BINARY16, PLAIN, 0, &vec![0xff; 8 * (LIMIT + 1)], 24, 6, 0);
+    check_dot_refused(BINARY64, PLAIN, &more, &zeros, 24, 5, 0);
+}
