@@ -1,6 +1,6 @@
 //! Both entries with good, refused and empty input. Every byte of the buffer is looked at. The expectations are document 01's: its table of
 //! refusals, its layout of the answer, its careers C1 to C12, and small exact sums.
-use smoke::{bytes, dot, sum, Format, Settings};
+use caller::{bytes, dot, sum, Format, Settings};
 
 const BINARY64: Format = [0, 11, 64];
 const BINARY16: Format = [0, 5, 16];
