@@ -1,4 +1,4 @@
--- What is decoded can be encoded, and so can an operand and the choice among NaNs.
+-- What is decoded can be encoded, and so can the choice among NaNs.
 use mathlib.Core.Path.{_≡_, ap}
 use mathlib.Core.Bool.{Bool, true, false, _&&_, cond}
 use Prim.Native.Nat.{ℕ, zero, suc, _-_, _/_, _%_, _^_, _≤_, _<_}
@@ -6,13 +6,13 @@ use native.Mathlib.Nat.{mod-lt, pow-suc}
 use native.Mathlib.Omega.{arith}
 use lib.Dec.{eqb, ltb}
 use lib.Pow.{pow-pos, pow-mono}
-use Rattle.totals_spec.specs.Basics.{isSet}
 use Rattle.totals_spec.specs.Bounds.{FormatBounds}
 use Rattle.totals_spec.specs.Format.{Format, Kind, ieee, noInf, fnuz, finiteOnly, kindOf, fractionBits, digits}
-use Rattle.totals_spec.specs.Settings.{Settings, Propagation}
-use Rattle.totals_spec.specs.Decode.{Unpacked, zeroOf, finite, infinity, nan, number, topField, ones, decodeFields, decode, signBit, fieldOf, fractionOf, isSubnormal, operand}
+use Rattle.totals_spec.specs.Settings.{Settings, Propagation, signalingFirst, firstOperand, largerSignificand, defaultNan, propagationOf}
+use Rattle.totals_spec.specs.Decode.{Unpacked, zeroOf, finite, infinity, nan, number, topField, ones, decodeFields, decode, signBit, fieldOf, fractionOf}
 use Rattle.totals_spec.specs.Nan.{staysNan, choose, quiet, defaultNanOf}
 use Rattle.format.specs.Fits.{Encodes}
+use Rattle.binary.specs.Joined.{selectedBy, selectedOf}
 
 module _ (f : Format) where
   encodes-cond : (b : Bool) (x y : Unpacked) → Encodes f x → Encodes f y → Encodes f (cond b x y)
@@ -53,10 +53,6 @@ module _ (f : Format) where
         encodes-fields (kindOf (f .kind)) (signBit f n) (fieldOf f n) (fractionOf f n) (mod-lt (n / 2 ^ fractionBits f) (pow-pos (f .E)))
         (mod-lt n (pow-pos (fractionBits f)))
 
-    pub operand-encodes : (c : Settings) (n : ℕ) → Encodes f (operand f c n)
-    unfolding operand
-    operand-encodes c n = encodes-cond (isSet (c .denormalsAreZero) && isSubnormal f n) (zeroOf (signBit f n)) (decode f n) tt (decode-encodes n)
-
   -- ---- the choice among NaNs
 
   pub choose-encodes : (r : Propagation) (x y : Unpacked) → Encodes f x → Encodes f y → Encodes f (choose r x y)
@@ -77,3 +73,13 @@ module _ (f : Format) where
   pub default-encodes : (c : Settings) → Encodes f (defaultNanOf c)
   unfolding defaultNanOf
   default-encodes c = pow-pos (fractionBits f - 1)
+
+  pub selected-encodes : (c : Settings) (v : Unpacked) → Encodes f v → Encodes f (selectedOf c v)
+  unfolding selectedOf
+  selected-encodes c v h = go (propagationOf (c .nanPropagation))
+    where
+      go : (r : Propagation) → Encodes f (selectedBy r c v)
+      go signalingFirst = quiet-encodes v h
+      go firstOperand = quiet-encodes v h
+      go largerSignificand = quiet-encodes v h
+      go defaultNan = default-encodes c

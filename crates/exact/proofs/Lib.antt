@@ -1,6 +1,6 @@
 mod Rules
 mod Powers
-pub mod Standing
+mod Standing
 mod Beyond
 mod Once
 mod Plan

@@ -13,9 +13,8 @@ use borrow.Author.Tests.{eq-eqb}
 use Rattle.totals_spec.proofs.Bits.{size-pos, ltb-true, ltb-false, eqb-false, pow-split, multiple-mod}
 use Rattle.totals_spec.specs.Round.{nothing, compared, dropped}
 use Rattle.limbs.specs.Value.{value}
-use Rattle.exact.specs.Joined.{droppedBy, StandsAt, Stands}
-use Rattle.exact.specs.declared.Unrounded.{Unrounded}
-use Rattle.exact.proofs.Powers.{pow-next, size-over, scaled-lt}
+use Rattle.exact.specs.Joined.{droppedBy, StandsAt}
+use Rattle.exact.proofs.Powers.{size-over, scaled-lt}
 
 -- ---- the dropped part: b is the first dropped bit, t what lies below it
 
@@ -164,17 +163,3 @@ low-word x h = ap (λ (y : ℕ). y % 2 ^ 64) (div-one (x / 1) ∙ div-one x) ∙
 
 pub one-word : (x : ℕ) → x < 2 ^ 64 → x / 2 ^ (64 * 0) % 2 ^ 64 ≡ x
 one-word x h = ap (λ (y : ℕ). y % 2 ^ 64) (div-one x) ∙ mod-eq-of-lt h
-
--- half a unit more, or nothing more without a sticky bit, is such a number too
-pub half-stands : (v : Unrounded) (x : ℕ) → 1 ≤ v .position
-    → x
-    ≡ cond (v .sticky) (value (v .significand) * 2 ^ (v .position) + 2 ^ (v .position - 1)) (value (v .significand) * 2 ^ (v .position)) → Stands v x
-half-stands v x h e = go (v .sticky) e
-  where
-    m : ℕ
-    m = value (v .significand)
-
-    go : (s : Bool) → x ≡ cond s (m * 2 ^ (v .position) + 2 ^ (v .position - 1)) (m * 2 ^ (v .position)) → StandsAt s m (2 ^ (v .position)) x
-    go true e =
-        (omega (arith, e, pow-pos (v .position - 1)), omega (arith, e, pow-pos (v .position - 1), pow-next (v .position) h, suc-mul m (2 ^ (v .position))))
-    go false e = e

@@ -290,10 +290,14 @@ fn round_small(f: Format, c: Settings, g: u64, v: Unrounded, end: u64) -> Rounde
             value: Unpacked::Zero(negative),
             flags,
         },
-        Underflow::Kept(flags) => Rounded {
-            value: small_number(negative, first.kept + flag(1, up), p - q),
-            flags: flags + flag(ROUNDED_UP, up),
-        },
+        Underflow::Kept(flags) => {
+            let kept = first.kept + flag(1, up);
+            let raised = flags + flag(ROUNDED_UP, up);
+            Rounded {
+                value: small_number(negative, kept, p - q),
+                flags: raised,
+            }
+        }
     }
 }
 

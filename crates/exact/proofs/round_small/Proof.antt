@@ -58,8 +58,8 @@ enum-known-flags-2 c = search needs
 flag-requires : tie.Need-flag-requires
 flag-requires c κs = search needs
 
-add-small-number : tie.Need-add-small-number
-add-small-number c =
+add-kept : tie.Need-add-kept
+add-kept c =
     let s = c .before .before .before .before .before .before .before .before .before .before .before .before .before .before .before in
     let digits = c .before .before .before .before .before .before .before .before .before .before .before .before .before .before .digits in
     let precision-within = c .before .before .before .before .before .before .before .before .before .before .before .before .before .precision-within in
@@ -69,33 +69,33 @@ add-small-number c =
     let cut = rw (digits .ensures) at (cut .ensures) in
     record { fits = omega (arith, small-sum (s .pre .0) (precision-within .ensures) (s .pre .1) cut (rounds-up .ensures), flag .ensures .0) }
 
+flag-requires-2 : tie.Need-flag-requires-2
+flag-requires-2 c κs = search needs
+
+add-raised : tie.Need-add-raised
+add-raised c =
+    let s = c .before .before .before .before .before .before .before .before .before .before .before .before .before .before .before .before in
+    let is-tiny = c .before .before .before .before .before .before .before .before .before .before .is-tiny in
+    let is-inexact = c .before .before .before .before .before .before .before .is-inexact in
+    let new = c .before .before .before .before .before .before .new in
+    let flags2 = c .before .before .before .before .flags2 in
+    let flag2 = c .flag2 in
+    let k = is-kept (is-tiny .result) (is-inexact .result) (isSet (s .args .c .«flush_to_zero»)) _ (sym (new .ensures) ∙ flags2 .given .1) in
+    record { fits = omega (arith, k .small, flag2 .ensures .1) }
+
 sub-small-number : tie.Need-sub-small-number
 sub-small-number c = search needs
 
 small-number-requires : tie.Need-small-number-requires
 small-number-requires c κs =
-    let s = c .before .before .before .before .before .before .before .before .before .before .before .before .before .before .before in
-    let digits = c .before .before .before .before .before .before .before .before .before .before .before .before .before .before .digits in
-    let precision-within = c .before .before .before .before .before .before .before .before .before .before .before .before .before .precision-within in
-    let cut = c .before .before .before .before .before .before .before .before .cut in
-    let rounds-up = c .before .before .before .before .before .before .before .rounds-up in
-    let flag = c .before .flag in
+    let s = c .before .before .before .before .before .before .before .before .before .before .before .before .before .before .before .before in
+    let digits = c .before .before .before .before .before .before .before .before .before .before .before .before .before .before .before .digits in
+    let precision-within = c .before .before .before .before .before .before .before .before .before .before .before .before .before .before .precision-within in
+    let cut = c .before .before .before .before .before .before .before .before .before .cut in
+    let rounds-up = c .before .before .before .before .before .before .before .before .rounds-up in
+    let flag = c .before .before .flag in
     let cut = rw (digits .ensures) at (cut .ensures) in
     rw (digits .ensures, flag .ensures .0) (small-fits (s .pre .0) (precision-within .ensures) (s .pre .1) cut (rounds-up .ensures))
-
-flag-requires-2 : tie.Need-flag-requires-2
-flag-requires-2 c κs = search needs
-
-add-t27 : tie.Need-add-t27
-add-t27 c =
-    let s = c .before .before .before .before .before .before .before .before .before .before .before .before .before .before .before .before .before in
-    let is-tiny = c .before .before .before .before .before .before .before .before .before .before .before .is-tiny in
-    let is-inexact = c .before .before .before .before .before .before .before .before .is-inexact in
-    let new = c .before .before .before .before .before .before .before .new in
-    let flags2 = c .before .before .before .before .before .flags2 in
-    let flag2 = c .flag2 in
-    let k = is-kept (is-tiny .result) (is-inexact .result) (isSet (s .args .c .«flush_to_zero»)) _ (sym (new .ensures) ∙ flags2 .given .1) in
-    record { fits = omega (arith, k .small, flag2 .ensures .1) }
 
 returns : tie.Need-returns
 returns c =
@@ -130,8 +130,8 @@ returns-2 c =
     let new = c .before .before .before .before .before .before .before .new in
     let flags2 = c .before .before .before .before .before .flags2 in
     let flag = c .before .before .before .flag in
-    let small-number = c .before .small-number in
-    let flag2 = c .flag2 in
+    let flag2 = c .before .flag2 in
+    let small-number = c .small-number in
     let cut = rw (digits .ensures) at (cut .ensures) in
     let k = is-kept (is-tiny .result) (is-inexact .result) (isSet (s .args .c .«flush_to_zero»)) _ (sym (new .ensures) ∙ flags2 .given .1) in
     let tiny = rw (emin .ensures) at (is-tiny .ensures) in
@@ -162,10 +162,10 @@ round-small-spec =
     enum-known-flags
     enum-known-flags-2
     flag-requires
-    add-small-number
+    add-kept
+    flag-requires-2
+    add-raised
     sub-small-number
     small-number-requires
-    flag-requires-2
-    add-t27
     returns
     returns-2)

@@ -1,0 +1,86 @@
+-- `codec_test::rows::roundings` meets its contract.
+use Prim.Native.Nat.{_-_, _≤_}
+use borrow.Author.Needs.{needs}
+use Rattle.codec_test.proofs.rows.roundings.Statement.{statement}
+use Rattle.codec_test.proofs.rows.roundings.Tie as tie
+
+abbrev Inv-loop : tie.InvT-loop
+Inv-loop f s g plus minus agreed₀ j₀ agreed j = (j ≤ 128) × (agreed ≤ j)
+
+abbrev μ-loop : tie.MeasureT-loop
+μ-loop f s g plus minus agreed₀ j₀ agreed j = 128 - j
+
+hex-requires : tie.Need-hex-requires Inv-loop μ-loop
+hex-requires c κs = search needs
+
+value-at-requires : tie.Need-value-at-requires Inv-loop μ-loop
+value-at-requires c κs = search needs
+
+value-at-requires-2 : tie.Need-value-at-requires-2 Inv-loop μ-loop
+value-at-requires-2 c κs = search needs
+
+loop-holds : tie.Need-loop-holds Inv-loop μ-loop
+loop-holds c = search needs
+
+hex-requires-2 : tie.Need-hex-requires-2 Inv-loop μ-loop
+hex-requires-2 c κs = search needs
+
+settings-requires : tie.Need-settings-requires Inv-loop μ-loop
+settings-requires c κs = search needs
+
+rounded-requires : tie.Need-rounded-requires Inv-loop μ-loop
+rounded-requires c κs = search needs
+
+rounded-requires-2 : tie.Need-rounded-requires-2 Inv-loop μ-loop
+rounded-requires-2 c κs = search needs
+
+mul-hex : tie.Need-mul-hex Inv-loop μ-loop
+mul-hex c = search needs
+
+add-hex : tie.Need-add-hex Inv-loop μ-loop
+add-hex c = search needs
+
+hex-requires-3 : tie.Need-hex-requires-3 Inv-loop μ-loop
+hex-requires-3 c κs = search needs
+
+agrees-requires : tie.Need-agrees-requires Inv-loop μ-loop
+agrees-requires c κs = search needs
+
+add-agreed : tie.Need-add-agreed Inv-loop μ-loop
+add-agreed c = search needs
+
+add-j : tie.Need-add-j Inv-loop μ-loop
+add-j c = search needs
+
+loop-less : tie.Need-loop-less Inv-loop μ-loop
+loop-less c = search needs
+
+loop-again : tie.Need-loop-again Inv-loop μ-loop
+loop-again c = search needs
+
+returns : tie.Need-returns Inv-loop μ-loop
+returns c = search needs
+
+pub roundings-spec : {M : Type 1} → statement M
+roundings-spec =
+    tie.close
+    (tie.spec
+    Inv-loop
+    μ-loop
+    hex-requires
+    value-at-requires
+    value-at-requires-2
+    loop-holds
+    hex-requires-2
+    settings-requires
+    rounded-requires
+    rounded-requires-2
+    mul-hex
+    add-hex
+    hex-requires-3
+    agrees-requires
+    add-agreed
+    add-j
+    loop-less
+    loop-again
+    returns)

@@ -1,0 +1,387 @@
+// The rows of the vectors: each is read, worked out and compared, and the number of answers that agree is returned.
+use binary::decode;
+use binary::encode;
+use binary::is_plain;
+use binary::nan;
+use binary::nan::Nan;
+use binary::nan::select;
+use binary::nan::selected;
+use binary::operand;
+use exact::Unrounded;
+use exact::flag;
+use exact::round;
+use format::Format;
+use format::bias;
+use format::depth;
+use format::digits;
+use format::env::Settings;
+use format::env::valid_settings;
+use format::env::zero_sum_is_negative;
+use format::env::zero_sum_sign;
+use format::exponent_range;
+use format::grid;
+use format::origin;
+use format::unpacked::Unpacked;
+use format::valid_format;
+use limbs_window as window;
+ghost use mathlib.Core.Path.{_≡_};
+ghost use mathlib.Core.Bool.{true};
+ghost use Prim.Native.Nat.{suc, _^_, _<_, _≤_};
+ghost use Rattle.limbs.specs.Value.{value};
+ghost use Rattle.totals_spec.specs.Format as spec;
+ghost use Rattle.totals_spec.specs.Bounds.{FormatBounds};
+ghost use Rattle.format.specs.Joined.{formatOf};
+ghost use Rattle.format.specs.Fits.{Encodes};
+ghost use Rattle.binary.specs.Joined.{nanOf};
+
+fn byte_at(s: &[u8], i: usize) -> u8 {
+    if i < s.len() { s[i] } else { 48 }
+}
+
+fn digit(b: u8) -> u64
+    ensures { λ r. ⌜ r < 16 ⌝ }
+{
+    if b < 48 {
+        return 0;
+    }
+    if b < 58 {
+        return (b - 48) as u64;
+    }
+    if b < 97 {
+        return 0;
+    }
+    if b < 103 {
+        return (b - 87) as u64;
+    }
+    0
+}
+
+// The number of n hex digits from an index on; only the last sixteen count.
+pub fn hex(s: &[u8], at: usize, n: usize) -> u64
+    requires { ⌜ (at < 4096) × (n < 64) ⌝ }
+{
+    let mut v: u64 = 0;
+    let mut i: usize = 0;
+    while i < n {
+        v = v % 1152921504606846976 * 16 + digit(byte_at(s, at + i));
+        i += 1;
+    }
+    v
+}
+
+fn agrees(a: u64, b: u64) -> u64
+    ensures { λ r. ⌜ r ≤ 1 ⌝ }
+{
+    if a == b { 1 } else { 0 }
+}
+
+fn format_at(s: &[u8]) -> Format {
+    Format {
+        kind: hex(s, 0, 1),
+        exponent_bits: hex(s, 1, 1),
+        width: hex(s, 2, 1),
+    }
+}
+
+fn tag(v: Unpacked, subnormal: bool, plain: bool) -> u64 {
+    let more = flag(16, subnormal) + flag(32, plain);
+    match v {
+        Unpacked::Zero(negative) => flag(4, negative) + more,
+        Unpacked::Finite {
+            negative,
+            shift: _,
+            significand: _,
+        } => 1 + flag(4, negative) + more,
+        Unpacked::Infinity(negative) => 2 + flag(4, negative) + more,
+        Unpacked::Nan {
+            negative,
+            signaling,
+            payload: _,
+        } => 3 + flag(4, negative) + flag(8, signaling) + more,
+    }
+}
+
+fn shift_of(v: Unpacked) -> u64 {
+    match v {
+        Unpacked::Zero(_) => 0,
+        Unpacked::Finite {
+            negative: _,
+            shift,
+            significand: _,
+        } => shift,
+        Unpacked::Infinity(_) => 0,
+        Unpacked::Nan {
+            negative: _,
+            signaling: _,
+            payload: _,
+        } => 0,
+    }
+}
+
+fn number_of(v: Unpacked) -> u64 {
+    match v {
+        Unpacked::Zero(_) => 0,
+        Unpacked::Finite {
+            negative: _,
+            shift: _,
+            significand,
+        } => significand,
+        Unpacked::Infinity(_) => 0,
+        Unpacked::Nan {
+            negative: _,
+            signaling: _,
+            payload,
+        } => payload,
+    }
+}
+
+// Settings: mode, tininess, flush and saturate as the digits of j; denormals-are-zero, NaN rule and sign, precision.
+fn settings(j: u64, daz: u64, rule: u64, negative: u64, precision: u64) -> Settings {
+    Settings {
+        rounding: j % 8,
+        tininess: j / 8 % 2,
+        nan_propagation: rule,
+        default_nan_negative: negative,
+        flush_to_zero: j / 16 % 2,
+        denormals_are_zero: daz,
+        saturate: j / 32 % 2,
+        precision,
+    }
+}
+
+// What is decoded, encoded again.
+fn again(f: Format, b: u64) -> u64
+    requires { ⌜ FormatBounds (formatOf f) ⌝ }
+{
+    encode(f, decode(f, b))
+}
+
+fn decodings(f: Format, s: &[u8]) -> u64
+    requires { ⌜ FormatBounds (formatOf f) ⌝ }
+    ensures { λ r. ⌜ r ≤ 5 ⌝ }
+{
+    let b = hex(s, 4, 2);
+    let e = again(f, b);
+    let v = decode(f, b);
+    let plain = is_plain(f, b);
+    let o = operand(f, settings(0, 1, 0, 0, 0), b);
+    let w = o.value;
+    let mut agreed = agrees(tag(v, o.subnormal, plain), hex(s, 7, 2));
+    agreed += agrees(shift_of(v), hex(s, 9, 2));
+    agreed += agrees(number_of(v), hex(s, 11, 2));
+    agreed += agrees(tag(w, o.subnormal, plain), hex(s, 14, 2));
+    agreed += agrees(e, hex(s, 17, 2));
+    agreed
+}
+
+pub fn decode_row(s: &[u8]) -> u64
+    ensures { λ r. ⌜ r ≤ 5 ⌝ }
+{
+    let f = format_at(s);
+    if valid_format(f) { decodings(f, s) } else { 0 }
+}
+
+// The NaN that an encoding is.
+fn nan_at(f: Format, b: u64) -> Nan
+    requires { ⌜ FormatBounds (formatOf f) ⌝ }
+    ensures { λ r. ⌜ Encodes (formatOf f) (nanOf r) ⌝ }
+{
+    let v = decode(f, b);
+    match v {
+        Unpacked::Zero(_) => nan::none(),
+        Unpacked::Finite {
+            negative: _,
+            shift: _,
+            significand: _,
+        } => nan::none(),
+        Unpacked::Infinity(_) => nan::none(),
+        Unpacked::Nan {
+            negative,
+            signaling,
+            payload,
+        } => Nan {
+            some: true,
+            negative,
+            signaling,
+            payload,
+        },
+    }
+}
+
+fn chosen(f: Format, rule: u64, negative: u64, a: Nan, b: Nan) -> u64
+    requires { ⌜ FormatBounds (formatOf f) × Encodes (formatOf f) (nanOf a) × Encodes (formatOf f) (nanOf b) ⌝ }
+{
+    let first = select(rule, nan::none(), a);
+    let n = select(rule, first, b);
+    encode(f, selected(settings(0, 0, rule, negative, 0), n))
+}
+
+fn choices(f: Format, s: &[u8]) -> u64
+    requires { ⌜ FormatBounds (formatOf f) ⌝ }
+    ensures { λ r. ⌜ r ≤ 8 ⌝ }
+{
+    let a = nan_at(f, hex(s, 4, 2));
+    let b = nan_at(f, hex(s, 7, 2));
+    let mut agreed: u64 = 0;
+    let mut j: u64 = 0;
+    while j < 8 {
+        agreed += agrees(
+            chosen(f, j % 4, j / 4, a, b),
+            hex(s, 10 + 2 * (j as usize), 2),
+        );
+        j += 1;
+    }
+    agreed
+}
+
+pub fn nan_row(s: &[u8]) -> u64
+    ensures { λ r. ⌜ r ≤ 8 ⌝ }
+{
+    let f = format_at(s);
+    if valid_format(f) { choices(f, s) } else { 0 }
+}
+
+// A value to round: two words, which stand at a word of the window.
+fn value_at(s: &[u8], negative: bool) -> Unrounded {
+    let mut w = [0u64; 12];
+    let i = hex(s, 5, 1) as usize;
+    if i < 11 {
+        w[i] = hex(s, 34, 16);
+        w[i + 1] = hex(s, 17, 16);
+    }
+    Unrounded {
+        negative,
+        sticky: hex(s, 4, 1) == 1,
+        position: hex(s, 12, 4) % 65536,
+        significand: w,
+    }
+}
+
+// Whether a value with a sticky bit has two digits more than the format keeps.
+fn is_long(f: Format, v: Unrounded) -> bool
+    requires { ⌜ FormatBounds (formatOf f) ⌝ }
+    ensures { λ r. ⌜ (r ≡ true → v .sticky ≡ true → 2 ^ suc (spec.digits (formatOf f)) ≤ value (v .significand)) ⌝ }
+{
+    if !v.sticky {
+        return true;
+    }
+    let w = v.significand;
+    window::bit_length(w) > (digits(f) as usize) + 1
+}
+
+// The result and the flags of a rounding, and 65,536 for what cannot be rounded.
+fn rounded(f: Format, c: Settings, g: u64, v: Unrounded) -> u64
+    requires { ⌜ FormatBounds (formatOf f) × (g < 65536) ⌝ }
+{
+    if !valid_settings(f, c) {
+        return 65536;
+    }
+    if v.position < 64 {
+        return 65536;
+    }
+    if v.position > 65535 {
+        return 65536;
+    }
+    let w = v.significand;
+    if window::is_zero(w) {
+        return 65536;
+    }
+    if !is_long(f, v) {
+        return 65536;
+    }
+    let r = round(f, c, g, v);
+    let u = r.value;
+    encode(f, u) % 256 * 256 + r.flags
+}
+
+fn roundings(f: Format, s: &[u8]) -> u64
+    requires { ⌜ FormatBounds (formatOf f) ⌝ }
+    ensures { λ r. ⌜ r ≤ 128 ⌝ }
+{
+    let g = hex(s, 7, 4) % 65536;
+    let plus = value_at(s, false);
+    let minus = value_at(s, true);
+    let mut agreed: u64 = 0;
+    let mut j: u64 = 0;
+    while j < 128 {
+        let c = settings(j, 0, 0, 0, hex(s, 3, 1));
+        let r = if j < 64 {
+            rounded(f, c, g, plus)
+        } else {
+            rounded(f, c, g, minus)
+        };
+        agreed += agrees(r, hex(s, 51 + 4 * (j as usize), 4));
+        j += 1;
+    }
+    agreed
+}
+
+pub fn round_row(s: &[u8]) -> u64
+    ensures { λ r. ⌜ r ≤ 128 ⌝ }
+{
+    let f = format_at(s);
+    if valid_format(f) { roundings(f, s) } else { 0 }
+}
+
+fn widths(f: Format, s: &[u8]) -> u64
+    requires { ⌜ FormatBounds (formatOf f) ⌝ }
+    ensures { λ r. ⌜ r ≤ 7 ⌝ }
+{
+    let mut agreed = agrees(bias(f), hex(s, 8, 8));
+    agreed += agrees(exponent_range(f), hex(s, 17, 8));
+    agreed += agrees(depth(f), hex(s, 26, 8));
+    agreed += agrees(origin(f, false), hex(s, 35, 8));
+    agreed += agrees(origin(f, true), hex(s, 44, 8));
+    agreed += agrees(grid(f, false), hex(s, 53, 8));
+    agreed += agrees(grid(f, true), hex(s, 62, 8));
+    agreed
+}
+
+pub fn format_row(s: &[u8]) -> u64
+    ensures { λ r. ⌜ r ≤ 7 ⌝ }
+{
+    let f = Format {
+        kind: hex(s, 0, 1),
+        exponent_bits: hex(s, 2, 2),
+        width: hex(s, 5, 2),
+    };
+    if valid_format(f) { widths(f, s) } else { 0 }
+}
+
+// Whether a format and the settings are offered: 1 for the format, 2 for both.
+fn offered(f: Format, c: Settings) -> u64
+    ensures { λ r. ⌜ r ≤ 3 ⌝ }
+{
+    if valid_format(f) {
+        1 + flag(2, valid_settings(f, c))
+    } else {
+        0
+    }
+}
+
+pub fn settings_row(s: &[u8]) -> u64
+    ensures { λ r. ⌜ r ≤ 4 ⌝ }
+{
+    let f = Format {
+        kind: hex(s, 0, 1),
+        exponent_bits: hex(s, 2, 2),
+        width: hex(s, 5, 2),
+    };
+    let c = Settings {
+        rounding: hex(s, 8, 1),
+        tininess: hex(s, 9, 1),
+        nan_propagation: hex(s, 10, 1),
+        default_nan_negative: hex(s, 11, 1),
+        flush_to_zero: hex(s, 12, 1),
+        denormals_are_zero: hex(s, 13, 1),
+        saturate: hex(s, 14, 1),
+        precision: hex(s, 16, 2),
+    };
+    let zeros = hex(s, 19, 1);
+    let all = hex(s, 21, 1);
+    let sign = zero_sum_sign(c, zeros % 2 == 1, zeros / 2 % 2 == 1);
+    let mut agreed = 2 * agrees(offered(f, c), all % 4);
+    agreed += agrees(flag(1, sign), all / 4 % 2);
+    agreed += agrees(flag(1, zero_sum_is_negative(c)), all / 8 % 2);
+    agreed
+}
