@@ -76,13 +76,5 @@ precision-most f c b = go (c .precision) (b .precision-le)
     go zero h = le-refl (digits f)
     go (suc q) h = h
 
-pub precision-least : (f : Format) (c : Settings) → 1 ≤ digits f → 1 ≤ precisionOf f c
-unfolding precisionOf
-precision-least f c h = go (c .precision)
-  where
-    go : (q : ℕ) → 1 ≤ chosen q (digits f)
-    go zero = h
-    go (suc q) = omega arith
-
 pub precision-le : (f : Format) (c : Settings) → T (validSettings f c) → precisionOf f c ≤ digits f
 precision-le f c t = precision-most f c (settings-bounds f c t)
