@@ -406,8 +406,8 @@ def careers():
 
 SMALL = [(k, e, w) for k in range(4) for e, w in ((2, 4), (2, 5), (2, 6), (3, 5), (3, 6), (4, 6), (4, 8), (5, 8))]
 NAMED = [(k, e, w) for k in range(4) for e, w in ((5, 16), (8, 16), (8, 19), (8, 32), (11, 64))]
-ODD = [(0, 15, 64), (1, 15, 48), (2, 12, 64), (3, 12, 40), (0, 12, 14), (1, 11, 13), (2, 20, 64), (0, 28, 64), (3, 28, 30), (2, 28, 33), (1, 24, 61),
-       (0, 2, 64), (3, 2, 64), (1, 3, 63), (2, 13, 17), (0, 10, 43)]
+ODD = [(0, 15, 64), (1, 15, 48), (2, 12, 64), (3, 12, 40), (0, 12, 14), (1, 11, 13), (2, 20, 64), (0, 28, 64), (3, 28, 30),
+       (2, 28, 33), (1, 24, 61), (0, 2, 64), (3, 2, 64), (1, 3, 63), (2, 13, 17), (0, 10, 43)]
 WIDE = [(0, 11, 64), (0, 11, 64), (1, 11, 64), (2, 11, 64), (3, 11, 64), (0, 15, 64), (0, 12, 14), (3, 12, 40), (2, 20, 64), (0, 28, 64), (1, 15, 48)]
 
 
@@ -506,14 +506,11 @@ def staircase(rng, f):
     dot = rng.random() < .6
     c = settings(rng, f)
     top = f.emax - 1
-    span = top - f.emin
-    pieces = rng.randint(1, 5 if dot else 3)
-    at, values = top, []
-    for _ in range(pieces):
-        values.append((at, rng.getrandbits(1), rng.choice([0, rng.getrandbits(f.fraction)])))
-        at -= rng.choice([766, 767, 768, 830, 701 + f.p, rng.randint(300, 1000)])
     if not dot:
-        left = [power(f, n, s, r) for n, s, r in values]
+        at, left = top, []
+        for _ in range(rng.randint(1, 3)):
+            left.append(power(f, at, rng.getrandbits(1), rng.choice([0, rng.getrandbits(f.fraction)])))
+            at -= rng.choice([766, 767, 768, 830, 701 + f.p, rng.randint(300, 1000)])
         left += [v ^ f.sign for v in left if rng.random() < .95]
         if rng.random() < .6:
             left += [power(f, at, 0, 0), power(f, at - f.p, 0, 0), power(f, at - f.p - rng.choice(STEPS), rng.getrandbits(1))]
@@ -522,8 +519,7 @@ def staircase(rng, f):
     left, right = [], []
     at = 2 * top
     for _ in range(6):
-        a = max(min(top, at - f.emin), at - top, f.emin) if rng.random() < .5 else at // 2
-        a = min(max(a, at - top, f.emin), top)
+        a = min(top, at - f.emin) if rng.random() < .5 else at // 2
         left.append(power(f, a, rng.getrandbits(1), 0))
         right.append(power(f, at - a))
         if len(left) % 2 == 1 and rng.random() < .5 and len(left) < 6:
@@ -559,24 +555,26 @@ def by_passes(rng, wanted):
 
 
 def boundary_sides():
-    """Below, on and above a tie: by a bit of the first window, and far below it, in every mode and of either sign."""
+    """Below, on and above a tie: by a bit of the first window, and far below it, in every mode and of either sign.
+    On the tie both for an even and for an odd number."""
     cases = []
     f = DOUBLE
     for mode in range(8):
         for negative in range(2):
-            for side in (-1, 0, 1):
-                rest = mode & 1
+            for side, rest in ((-1, mode & 1), (0, 0), (0, 1), (1, mode & 1)):
                 tie = [power(f, 0, negative, rest), power(f, -53, negative)]
                 for far in (-100, -1000):
                     least = power(f, far, negative ^ (side < 0))
                     values = tie + [least] + ([least ^ f.sign] if side == 0 else [])
                     cases.append(Case(f, {'rounding': mode}, values))
+                if rest == mode & 1:
+                    cases.append(Case(f, {'rounding': mode}, values, [power(f, 1, negative)] * len(values)))
     return cases
 
 
 def thresholds():
     """Sums of binary64 that meet a number of the passes' rules exactly, or miss it by one."""
-    at = lambda *terms: [power(DOUBLE, e, int(sign < 0)) for sign, e in terms]
+    at = lambda *terms: [power(DOUBLE, e, int(sign < 0), *rest) for sign, e, *rest in terms]
     lists = [
         # the first window's unit is 2^-702, the spacing of ties 2^-53; 2^65 units are 2^-637
         at((1, 0), (1, -637), (1, -1000)),
@@ -610,12 +608,38 @@ def thresholds():
         at((1, 1000), (-1, 1000), (1, 364), (1, 297), (1, -600)),
         at((1, 1000), (-1, 1000), (1, 233), (1, -467), (1, -600)),
         at((1, 1000), (-1, 1000), (1, 200), (-1, 200), (1, -467), (1, -700)),
+        # a term that reaches the edge drops its lowest bit
+        at((1, 1000), (-1, 1000), (1, 298, 1)),
+        at((1, 1000), (-1, 1000), (1, 300, 1), (1, -600)),
+        at((1, 1000), (1, -403, 1), (1, -900)),
+        at((1, 1000), (1, -340, 1), (-1, -900)),
     ]
     cases = []
     for values in lists:
         cases.append(Case(DOUBLE, {}, values))
         cases.append(Case(DOUBLE, {'rounding': TO_ODD}, [v ^ DOUBLE.sign for v in values]))
-        cases.append(Case(DOUBLE, {'rounding': DOWN}, values[:6], [power(DOUBLE, 0, 1)] * len(values)))
+        # a product's first edge is one higher, and so are the numbers met, but for the ends of the first window
+        ends = at((1, 0), (1, -53), (1, 1000), (1, 947))
+        values = [v if v % DOUBLE.sign in ends else v + (1 << 52) for v in values]
+        cases.append(Case(DOUBLE, {'rounding': DOWN}, values, [power(DOUBLE, 0, 1)] * len(values)))
+    return cases
+
+
+def long_chains():
+    """Binary64 from its largest exponent down to its least subnormal number, through terms that cancel or a boundary."""
+    f, cases = DOUBLE, []
+    big, sign = power(f, 1023), f.sign
+    for mode in (EVEN, UP, DOWN, TO_ODD):
+        for side in (0, sign):
+            c = {'rounding': mode}
+            cases.append(Case(f, c, [big, side + 1]))
+            cases.append(Case(f, c, [big, big + sign, side + 1]))
+            cases.append(Case(f, c, [big, big + sign, power(f, 442), side + 1]))
+            cases.append(Case(f, c, [big, side + 1], [power(f, 0), 1]))
+            cases.append(Case(f, c, [big, big + sign, side + 1], [big, big, 1]))
+            cases.append(Case(f, c, [big, power(f, 733), side + 1, big], [big, power(f, 733), 1, big + sign]))
+        cases.append(Case(f, c, [power(f, 511), 1], None, SQUARE))
+        cases.append(Case(f, c, [big + sign, 1 + sign], None, MAGNITUDE))
     return cases
 
 
@@ -664,7 +688,24 @@ def tiny_results(rng):
     return cases
 
 
-def nans_and_infinities(rng):
+def about_the_least_normal():
+    """The least normal number less a quarter, a half or a whole of the last of q digits below it."""
+    cases = []
+    for mode in range(8):
+        for tininess in range(2):
+            for below in (2, 1, 0):
+                j = mode + tininess + below
+                f = Format(j % 4, *((5, 16), (4, 8), (5, 8))[j % 3])
+                q = (f.p, f.p, 2)[mode % 3]
+                c = {'rounding': mode, 'tininess': tininess, 'precision': 0 if q == f.p else q}
+                negative = (mode + below) % 2
+                a = f.emin // 2
+                left = [power(f, a, negative), power(f, a - 1, 1 - negative)]
+                cases.append(Case(f, c, left, [power(f, f.emin - a), power(f, f.emin - q - below - a + 1)]))
+    return cases
+
+
+def nans_and_infinities():
     cases = []
     f = Format(IEEE, 5, 16)
     inf, one = f.infinity(0), power(f, 0)
@@ -694,7 +735,7 @@ def nans_and_infinities(rng):
         cases.append(Case(f, {**c, 'daz': 1}, [1, one], [inf, one]))
         cases.append(Case(f, c, [inf, one], [one + f.sign, inf]))
         cases.append(Case(f, c, [inf, 0, one], [inf, one, one]))
-    for kind, f in ((NOINF, Format(NOINF, 4, 8)), (FNUZ, Format(FNUZ, 4, 8))):
+    for f in (Format(NOINF, 4, 8), Format(FNUZ, 4, 8)):
         for rule in range(4):
             none = f.nan(rule % 2, 0)
             c = {'nan': rule, 'negative': rule // 2}
@@ -709,19 +750,20 @@ def zeros():
     for kind in range(4):
         f = Format(kind, 4, 8)
         one, minus = power(f, 0), 0 if kind == FNUZ else f.sign
-        for mode in (EVEN, UP, DOWN, TO_ZERO):
+        for mode in (EVEN, DOWN) if kind else (EVEN, UP, DOWN, TO_ZERO, TO_ODD):
             c = {'rounding': mode}
             for values in ([], [0], [minus], [0, minus], [one, minus, one + f.sign]):
                 cases.append(Case(f, c, values))
             cases.append(Case(f, c, [minus], None, 1 + mode % 2))
             cases.append(Case(f, c, [], []))
             cases.append(Case(f, c, [0, minus], [one + f.sign, one]))
+            cases.append(Case(f, c, [one, minus, one], [one + f.sign, one, one]))
             cases.append(Case(f, {**c, 'daz': 1}, [1, f.sign + 1], [one, one]))
     return cases
 
 
 def totals(rng):
-    cases = boundary_sides() + thresholds() + overflows() + tiny_results(rng) + nans_and_infinities(rng) + zeros()
+    cases = boundary_sides() + thresholds() + long_chains() + overflows() + tiny_results(rng) + about_the_least_normal() + nans_and_infinities() + zeros()
     wanted = {(1, False): 6, (2, False): 16, (3, False): 16, (4, False): 12, (1, True): 6, (2, True): 16, (3, True): 16, (4, True): 12,
               (5, True): 8, (6, True): 6, (7, True): 4}
     cases += by_passes(rng, wanted)
@@ -737,10 +779,11 @@ def totals(rng):
 
 # ---- refusals
 
-def refusals(rng):
+def refusals():
     cases = []
     half, one = (0, 5, 16), 0x3c00
-    for kind, e, w in ((4, 11, 64), (15, 5, 16), (0, 1, 16), (0, 0, 8), (0, 29, 64), (1, 11, 12), (2, 11, 65), (3, 28, 29), (0, 255, 255), (0, 11, 0)):
+    for kind, e, w in ((4, 11, 64), (15, 5, 16), (0, 1, 16), (0, 0, 8), (0, 29, 64), (1, 11, 12), (2, 11, 65), (3, 28, 29),
+                       (0, 255, 255), (0, 11, 0)):
         for right in (None, [1, 0]):
             cases.append(Case((kind, e, w), {}, [1, 2], right))
     for name, most in zip(NAMES, RANGES):
@@ -764,6 +807,8 @@ def refusals(rng):
     cases.append(Case(half, {}, [one, 1 << 16, 1 << 20]))
     cases.append(Case(half, {}, [one] * 11 + [1 << 63]))
     cases.append(Case(half, {}, [one, one, 1 << 16], [1 << 16, 0, 0]))
+    cases.append(Case(half, {}, [one, 1 << 63, one, 1 << 16], [1 << 20, 0, 1 << 16, 0]))
+    cases.append(Case(half, {}, [one] * 4, [one, 1 << 63, one, 1 << 16]))
     cases.append(Case(half, {}, [0x7e00, 1 << 16]))
     cases.append(Case((0, 2, 63), {}, [0, 1 << 63]))
     cases.append(Case((0, 2, 64), {}, [0, 1 << 63]))
@@ -778,7 +823,7 @@ def refusals(rng):
     cases.append(Case(half, {}, [one], [one, stray]))
     # the byte entry's own two: 1 before 2, and both before all others
     for f, c, values in ((half, {}, []), (half, {}, [one, one]), ((4, 5, 16), {}, [one]), (half, {'tininess': 2}, [one]), (half, {}, [one, stray])):
-        for x, buffer in ((7, 32), (3, 32), (1, 24), (0, 23), (0, 0), (7, 23), (3, 0)):
+        for x, buffer in ((7, 32), (3, 24), (0, 23), (0, 0), (7, 23)):
             cases.append(Case(f, c, values, None, 0, (x, 0), buffer))
             cases.append(Case(f, c, values, values, 0, (x, 0), buffer))
             cases.append(Case(f, c, values, values, 0, (0, x), buffer))
@@ -790,7 +835,7 @@ def refusals(rng):
 
 def groups():
     rng = random.Random(754)
-    return (('C1 to C12', careers()), ('sums and dots', totals(rng)), ('refusals', refusals(rng)))
+    return (('C1 to C12', careers()), ('sums and dots', totals(rng)), ('refusals', refusals()))
 
 
 def write(folder):
