@@ -1,8 +1,10 @@
 // Runs the totals over the cases of standard input: over words, over bytes and through the byte entries, and prints how many of the answers
 // agree. harness/totals_vectors.py makes the cases, from the text of document 01 alone, and says how a row is laid out.
+mod counts;
 mod row;
 mod ways;
 
+use counts::counts;
 use row::hex;
 use ways::by_bytes;
 use ways::by_entry;
@@ -89,4 +91,6 @@ fn main() {
     report_all(hex(&head, 5, 4) % 65536);
     io::write_all(1, b"refusals\n");
     report_all(hex(&head, 10, 4) % 65536);
+    io::write_all(1, b"numbers of elements\n  refusals: ");
+    report(counts(), 6);
 }
