@@ -1,9 +1,14 @@
 -- What the words are that are added for a term.
 use mathlib.Core.Path.{_≡_}
 use mathlib.Core.Bool.{Bool, true, false}
-use Prim.Native.Nat.{ℕ, _+_, _*_, _/_, _^_, _≤_}
+use Prim.Native.Nat.{ℕ, _+_, _-_, _*_, _/_, _^_, _≤_}
 use Rattle.limbs.specs.Value.{term}
 use Rattle.limbs_term.specs.declared.Placed.{Placed}
+
+-- a word, or what it lacks to the greatest
+abbrev pub flip : Bool → ℕ → ℕ
+flip false w = w
+flip true w = 18446744073709551615 - w
 
 -- their number, with the carry into them
 abbrev pub sum : Placed → ℕ

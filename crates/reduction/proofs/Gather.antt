@@ -3,20 +3,22 @@ use mathlib.Core.Path.{_≡_, refl, sym, ap, ap₂, _∙_, subst}
 use mathlib.Core.Bool.{Bool, true, false, _&&_, cond}
 use mathlib.Core.List.{List, [], _∷_, _++_, map}
 use Prim.Native.Nat.{ℕ, zero, suc, _+_, _-_, _*_, _/_, _%_, _^_, _≤_, _<_, max}
-use native.Mathlib.Nat.{add-zero, zero-div, max-zero}
+use native.Mathlib.Nat.{add-zero, zero-add, zero-mul, add-assoc, add-comm, mod-eq-of-lt, zero-div, max-zero}
 use native.Mathlib.Numerals.{add-one}
 use native.Mathlib.Omega.{arith}
-use lib.ListN.{length, take, getD, replicate}
+use lib.ListN.{length, take, getD}
 use lib.Seq.{take-suc, take-length}
 use lib.Pow.{pow-pos}
-use Rattle.limbs.specs.Value.{value, moved}
+use Rattle.limbs.specs.Value.{Words, value, moved}
+use Rattle.limbs.proofs.Words.{alike, value-lt}
+use Rattle.limbs.proofs.Step.{minus-is}
 use Rattle.totals_spec.specs.Basics.{total, greatest, keep, isSet}
 use Rattle.totals_spec.specs.Format as spec
 use Rattle.totals_spec.specs.Settings as env
 use Rattle.totals_spec.specs.Decode as dec
 use Rattle.totals_spec.specs.Terms as terms
 use Rattle.totals_spec.specs.Chain.{residue, half, lookAt, lostEnd, lostOf, cutPlus, cutMinus}
-use Rattle.totals_spec.proofs.Window.{residue-zero, residue-plus, residue-minus}
+use Rattle.totals_spec.proofs.Window.{residue-zero, residue-plus, residue-minus, residue-cancel}
 use Rattle.totals_spec.specs.Totals.{pairs}
 use Rattle.totals_spec.proofs.Order.{pairs-length}
 use Rattle.arithmetic.proofs.Pairs.{pairs-at}
@@ -29,7 +31,7 @@ use Rattle.arithmetic.proofs.Elements.{plainly, plain-item}
 use Rattle.arithmetic.proofs.Pairs.{both-plainly, plain-pair}
 use Rattle.window.specs.Joined.{Passed}
 use Rattle.window.proofs.Parted.{lost-of-zero}
-use Rattle.reduction.specs.Held.{Held, Adds}
+use Rattle.reduction.specs.Held.{middle, Held, Adds}
 
 window : half + half ≡ 2 ^ 768
 unfolding half
@@ -100,10 +102,6 @@ shift-small t (terms.zeroItem s) h = h .1
 
 -- ---- the gathering of a list of items, and of one more
 
-pub held-none : (w : ℕ) → Held [] w 0 0
-unfolding lookAt
-held-none w = record { window = sym (residue-zero half half-pos); lost-is = refl }
-
 held-more : (ts : List terms.Term) (w v lost v′ lost′ : ℕ) (t : Term) (i : terms.Item) → StandsFor t i → Held ts w v lost
     → v′ ≡ moved (t .negative) v (magnitude t / 2 ^ w) → lost′ ≡ max lost (lostEnd w (magnitude t)) → Held (ts ++ keep (terms.termOf i) []) w v′ lost′
 unfolding lookAt
@@ -111,9 +109,10 @@ held-more ts w v lost v′ lost′ t i s h e g =
     let a = adds w t i s in
     record {
       window = e ∙ ap (λ (n : ℕ). moved (t .negative) n (magnitude t / 2 ^ w)) (h .window)
-          ∙ moved-is (t .negative) (total (cutPlus w) ts) (total (cutMinus w) ts) (magnitude t / 2 ^ w)
-          ∙ ap₂ (λ (n m : ℕ). residue half (total (cutPlus w) ts + n) (total (cutMinus w) ts + m)) (sym (a .plus)) (sym (a .minus))
-          ∙ sym (ap₂ (λ (n m : ℕ). residue half n m) (total-append (cutPlus w) ts (keep (terms.termOf i) [])) (total-append (cutMinus w) ts (keep (terms.termOf i) [])));
+          ∙ moved-is (t .negative) (value middle + total (cutPlus w) ts) (total (cutMinus w) ts) (magnitude t / 2 ^ w)
+          ∙ ap₂ (λ (n m : ℕ). residue half (value middle + total (cutPlus w) ts + n) (total (cutMinus w) ts + m)) (sym (a .plus)) (sym (a .minus))
+          ∙ ap (λ (n : ℕ). residue half n (total (cutMinus w) ts + total (cutMinus w) (keep (terms.termOf i) []))) (add-assoc (value middle) (total (cutPlus w) ts) _)
+          ∙ sym (ap₂ (λ (n m : ℕ). residue half (value middle + n) m) (total-append (cutPlus w) ts (keep (terms.termOf i) [])) (total-append (cutMinus w) ts (keep (terms.termOf i) [])));
       lost-is = g ∙ ap₂ max (h .lost-is) (sym (a .lost)) ∙ sym (greatest-append (lostOf w) ts (keep (terms.termOf i) []));
     }
 
@@ -135,12 +134,40 @@ terms-next f l i d h =
 
 -- ---- the start and the end
 
-pub held-start : (w : ℕ) → Held [] w (value (replicate 12 0)) 0
-unfolding value
-held-start w = held-none w
+middle-words : Words 12 middle
+middle-words = alike 12 9223372036854775808 (omega arith)
 
-pub passed : (ts : List terms.Term) (w : ℕ) (q : Pass) → Held ts w (value (q .total)) (q .lost) → Passed ts w q
-passed ts w q h = record { total = h .window; lost = h .lost-is }
+held-none : (w : ℕ) → Held [] w (value middle) 0
+unfolding lookAt
+held-none w = record { window = sym (plain ∙ mod-eq-of-lt (subst (λ (n : ℕ). value middle < n) (sym window) (value-lt middle-words))); lost-is = refl }
+  where
+    plain : residue half (value middle + 0) 0 ≡ value middle % (half + half)
+    plain =
+        ap (λ (n : ℕ). residue half n 0) (add-zero (value middle) ∙ sym (zero-add (value middle))) ∙ residue-plus half half-pos 0 0 (value middle)
+        ∙ ap (λ (n : ℕ). (n + value middle) % (half + half)) (residue-zero half half-pos) ∙ ap (λ (n : ℕ). n % (half + half)) (zero-add (value middle))
+
+pub start-words : {l : List ℕ} → l ≡ middle → Words 12 l
+start-words e = subst (Words 12) (sym e) middle-words
+
+pub held-start : (w : ℕ) {l : List ℕ} → l ≡ middle → Held [] w (value l) 0
+held-start w e = subst (λ (l : List ℕ). Held [] w (value l) 0) (sym e) (held-none w)
+
+-- without the start, the sum is left
+pub passed : (ts : List terms.Term) (w v lost : ℕ) (q : Pass) → Held ts w v lost → (value (q .total) ≡ moved true v (value middle)) × (q .lost ≡ lost) → Passed ts w q
+passed ts w v lost q h e =
+    let a = lookAt ts w .plus in
+    let b = lookAt ts w .minus in
+    record {
+      total = e .0 ∙ ap (λ (n : ℕ). moved true n (value middle)) (h .window) ∙ moved-is true (value middle + a) b (value middle)
+          ∙ ap (λ (n : ℕ). residue half n (b + value middle)) (add-zero (value middle + a) ∙ add-comm (value middle) a) ∙ residue-cancel half half-pos a b (value middle);
+      lost = e .1 ∙ h .lost-is;
+    }
+
+-- ---- a term of which nothing reaches the edge
+
+pub unmoved : (neg : Bool) (l : List ℕ) (x : ℕ) → Words 12 l → x ≡ 0 → value l ≡ moved neg (value l) x
+unmoved false l x w e = sym (mod-eq-of-lt (value-lt w)) ∙ ap (λ (n : ℕ). n % 2 ^ 768) (sym (add-zero (value l)) ∙ ap (λ (n : ℕ). value l + n) (sym e))
+unmoved true l x w e = minus-is (2 ^ 768) (value l) (value l) x 0 (pow-pos 768) (value-lt w) (ap (λ (n : ℕ). value l + n) (e ∙ sym (zero-mul (2 ^ 768))))
 
 -- ---- an element, or a pair, that is plainly normal
 

@@ -1,15 +1,22 @@
--- What a pass holds after some terms: the window's number and the lost bit plus one are those of a pass over these terms. And one element more.
+-- What a pass holds after some terms: the window's number, but for what the window started with, and the lost bit plus one are those of a pass over
+-- these terms. And one element more.
 use mathlib.Core.Path.{_≡_}
 use mathlib.Core.List.{List, [], _++_}
-use Prim.Native.Nat.{ℕ}
+use Prim.Native.Nat.{ℕ, _+_}
+use lib.ListN.{replicate}
+use Rattle.limbs.specs.Value.{value}
 use Rattle.totals_spec.specs.Basics.{keep}
 use Rattle.totals_spec.specs.Terms as terms
 use Rattle.totals_spec.specs.Chain.{residue, half, lookAt, chain}
 use Rattle.window.specs.declared.ExactSum.{ExactSum}
 use Rattle.window.specs.Joined.{runOf, Ended}
 
+-- what a window starts with: the middle of each word
+abbrev pub middle : List ℕ
+middle = replicate 12 9223372036854775808
+
 pub record Held (ts : List terms.Term) (w v lost : ℕ) : Type 0 where
-  pub window : v ≡ residue half (lookAt ts w .plus) (lookAt ts w .minus)
+  pub window : v ≡ residue half (value middle + lookAt ts w .plus) (lookAt ts w .minus)
   pub lost-is : lost ≡ lookAt ts w .lost
 
 -- an element with what it is added: whatever terms were held, these are held with the element's, if it is one

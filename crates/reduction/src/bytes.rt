@@ -1,4 +1,5 @@
 // The passes over lists of bytes, eight to a value, little end first.
+use crate::pass;
 use crate::pass::add_element;
 use crate::pass::add_pair;
 use crate::total::Answer;
@@ -36,7 +37,7 @@ fn pass_list(f: Format, c: Settings, u: u64, values: &[u8], w: u64) -> Pass
     requires { ⌜ FormatBounds (formatOf f) ⌝ }
     ensures { λ r. ⌜ Passed (totals.sumTerms (formatOf f) (settingsOf c) (env.summandOf u) (bytes.valuesIn (now (values .entry)))) w r ⌝ }
 {
-    let mut total = [0u64; 12];
+    let mut total = pass::start();
     let mut lost: u64 = 0;
     let n = values.len() / 8;
     let mut i: usize = 0;
@@ -44,14 +45,14 @@ fn pass_list(f: Format, c: Settings, u: u64, values: &[u8], w: u64) -> Pass
         lost = add_element(&mut total, f, c, u, word_at(values, i), w, lost);
         i += 1;
     }
-    Pass { lost, total }
+    pass::finished(total, lost)
 }
 
 fn pass_pairs(f: Format, c: Settings, left: &[u8], right: &[u8], w: u64) -> Pass
     requires { ⌜ FormatBounds (formatOf f) × (length (now right) / 8 ≡ length (now left) / 8) ⌝ }
     ensures { λ r. ⌜ Passed (totals.dotTerms (formatOf f) (settingsOf c) (bytes.valuesIn (now (left .entry))) (bytes.valuesIn (now (right .entry)))) w r ⌝ }
 {
-    let mut total = [0u64; 12];
+    let mut total = pass::start();
     let mut lost: u64 = 0;
     let n = left.len() / 8;
     let mut i: usize = 0;
@@ -67,7 +68,7 @@ fn pass_pairs(f: Format, c: Settings, left: &[u8], right: &[u8], w: u64) -> Pass
         );
         i += 1;
     }
-    Pass { lost, total }
+    pass::finished(total, lost)
 }
 
 // The exact sum of the terms, the highest of whose bits lies at `top`: pass after pass until one of them decides.

@@ -1,4 +1,5 @@
 // The passes over lists of 64-bit words.
+use crate::pass;
 use crate::pass::add_element;
 use crate::pass::add_pair;
 use crate::total::Answer;
@@ -34,28 +35,28 @@ fn pass_list(f: Format, c: Settings, u: u64, values: &[u64], w: u64) -> Pass
     requires { ⌜ FormatBounds (formatOf f) ⌝ }
     ensures { λ r. ⌜ Passed (totals.sumTerms (formatOf f) (settingsOf c) (env.summandOf u) (now (values .entry))) w r ⌝ }
 {
-    let mut total = [0u64; 12];
+    let mut total = pass::start();
     let mut lost: u64 = 0;
     let mut i: usize = 0;
     while i < values.len() {
         lost = add_element(&mut total, f, c, u, values[i], w, lost);
         i += 1;
     }
-    Pass { lost, total }
+    pass::finished(total, lost)
 }
 
 fn pass_pairs(f: Format, c: Settings, left: &[u64], right: &[u64], w: u64) -> Pass
     requires { ⌜ FormatBounds (formatOf f) × (length (now right) ≡ length (now left)) ⌝ }
     ensures { λ r. ⌜ Passed (totals.dotTerms (formatOf f) (settingsOf c) (now (left .entry)) (now (right .entry))) w r ⌝ }
 {
-    let mut total = [0u64; 12];
+    let mut total = pass::start();
     let mut lost: u64 = 0;
     let mut i: usize = 0;
     while i < left.len() {
         lost = add_pair(&mut total, f, c, left[i], right[i], w, lost);
         i += 1;
     }
-    Pass { lost, total }
+    pass::finished(total, lost)
 }
 
 // The exact sum of the terms, the highest of whose bits lies at `top`: pass after pass until one of them decides.

@@ -2,7 +2,7 @@
 -- is `residue half plus minus`; `signedOf half` of it is S.
 use mathlib.Core.Path.{_≡_, sym, ap, _∙_}
 use Prim.Native.Nat.{ℕ, _+_, _-_, _*_, _/_, _%_, _<_}
-use native.Mathlib.Nat.{add-mul, one-mul, mod-add-mod, mod-lt, mod-self, zero-mod, add-right-comm, div-add-mod', add-mul-mod-self-right}
+use native.Mathlib.Nat.{add-mul, one-mul, mod-add-mod, mod-lt, mod-self, zero-mod, add-right-comm, div-add-mod', add-mul-mod-self-right, mod-mod}
 use native.Mathlib.Omega.{arith}
 use Rattle.totals_spec.specs.Chain.{residue}
 
@@ -39,3 +39,18 @@ module _ (h : ℕ) (h0 : 0 < h) where
           same : (a W b x r q s t u v : ℕ) → q * W + r ≡ b + x → t * W + s ≡ b → v * W + u ≡ x → r < W → s < W → u < W
               → a + (W - r) + (t + v + 1) * W ≡ a + (W - s) + (W - u) + q * W
           same a W b x r q s t u v e₁ e₂ e₃ l₁ l₂ l₃ = omega (arith, add-mul (t + v) 1 W, one-mul W, add-mul t v W)
+
+  -- a part that is added and taken off
+  pub residue-cancel : (a b x : ℕ) → residue h (a + x) (b + x) ≡ residue h a b
+  unfolding residue
+  residue-cancel a b x =
+      residue-minus (a + x) b x ∙ ap (λ (y : ℕ). (y + (h + h - x % (h + h))) % (h + h)) (residue-plus a b x)
+      ∙ mod-add-mod (residue h a b + x) (h + h) (h + h - x % (h + h))
+      ∙ ap (λ (y : ℕ). y % (h + h)) (same (residue h a b) x (h + h) (x / (h + h)) (x % (h + h)) (div-add-mod' x (h + h)) (mod-lt x pos))
+      ∙ add-mul-mod-self-right (residue h a b) (x / (h + h) + 1) (h + h) ∙ mod-mod (a + (h + h - b % (h + h))) (h + h)
+    where
+      pos : 0 < h + h
+      pos = omega arith
+
+      same : (r x W q u : ℕ) → q * W + u ≡ x → u < W → r + x + (W - u) ≡ r + (q + 1) * W
+      same r x W q u e l = omega (arith, add-mul q 1 W, one-mul W)

@@ -7,14 +7,13 @@ use native.Mathlib.Omega.{arith}
 use borrow.Author.Needs.{needs}
 use lib.ListN.{length, take}
 use Rattle.limbs.specs.Value.{Words, value}
-use Rattle.limbs.proofs.Words.{zeros}
 use Rattle.totals_spec.specs.Settings.{summandOf}
 use Rattle.totals_spec.specs.Terms as terms
 use Rattle.totals_spec.specs.Bytes.{valuesIn}
 use Rattle.totals_spec.proofs.Values.{values-length}
 use Rattle.format.specs.Joined.{formatOf, settingsOf}
 use Rattle.reduction.specs.Held.{Held}
-use Rattle.reduction.proofs.Gather.{held-start, held-turn, held-end, passed}
+use Rattle.reduction.proofs.Gather.{start-words, held-start, held-turn, held-end, passed}
 use Rattle.reduction.proofs.bytes.pass_list.Statement.{statement}
 use Rattle.reduction.proofs.bytes.pass_list.Tie as tie
 
@@ -25,14 +24,17 @@ Inv-loop f c u values w total₀ lost₀ n i₀ total lost i =
 abbrev μ-loop : tie.MeasureT-loop
 μ-loop f c u values w total₀ lost₀ n i₀ total lost i = n - i
 
+start-requires : tie.Need-start-requires Inv-loop μ-loop
+start-requires c κs = search needs
+
 loop-holds : tie.Need-loop-holds Inv-loop μ-loop
-loop-holds c = (search needs, search needs, zeros 12, held-start _)
+loop-holds c = (search needs, search needs, start-words (c .start .ensures), held-start _ (c .start .ensures))
 
 word-at-requires : tie.Need-word-at-requires Inv-loop μ-loop
 word-at-requires c κs = search needs
 
 add-element-requires : tie.Need-add-element-requires Inv-loop μ-loop
-add-element-requires c κs = (c .before .before .before .loop .inv .2, c .before .before .before .before .before .pre)
+add-element-requires c κs = (c .before .before .before .loop .inv .2, c .before .before .before .before .before .before .pre)
 
 add-i : tie.Need-add-i Inv-loop μ-loop
 add-i c = search needs
@@ -42,7 +44,7 @@ loop-less c = search needs
 
 loop-again : tie.Need-loop-again Inv-loop μ-loop
 loop-again c =
-    let a = c .before .before .before .before .before .before .args in
+    let a = c .before .before .before .before .before .before .before .args in
     let p = c .before .before .before .before .loop in
     let h = c .before .before .before .loop-test .taken in
     let l = valuesIn (a .values .now) in (
@@ -52,11 +54,14 @@ loop-again c =
       held-turn (terms.item (formatOf (a .f)) (settingsOf (a .c)) (summandOf (a .u))) l (a .w) 0 _ (p .i) _ _ _ _ (omega (arith, values-length (a .values .now), p .inv .1)) (c .before .word-at .ensures) (p .inv .3) (c .add-element .ensures .1),
     )
 
+finished-requires : tie.Need-finished-requires Inv-loop μ-loop
+finished-requires c κs = search needs
+
 returns : tie.Need-returns Inv-loop μ-loop
 returns c =
-    let a = c .before .before .before .args in
-    let p = c .before .loop in
-    passed _ _ _ (held-end (terms.item (formatOf (a .f)) (settingsOf (a .c)) (summandOf (a .u))) (valuesIn (a .values .now)) (a .w) (p .i) _ _ (omega (arith, values-length (a .values .now), p .inv .1)) (p .inv .3))
+    let a = c .before .before .before .before .before .args in
+    let p = c .before .before .loop in
+    passed _ _ _ _ _ (held-end (terms.item (formatOf (a .f)) (settingsOf (a .c)) (summandOf (a .u))) (valuesIn (a .values .now)) (a .w) (p .i) _ _ (omega (arith, values-length (a .values .now), p .inv .1)) (p .inv .3)) (c .finished .ensures)
 
 pub pass-list-spec : {M : Type 1} → statement M
 pass-list-spec =
@@ -64,10 +69,12 @@ pass-list-spec =
     (tie.spec
     Inv-loop
     μ-loop
+    start-requires
     loop-holds
     word-at-requires
     add-element-requires
     add-i
     loop-less
     loop-again
+    finished-requires
     returns)

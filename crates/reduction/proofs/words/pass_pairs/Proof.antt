@@ -7,12 +7,11 @@ use native.Mathlib.Omega.{arith}
 use borrow.Author.Needs.{needs}
 use lib.ListN.{length, take}
 use Rattle.limbs.specs.Value.{Words, value}
-use Rattle.limbs.proofs.Words.{zeros}
 use Rattle.totals_spec.specs.Terms as terms
 use Rattle.totals_spec.specs.Totals.{pairs}
 use Rattle.format.specs.Joined.{formatOf, settingsOf}
 use Rattle.reduction.specs.Held.{Held}
-use Rattle.reduction.proofs.Gather.{held-start, pair-turn, pair-end, passed}
+use Rattle.reduction.proofs.Gather.{start-words, held-start, pair-turn, pair-end, passed}
 use Rattle.reduction.proofs.words.pass_pairs.Statement.{statement}
 use Rattle.reduction.proofs.words.pass_pairs.Tie as tie
 
@@ -23,8 +22,11 @@ Inv-loop f c left right w total₀ lost₀ i₀ total lost i =
 abbrev μ-loop : tie.MeasureT-loop
 μ-loop f c left right w total₀ lost₀ i₀ total lost i = length left - i
 
+start-requires : tie.Need-start-requires Inv-loop μ-loop
+start-requires c κs = search needs
+
 loop-holds : tie.Need-loop-holds Inv-loop μ-loop
-loop-holds c = (search needs, zeros 12, held-start _)
+loop-holds c = (search needs, start-words (c .start .ensures), held-start _ (c .start .ensures))
 
 mul-add-pair : tie.Need-mul-add-pair Inv-loop μ-loop
 mul-add-pair c = search needs
@@ -39,7 +41,7 @@ shared-slice-read-add-pair-2 : tie.Need-shared-slice-read-add-pair-2 Inv-loop μ
 shared-slice-read-add-pair-2 c = search needs
 
 add-pair-requires : tie.Need-add-pair-requires Inv-loop μ-loop
-add-pair-requires c κs = (c .before .before .before .before .loop .inv .1, c .before .before .before .before .before .before .before .pre .0)
+add-pair-requires c κs = (c .before .before .before .before .loop .inv .1, c .before .before .before .before .before .before .before .before .pre .0)
 
 add-i : tie.Need-add-i Inv-loop μ-loop
 add-i c = search needs
@@ -49,18 +51,21 @@ loop-less c = search needs
 
 loop-again : tie.Need-loop-again Inv-loop μ-loop
 loop-again c =
-    let a = c .before .before .before .before .before .before .before .before .args in
+    let a = c .before .before .before .before .before .before .before .before .before .args in
     let p = c .before .before .before .before .before .loop in
     let h = c .before .before .before .before .loop-test .taken in
-    let e : length (a .right .now) ≡ length (a .left .now) = c .before .before .before .before .before .before .before .before .pre .1 in
+    let e : length (a .right .now) ≡ length (a .left .now) = c .before .before .before .before .before .before .before .before .before .pre .1 in
     (add-one-le h, c .add-pair .ensures .0, pair-turn (terms.pairItem (formatOf (a .f)) (settingsOf (a .c))) (a .left .now) (a .right .now) (a .w) _ _ (p .i) _ _ _ _ e h refl refl (p .inv .2) (c .add-pair .ensures .1))
+
+finished-requires : tie.Need-finished-requires Inv-loop μ-loop
+finished-requires c κs = search needs
 
 returns : tie.Need-returns Inv-loop μ-loop
 returns c =
-    let a = c .before .before .before .before .args in
-    let p = c .before .loop in
-    let e : length (a .right .now) ≡ length (a .left .now) = c .before .before .before .before .pre .1 in
-    passed _ _ _ (pair-end (terms.pairItem (formatOf (a .f)) (settingsOf (a .c))) (a .left .now) (a .right .now) (a .w) (p .i) _ _ e (omega arith) (p .inv .2))
+    let a = c .before .before .before .before .before .before .args in
+    let p = c .before .before .loop in
+    let e : length (a .right .now) ≡ length (a .left .now) = c .before .before .before .before .before .before .pre .1 in
+    passed _ _ _ _ _ (pair-end (terms.pairItem (formatOf (a .f)) (settingsOf (a .c))) (a .left .now) (a .right .now) (a .w) (p .i) _ _ e (omega arith) (p .inv .2)) (c .finished .ensures)
 
 pub pass-pairs-spec : {M : Type 1} → statement M
 pass-pairs-spec =
@@ -68,6 +73,7 @@ pass-pairs-spec =
     (tie.spec
     Inv-loop
     μ-loop
+    start-requires
     loop-holds
     mul-add-pair
     shared-slice-read-add-pair
@@ -77,4 +83,5 @@ pass-pairs-spec =
     add-i
     loop-less
     loop-again
+    finished-requires
     returns)
