@@ -49,7 +49,7 @@ found-nothing : (w : ℕ) (l : List ℕ) (r : Found) → FoundIn r w l → r ≡
 found-nothing w l r found is = subst (λ (x : Found). FoundIn x w l) is found
 
 -- the width of a valid format, as the search needs it
-width-bounds : (f : Format) → FormatBounds f → (0 < f .W) × (f .W ≤ 64)
+pub width-bounds : (f : Format) → FormatBounds f → (0 < f .W) × (f .W ≤ 64)
 width-bounds f b = (omega (arith, b .w-ge, b .e-ge), b .w-le)
 
 -- ---- a sum

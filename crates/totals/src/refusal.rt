@@ -56,7 +56,7 @@ pub enum Found {
 }
 
 // The greatest encoding of a width.
-fn greatest(width: u64) -> u64
+pub fn greatest(width: u64) -> u64
     requires { ⌜ (0 < width) × (width ≤ 64) ⌝ }
     ensures { λ r. ⌜ r + 1 ≡ 2 ^ width ⌝ }
 {

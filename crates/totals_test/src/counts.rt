@@ -1,5 +1,5 @@
 // Refusal 6, by the number of elements alone: a list of more than 1,048,576 does not fit a program's stack, so the refusals are asked with its
-// length. A caller of the archive hands over such lists (harness/caller).
+// length. A caller of the archive hands over such lists (bindings/rust).
 use format::Format;
 use format::env::Settings;
 use totals::refusal::dot_refusal;
