@@ -1,6 +1,6 @@
 //! Both entries with good, refused and empty input. Every byte of the buffer is looked at. The expectations are document 01's: its table of
 //! refusals, its layout of the answer, its careers C1 to C12, and small exact sums.
-use caller::{bytes, dot, sum, Format, Settings};
+use fermuzhai::raw::{bytes, dot, sum, Format, Settings};
 
 const BINARY64: Format = [0, 11, 64];
 const BINARY16: Format = [0, 5, 16];
@@ -40,19 +40,43 @@ fn check_sum(f: Format, c: Settings, u: u64, values: &[u64], result: u64, flags:
     accepted(code, &buffer, result, flags, passes);
 }
 
-fn check_sum_refused(f: Format, c: Settings, u: u64, values: &[u8], room: usize, number: u64, place: u64) {
+fn check_sum_refused(
+    f: Format,
+    c: Settings,
+    u: u64,
+    values: &[u8],
+    room: usize,
+    number: u64,
+    place: u64,
+) {
     let mut buffer = vec![UNTOUCHED; room];
     let code = sum(f, c, u, values, &mut buffer);
     refused(code, &buffer, number, place);
 }
 
-fn check_dot(f: Format, c: Settings, left: &[u64], right: &[u64], result: u64, flags: u8, passes: u64) {
+fn check_dot(
+    f: Format,
+    c: Settings,
+    left: &[u64],
+    right: &[u64],
+    result: u64,
+    flags: u8,
+    passes: u64,
+) {
     let mut buffer = [UNTOUCHED; 40];
     let code = dot(f, c, &bytes(left), &bytes(right), &mut buffer);
     accepted(code, &buffer, result, flags, passes);
 }
 
-fn check_dot_refused(f: Format, c: Settings, left: &[u8], right: &[u8], room: usize, number: u64, place: u64) {
+fn check_dot_refused(
+    f: Format,
+    c: Settings,
+    left: &[u8],
+    right: &[u8],
+    room: usize,
+    number: u64,
+    place: u64,
+) {
     let mut buffer = vec![UNTOUCHED; room];
     let code = dot(f, c, left, right, &mut buffer);
     refused(code, &buffer, number, place);
@@ -66,25 +90,97 @@ fn careers() {
     let quiet = 0x7ff8_0000_0000_0000;
     check_sum(BINARY64, TOWARD_NEGATIVE, 0, &[], 0, 0x00, 0);
     check_sum(BINARY64, PLAIN, 0, &[minus_zero], minus_zero, 0x00, 0);
-    check_sum(BINARY64, TOWARD_NEGATIVE, 0, &[0, minus_zero], minus_zero, 0x00, 0);
+    check_sum(
+        BINARY64,
+        TOWARD_NEGATIVE,
+        0,
+        &[0, minus_zero],
+        minus_zero,
+        0x00,
+        0,
+    );
     check_sum(BINARY64, PLAIN, 0, &[one(1.0), one(-1.0)], 0, 0x00, 1);
-    check_sum(BINARY64, PLAIN, 0, &[power(1000), one(1.0), power(1000) | minus_zero], 0x3ff0_0000_0000_0000, 0x00, 2);
-    check_sum(BINARY64, PLAIN, 0, &[one(1.0), power(-53)], 0x3ff0_0000_0000_0000, 0x10, 1);
-    check_sum(BINARY64, PLAIN, 0, &[one(1.0), power(-53), power(-1000)], 0x3ff0_0000_0000_0001, 0x50, 2);
+    check_sum(
+        BINARY64,
+        PLAIN,
+        0,
+        &[power(1000), one(1.0), power(1000) | minus_zero],
+        0x3ff0_0000_0000_0000,
+        0x00,
+        2,
+    );
+    check_sum(
+        BINARY64,
+        PLAIN,
+        0,
+        &[one(1.0), power(-53)],
+        0x3ff0_0000_0000_0000,
+        0x10,
+        1,
+    );
+    check_sum(
+        BINARY64,
+        PLAIN,
+        0,
+        &[one(1.0), power(-53), power(-1000)],
+        0x3ff0_0000_0000_0001,
+        0x50,
+        2,
+    );
     check_sum(BINARY64, PLAIN, 0, &[largest, largest], infinity, 0x54, 1);
-    check_sum(BINARY64, TOWARD_ZERO, 0, &[largest, largest], largest, 0x14, 1);
+    check_sum(
+        BINARY64,
+        TOWARD_ZERO,
+        0,
+        &[largest, largest],
+        largest,
+        0x14,
+        1,
+    );
     check_sum(BINARY64, PLAIN, 0, &[1], 1, 0xa0, 1);
     check_sum(BINARY64, PLAIN, 2, &[power(-600)], 0, 0x38, 1);
-    check_sum(BINARY64, PLAIN, 1, &[infinity | minus_zero, quiet], infinity, 0x00, 0);
+    check_sum(
+        BINARY64,
+        PLAIN,
+        1,
+        &[infinity | minus_zero, quiet],
+        infinity,
+        0x00,
+        0,
+    );
 }
 
 #[test]
 fn dots() {
     check_dot(BINARY64, PLAIN, &[], &[], 0, 0, 0);
-    check_dot(BINARY64, PLAIN, &[one(1.5), one(2.0)], &[one(2.0), one(0.25)], one(3.5), 0, 1);
-    check_dot(BINARY64, PLAIN, &[one(3.0), one(-3.0)], &[one(7.0), one(7.0)], 0, 0, 1);
+    check_dot(
+        BINARY64,
+        PLAIN,
+        &[one(1.5), one(2.0)],
+        &[one(2.0), one(0.25)],
+        one(3.5),
+        0,
+        1,
+    );
+    check_dot(
+        BINARY64,
+        PLAIN,
+        &[one(3.0), one(-3.0)],
+        &[one(7.0), one(7.0)],
+        0,
+        0,
+        1,
+    );
     // an infinity times zero is invalid
-    check_dot(BINARY64, PLAIN, &[one(f64::INFINITY)], &[0], 0x7ff8_0000_0000_0000, 0x01, 0);
+    check_dot(
+        BINARY64,
+        PLAIN,
+        &[one(f64::INFINITY)],
+        &[0],
+        0x7ff8_0000_0000_0000,
+        0x01,
+        0,
+    );
 }
 
 #[test]
@@ -115,8 +211,24 @@ fn refusals_of_a_dot() {
     check_dot_refused([0, 1, 64], PLAIN, &two, &two, 24, 3, 0);
     check_dot_refused(BINARY64, [0, 2, 0, 0, 0, 0, 0, 0], &two, &two, 24, 4, 0);
     check_dot_refused(BINARY64, PLAIN, &two, &one_value, 24, 5, 0);
-    check_dot_refused(BINARY16, PLAIN, &bytes(&[1, 2, 1 << 20]), &bytes(&[1 << 16, 1, 1]), 24, 7, 2);
-    check_dot_refused(BINARY16, PLAIN, &bytes(&[1, 2, 3]), &bytes(&[1, 1 << 16, 1 << 17]), 24, 7, 1);
+    check_dot_refused(
+        BINARY16,
+        PLAIN,
+        &bytes(&[1, 2, 1 << 20]),
+        &bytes(&[1 << 16, 1, 1]),
+        24,
+        7,
+        2,
+    );
+    check_dot_refused(
+        BINARY16,
+        PLAIN,
+        &bytes(&[1, 2, 3]),
+        &bytes(&[1, 1 << 16, 1 << 17]),
+        24,
+        7,
+        1,
+    );
     check_dot_refused(BINARY16, PLAIN, &two, &one_value, 24, 5, 0);
 }
 

@@ -1,0 +1,86 @@
+/*
+ * The total of a career, from standard input, in one of two orders:
+ *
+ *     career forwards|backwards < examples/career.txt
+ *
+ * A line is the 16 hex digits of a month's amount in binary64. Result, flags
+ * and passes go to standard output; what a running total comes to in that
+ * order goes to standard error.
+ */
+#include <inttypes.h>
+#include <stdio.h>
+#include <string.h>
+
+#include "totals.h"
+
+#define MOST 8192
+
+static double months[MOST];
+
+/* The number of months, or MOST + 1 where a line is not 16 hex digits or there are more. */
+static size_t read_months(void)
+{
+    char line[32];
+    size_t n = 0;
+    while (fgets(line, sizeof line, stdin)) {
+        uint64_t encoding;
+        if (n == MOST || strspn(line, "0123456789abcdef") != 16 || sscanf(line, "%16" SCNx64, &encoding) != 1) {
+            return MOST + 1;
+        }
+        memcpy(&months[n++], &encoding, sizeof encoding);
+    }
+    return n;
+}
+
+static void reverse(double *list, size_t n)
+{
+    size_t i;
+    for (i = 0; i < n / 2; i++) {
+        double x = list[i];
+        list[i] = list[n - 1 - i];
+        list[n - 1 - i] = x;
+    }
+}
+
+static uint64_t word(const uint8_t *bytes)
+{
+    uint64_t x;
+    memcpy(&x, bytes, sizeof x);
+    return x;
+}
+
+int main(int argc, char **argv)
+{
+    uint8_t answer[TOTALS_ANSWER_BYTES];
+    uint64_t code, encoding;
+    double running = 0;
+    size_t i, n;
+
+    if (argc != 2 || (strcmp(argv[1], "forwards") != 0 && strcmp(argv[1], "backwards") != 0)) {
+        fprintf(stderr, "usage: career forwards|backwards < FILE\n");
+        return 2;
+    }
+    n = read_months();
+    if (n > MOST) {
+        fprintf(stderr, "a line is not 16 hex digits, or there are more than %d\n", MOST);
+        return 1;
+    }
+    if (strcmp(argv[1], "backwards") == 0) {
+        reverse(months, n);
+    }
+
+    code = totals_sum(TOTALS_BINARY64, TOTALS_DEFAULTS, TOTALS_VALUE,
+                      (const uint8_t *)months, n * sizeof months[0], answer, sizeof answer);
+    if (code != TOTALS_ACCEPTED) {
+        fprintf(stderr, "refused: %" PRIu64 "\n", TOTALS_REFUSAL(code));
+        return 1;
+    }
+    printf("%016" PRIx64 "\n%02x\n%" PRIu64 "\n", word(answer), (unsigned)answer[8], word(answer + 16));
+
+    for (i = 0; i < n; i++) {
+        running += months[i];
+    }
+    memcpy(&encoding, &running, sizeof encoding);
+    fprintf(stderr, "%016" PRIx64 "\n", encoding);
+    return 0;
+}

@@ -1,0 +1,74 @@
+#![doc = include_str!("../README.md")]
+#![cfg_attr(not(test), no_std)]
+
+extern crate alloc;
+
+mod format;
+pub mod raw;
+mod record;
+mod refusal;
+mod settings;
+mod totals;
+mod value;
+
+pub use format::{Format, Kind};
+pub use record::{Flags, Record};
+pub use refusal::Refusal;
+pub use settings::{NanPropagation, Rounding, Settings, Summand, Tininess};
+pub use totals::Totals;
+pub use value::{Float, Value};
+
+/// The exact sum of the values, rounded once to the nearest, ties to even.
+///
+/// A list of `f64` is read where it lies; one of `f32` is copied first, eight bytes a value.
+///
+/// Proved: `sum-exact`, `sum-entry-order` in `crates/totals_spec/proofs/Promises.antt`.
+///
+/// ```
+/// use fermuzhai::sum;
+///
+/// // a running total loses the 1
+/// assert_eq!(1e100 + 1.0 - 1e100, 0.0);
+/// assert_eq!(sum(&[1e100, 1.0, -1e100])?.result, 1.0);
+/// # Ok::<(), fermuzhai::Refusal>(())
+/// ```
+pub fn sum<T: Float>(values: &[T]) -> Result<Record<T>, Refusal> {
+    Totals::new().sum(values)
+}
+
+/// The exact sum of the magnitudes, rounded once to the nearest, ties to even.
+///
+/// Proved: `sum-exact`, `sum-entry-order` in `crates/totals_spec/proofs/Promises.antt`.
+///
+/// ```
+/// assert_eq!(fermuzhai::magnitude_sum(&[1.5, -2.0])?.result, 3.5);
+/// # Ok::<(), fermuzhai::Refusal>(())
+/// ```
+pub fn magnitude_sum<T: Float>(values: &[T]) -> Result<Record<T>, Refusal> {
+    Totals::new().magnitude_sum(values)
+}
+
+/// The exact sum of the squares, rounded once to the nearest, ties to even.
+///
+/// Proved: `sum-exact`, `sum-entry-order` in `crates/totals_spec/proofs/Promises.antt`.
+///
+/// ```
+/// assert_eq!(fermuzhai::square_sum(&[3.0, -4.0])?.result, 25.0);
+/// # Ok::<(), fermuzhai::Refusal>(())
+/// ```
+pub fn square_sum<T: Float>(values: &[T]) -> Result<Record<T>, Refusal> {
+    Totals::new().square_sum(values)
+}
+
+/// The exact sum of the products of the pairs, rounded once to the nearest, ties to even.
+///
+/// Proved: `dot-exact`, `dot-entry-order` in `crates/totals_spec/proofs/Promises.antt`.
+///
+/// ```
+/// let (left, right) = ([1e200, 3.0, -1e200], [1e200, 0.5, 1e200]);
+/// assert_eq!(fermuzhai::dot(&left, &right)?.result, 1.5);
+/// # Ok::<(), fermuzhai::Refusal>(())
+/// ```
+pub fn dot<T: Float>(left: &[T], right: &[T]) -> Result<Record<T>, Refusal> {
+    Totals::new().dot(left, right)
+}

@@ -1,0 +1,142 @@
+//! The two byte entries of `libtotals.a`, with plain numbers and byte slices.
+//!
+//! The numbers and the layout of the answer are those of the repository's `docs/LINKING.md`. For
+//! most callers [`Totals`](crate::Totals) is the better way in.
+
+use alloc::vec::Vec;
+
+use crate::value::sealed::Value as _;
+
+/// Kind, exponent bits, width.
+pub type Format = [u64; 3];
+
+/// Rounding, tininess, NaN propagation, sign of the default NaN, flush to zero, denormals are
+/// zero, saturate, precision.
+pub type Settings = [u64; 8];
+
+mod entry {
+    extern "C" {
+        pub fn totals_sum(
+            kind: u64,
+            exponent_bits: u64,
+            width: u64,
+            rounding: u64,
+            tininess: u64,
+            nan_propagation: u64,
+            default_nan_negative: u64,
+            flush_to_zero: u64,
+            denormals_are_zero: u64,
+            saturate: u64,
+            precision: u64,
+            summand: u64,
+            values: *const u8,
+            values_len: usize,
+            answer: *mut u8,
+            answer_len: usize,
+        ) -> u64;
+        pub fn totals_dot(
+            kind: u64,
+            exponent_bits: u64,
+            width: u64,
+            rounding: u64,
+            tininess: u64,
+            nan_propagation: u64,
+            default_nan_negative: u64,
+            flush_to_zero: u64,
+            denormals_are_zero: u64,
+            saturate: u64,
+            precision: u64,
+            left: *const u8,
+            left_len: usize,
+            right: *const u8,
+            right_len: usize,
+            answer: *mut u8,
+            answer_len: usize,
+        ) -> u64;
+    }
+}
+
+/// The sum of the values (summand 0), of their magnitudes (1) or of their squares (2).
+///
+/// Returns 0 and writes bytes 0 to 23 of the answer, or returns a refusal's code, which
+/// [`Refusal::from_code`](crate::Refusal::from_code) reads, and writes nothing.
+///
+/// Proved: the contract of `totals_sum` in `crates/totals/src/entry.rt`.
+///
+/// ```
+/// use fermuzhai::raw;
+///
+/// let mut answer = [0; 24];
+/// let values = raw::bytes(&[1.0f64.to_bits(), 0.25f64.to_bits()]);
+/// assert_eq!(raw::sum([0, 11, 64], [0; 8], 0, &values, &mut answer), 0);
+/// assert_eq!(answer[..8], 1.25f64.to_le_bytes());
+/// ```
+#[must_use = "the answer is written only where 0 is returned"]
+pub fn sum(f: Format, c: Settings, summand: u64, values: &[u8], answer: &mut [u8]) -> u64 {
+    // SAFETY: each pointer comes with the length of the slice that it is taken from, and `answer`,
+    // being borrowed for writing, lies apart from `values`. Of the numbers nothing is asked.
+    unsafe {
+        entry::totals_sum(
+            f[0],
+            f[1],
+            f[2],
+            c[0],
+            c[1],
+            c[2],
+            c[3],
+            c[4],
+            c[5],
+            c[6],
+            c[7],
+            summand,
+            values.as_ptr(),
+            values.len(),
+            answer.as_mut_ptr(),
+            answer.len(),
+        )
+    }
+}
+
+/// The sum of the products of the pairs. Returns and writes as [`sum`] does.
+///
+/// Proved: the contract of `totals_dot` in `crates/totals/src/entry.rt`.
+///
+/// ```
+/// use fermuzhai::raw;
+///
+/// let mut answer = [0; 24];
+/// let (left, right) = (raw::bytes(&[1.5f64.to_bits()]), raw::bytes(&[2.0f64.to_bits()]));
+/// assert_eq!(raw::dot([0, 11, 64], [0; 8], &left, &right, &mut answer), 0);
+/// assert_eq!(answer[..8], 3.0f64.to_le_bytes());
+/// ```
+#[must_use = "the answer is written only where 0 is returned"]
+pub fn dot(f: Format, c: Settings, left: &[u8], right: &[u8], answer: &mut [u8]) -> u64 {
+    // SAFETY: as in `sum`. The two lists may overlap, as both are only read.
+    unsafe {
+        entry::totals_dot(
+            f[0],
+            f[1],
+            f[2],
+            c[0],
+            c[1],
+            c[2],
+            c[3],
+            c[4],
+            c[5],
+            c[6],
+            c[7],
+            left.as_ptr(),
+            left.len(),
+            right.as_ptr(),
+            right.len(),
+            answer.as_mut_ptr(),
+            answer.len(),
+        )
+    }
+}
+
+/// Values as the entries read them: eight bytes each, little end first.
+#[must_use]
+pub fn bytes(values: &[u64]) -> Vec<u8> {
+    u64::bytes(values).into_owned()
+}

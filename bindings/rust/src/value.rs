@@ -1,0 +1,136 @@
+use crate::Format;
+
+/// What a list holds: `f64`, `f32`, or `u64` for encodings of a format that
+/// [`Totals::of`](crate::Totals::of) names.
+///
+/// Sealed: no other type can have it.
+pub trait Value: sealed::Value {}
+
+/// A float of Rust, which has a format of its own.
+///
+/// Sealed: no other type can have it.
+pub trait Float: Value {
+    /// The format.
+    const FORMAT: Format;
+}
+
+impl Value for u64 {}
+impl Value for f64 {}
+impl Value for f32 {}
+
+impl Float for f64 {
+    const FORMAT: Format = Format::BINARY64;
+}
+
+impl Float for f32 {
+    const FORMAT: Format = Format::BINARY32;
+}
+
+pub(crate) mod sealed {
+    use alloc::borrow::Cow;
+    use alloc::vec::Vec;
+
+    pub trait Value: Copy {
+        fn encoding(self) -> u64;
+        fn from_encoding(encoding: u64) -> Self;
+
+        /// The encodings as the entries read them: eight bytes each, little end first.
+        fn bytes(values: &[Self]) -> Cow<'_, [u8]> {
+            Cow::Owned(copied(values))
+        }
+    }
+
+    impl Value for u64 {
+        fn encoding(self) -> u64 {
+            self
+        }
+
+        fn from_encoding(encoding: u64) -> Self {
+            encoding
+        }
+
+        fn bytes(values: &[Self]) -> Cow<'_, [u8]> {
+            words(values)
+        }
+    }
+
+    impl Value for f64 {
+        fn encoding(self) -> u64 {
+            self.to_bits()
+        }
+
+        fn from_encoding(encoding: u64) -> Self {
+            Self::from_bits(encoding)
+        }
+
+        fn bytes(values: &[Self]) -> Cow<'_, [u8]> {
+            words(values)
+        }
+    }
+
+    impl Value for f32 {
+        fn encoding(self) -> u64 {
+            self.to_bits().into()
+        }
+
+        /// An encoding of binary32 has its upper half clear.
+        fn from_encoding(encoding: u64) -> Self {
+            Self::from_bits(encoding as u32)
+        }
+    }
+
+    fn copied<T: Value>(values: &[T]) -> Vec<u8> {
+        let words: Vec<[u8; 8]> = values.iter().map(|v| v.encoding().to_le_bytes()).collect();
+        words.into_flattened()
+    }
+
+    /// Eight bytes that are, in memory, the encoding.
+    ///
+    /// # Safety
+    ///
+    /// The type has no padding.
+    unsafe trait Word: Value {}
+
+    // SAFETY: every bit of an integer or a float is a bit of its value.
+    unsafe impl Word for u64 {}
+    // SAFETY: as above.
+    unsafe impl Word for f64 {}
+
+    /// On a little-endian platform the list itself, with nothing copied.
+    fn words<T: Word>(values: &[T]) -> Cow<'_, [u8]> {
+        if cfg!(target_endian = "big") {
+            return Cow::Owned(copied(values));
+        }
+        // SAFETY: the pointer and the size are those of one slice, which stays borrowed as long as
+        // the bytes are. A `Word` has no padding, so each byte has a value, and a `u8` may have any
+        // value and any address.
+        Cow::Borrowed(unsafe {
+            core::slice::from_raw_parts(values.as_ptr().cast(), size_of_val(values))
+        })
+    }
+
+    #[cfg(test)]
+    mod tests {
+        use super::*;
+
+        #[test]
+        fn lent_bytes_are_those_copied() {
+            let list = [0.0, -0.0, 1.5, f64::NAN, f64::INFINITY, 5e-324];
+            assert_eq!(*f64::bytes(&list), *copied(&list));
+            assert_eq!(f64::bytes(&list[1..3]).len(), 16);
+            assert!(f64::bytes(&[]).is_empty());
+            let encodings = list.map(f64::to_bits);
+            assert_eq!(u64::bytes(&encodings), f64::bytes(&list));
+            assert!(matches!(u64::bytes(&encodings), Cow::Borrowed(_)));
+        }
+
+        #[test]
+        fn singles_take_eight_bytes_each() {
+            assert_eq!(
+                *f32::bytes(&[1.0, -0.0]),
+                [0, 0, 0x80, 0x3f, 0, 0, 0, 0, 0, 0, 0, 0x80, 0, 0, 0, 0]
+            );
+            assert_eq!(f32::from_encoding(f32::MAX.encoding()), f32::MAX);
+        }
+    }
+}

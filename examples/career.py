@@ -1,0 +1,108 @@
+#!/usr/bin/env python3
+"""One career of 480 months, made up, and what the program `total` prints for it.
+
+    career.py          writes career.txt and career.expected beside this file
+    career.py --check  says whether the two files are what it would write
+
+A line of career.txt is the amount paid in one month, in pounds, as the 16 hex
+digits of the nearest binary64 number. The amounts are monthly contributions
+in pounds and pence, a share of a salary that grows; in some months less, where
+an earlier payment is taken back; and in some with interest credited to a
+hundredth of a penny.
+
+career.expected has result, flags, passes and pence. They come from exact
+fractions: the sum of the 480 numbers, rounded once.
+"""
+
+import pathlib
+import struct
+import sys
+from fractions import Fraction
+
+MONTHS = 480
+HERE = pathlib.Path(__file__).resolve().parent
+
+
+def draws(state):
+    """Whole numbers from 0 to 999, the same on every machine."""
+    while True:
+        state = (state * 6364136223846793005 + 1442695040888963407) % 2 ** 64
+        yield (state >> 33) % 1000
+
+
+def amounts():
+    """The amount of each month, in hundredths of a penny."""
+    draw = draws(480)
+    salary = 684_000  # pence a year
+    paid = 0
+    for month in range(MONTHS):
+        year = month // 12
+        if month and month % 12 == 0:
+            rise = 100_000 + 15 * 100 + 4 * next(draw)  # 1.5 to 5.5 per cent
+            if year in (4, 9, 15, 24):
+                rise += 9_000  # a new post
+            salary = salary * rise // 100_000
+        rate = 50 if year < 10 else 65 if year < 25 else 80  # thousandths
+        amount = 100 * (salary * rate // 12_000)
+        if month % 41 == 40:
+            amount = -100 * (500 + 7 * next(draw))  # an overpayment goes back
+        elif month % 60 == 59:
+            amount += paid * 7 // 4_800  # a month's interest at 1.75 per cent
+        paid += amount
+        yield amount
+
+
+def hex_of(x):
+    return struct.pack('>d', x).hex()
+
+
+def nearest(numerator, denominator):
+    """The nearest whole number, ties away from zero."""
+    n = (2 * abs(numerator) + denominator) // (2 * denominator)
+    return n if numerator >= 0 else -n
+
+
+def pence(x):
+    return nearest((100 * x).numerator, (100 * x).denominator)
+
+
+def expected(months):
+    exact = sum(map(Fraction, months))
+    result = float(exact)  # to the nearest, ties to even
+    rounded = Fraction(result)
+    flags = 0 if rounded == exact else 16 + (64 if abs(rounded) > abs(exact) else 0)
+    # The highest bit of all lies less than 702 positions above the lowest, so the first pass drops nothing and is the only one.
+    highest = max(map(abs, months))
+    units = [Fraction(x) * 2 ** 1074 for x in months]
+    lowest = min(int(u) & -int(u) for u in units)
+    assert exact != 0 and Fraction(highest) * 2 ** 1074 < lowest * 2 ** 702
+    assert pence(rounded) == pence(exact)
+    return [hex_of(result), f'{flags:02x}', '1', str(pence(rounded))]
+
+
+def running(months):
+    total = 0.0
+    for x in months:
+        total += x
+    return total
+
+
+def main():
+    months = [float(Fraction(n, 10_000)) for n in amounts()]
+    answer = expected(months)
+    # What the example is for: three different totals, one of them right.
+    assert len({hex_of(running(months)), hex_of(running(months[::-1])), answer[0]}) == 3
+    same = True
+    for name, lines in (('career.txt', map(hex_of, months)), ('career.expected', answer)):
+        text = ''.join(line + '\n' for line in lines)
+        if sys.argv[1:] == ['--check']:
+            if (HERE / name).read_text() != text:
+                print(f'{name} is not what career.py writes')
+                same = False
+        else:
+            (HERE / name).write_text(text)
+    sys.exit(not same)
+
+
+if __name__ == '__main__':
+    main()
