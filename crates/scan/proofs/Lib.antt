@@ -3,3 +3,5 @@ pub mod Step
 pub mod Lists
 pub mod Updates
 pub mod Special
+pub mod Record
+pub mod Lent

@@ -21,7 +21,8 @@ use Rattle.format.specs.Fits.{Encodes}
 use Rattle.binary.specs.declared.nan.Nan.{Nan}
 use Rattle.arithmetic.specs.declared.Item.{Item}
 use Rattle.scan.specs.declared.Scan.{Scan}
-use Rattle.scan.specs.Joined.{topOfItem, invalidOf, infiniteOf, zeroOf, taken, ifNan, Reads, Gathered, nanDecides}
+use Rattle.scan.specs.declared.OfferedNan.{OfferedNan}
+use Rattle.scan.specs.Joined.{topOfItem, invalidOf, infiniteOf, zeroOf, taken, ifNan, Reads, Offered, Gathered, nanDecides}
 use Rattle.scan.proofs.Choice.{held-if, choose-none, none-signaling}
 
 -- ---- the scan of nothing
@@ -128,15 +129,14 @@ module _ (rule : ℕ) (s : Scan) where
     nan = k .nan;
   }
 
-  pub nan-read : (n m : Nan) (b : Bool) → n .some ≡ true → b ≡ (s .signaling || n .signaling) → nanOf m ≡ nans.choose (env.propagationOf rule) (nanOf (s .nan)) (nanOf n)
-      → Reads rule false (nanOf n) s (with (s .subnormal) b m)
-  nan-read n m b e h k = record {
-    rest = same m (sym (or-false (s .subnormal))) (h ∙ ap (λ g. s .signaling || g) (sym (ap dec.isSignaling is)));
-    nan = sym (held-if m) ∙ ap ifNan k;
-  }
-    where
-      is : nanOf n ≡ dec.nan (n .negative) (n .signaling) (n .payload)
-      is = rw e
+-- a NaN offered, with the choice m
+pub nan-read : (n : OfferedNan) (s : Scan) (m : Nan) (b : Bool) → b ≡ (s .signaling || n .signaling)
+    → nanOf m ≡ nans.choose (env.propagationOf (n .rule)) (nanOf (s .nan)) (dec.nan (n .negative) (n .signaling) (n .payload))
+    → Offered n s (with (n .rule) s (s .subnormal) b m)
+nan-read n s m b h k = record {
+  rest = same (n .rule) s m (sym (or-false (s .subnormal))) h;
+  nan = sym (held-if m) ∙ ap ifNan k;
+}
 
 -- ---- whether a NaN decides
 

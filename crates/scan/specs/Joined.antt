@@ -17,6 +17,7 @@ use Rattle.binary.specs.declared.nan.Nan.{Nan}
 use Rattle.arithmetic.specs.declared.Item.{Item}
 use Rattle.arithmetic.specs.declared.Item.the-variants as item
 use Rattle.scan.specs.declared.Scan.{Scan}
+use Rattle.scan.specs.declared.OfferedNan.{OfferedNan}
 use Rattle.scan.specs.declared.Early.{Early}
 use Rattle.scan.specs.declared.Early.the-variants.{Given, Terms}
 
@@ -102,6 +103,10 @@ ifNan v = cond (dec.isNan v) v (dec.zeroOf false)
 pub record Reads (rule : ℕ) (sub : Bool) (v : dec.Unpacked) (s r : Scan) : Type 0 where
   pub rest : r ≡ seen sub (dec.isSignaling v) (r .nan) s
   pub nan : nanOf (r .nan) ≡ ifNan (nans.choose (env.propagationOf rule) (nanOf (s .nan)) v)
+
+-- and r is s with a NaN that is offered for the choice
+abbrev pub Offered : OfferedNan → Scan → Scan → Type 0
+Offered n s r = Reads (n .rule) false (dec.nan (n .negative) (n .signaling) (n .payload)) s r
 
 -- ---- what a scan has gathered: of the operands ops, and of the items l
 

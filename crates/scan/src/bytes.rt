@@ -35,7 +35,7 @@ pub fn scan_list(f: Format, c: Settings, u: u64, values: &[u8]) -> Scan
             top = at;
         }
     }
-    s.top(top)
+    s.noted_top(top)
 }
 
 pub fn scan_pairs(f: Format, c: Settings, left: &[u8], right: &[u8]) -> Scan
@@ -58,5 +58,5 @@ pub fn scan_pairs(f: Format, c: Settings, left: &[u8], right: &[u8]) -> Scan
             top = at;
         }
     }
-    s.top(top)
+    s.noted_top(top)
 }

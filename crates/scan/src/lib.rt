@@ -19,8 +19,7 @@ ghost use mathlib.Core.Bool.{true, false, _||_};
 ghost use Rattle.totals_spec.specs.Settings as env;
 ghost use Rattle.totals_spec.specs.Bounds.{FormatBounds};
 ghost use Rattle.format.specs.Joined.{formatOf, settingsOf, unpackedOf};
-ghost use Rattle.binary.specs.Joined.{nanOf};
-ghost use Rattle.scan.specs.Joined.{raised, taken, Reads, Fresh, Takes, TakesPair, nanDecides, Decides};
+ghost use Rattle.scan.specs.Joined.{raised, taken, Offered, Reads, Fresh, Takes, TakesPair, nanDecides, Decides};
 
 pub struct Scan {
     pub subnormal: bool,
@@ -35,6 +34,14 @@ pub struct Scan {
     pub top: u64,
     // the NaN chosen so far
     pub nan: Nan,
+}
+
+// A NaN among the operands, and the rule by which one of them is chosen.
+struct OfferedNan {
+    rule: u64,
+    negative: bool,
+    signaling: bool,
+    payload: u64,
 }
 
 // What a scan alone decides.
@@ -72,21 +79,28 @@ impl Scan {
             nan: n,
         }
     }
+}
 
-    // A NaN: the choice goes on.
-    pub fn nan(mut self, rule: u64, n: Nan) -> Scan
-        requires { ⌜ n .some ≡ true ⌝ }
-        ensures { λ r. ⌜ Reads rule false (nanOf n) self r ⌝ }
+// What each of the four updates makes of a scan. The branches stand here, by value, where the checker covers them.
+impl Scan {
+    // The choice among NaNs goes on.
+    fn with_nan(mut self, n: OfferedNan) -> Scan
+        ensures { λ r. ⌜ Offered n self r ⌝ }
     {
+        let next = Nan {
+            some: true,
+            negative: n.negative,
+            signaling: n.signaling,
+            payload: n.payload,
+        };
         let kept = self.nan;
-        let chosen = nan::select(rule, kept, n);
+        let chosen = nan::select(n.rule, kept, next);
         self.nan = chosen;
         self.signaling = either(self.signaling, n.signaling);
         self
     }
 
-    // An infinity.
-    pub fn infinity(mut self, negative: bool) -> Scan
+    fn with_infinity(mut self, negative: bool) -> Scan
         ensures { λ r. ⌜ r ≡ taken (Item.Infinite negative) self ⌝ }
     {
         if negative {
@@ -97,8 +111,7 @@ impl Scan {
         self
     }
 
-    // A zero.
-    pub fn zero(mut self, negative: bool) -> Scan
+    fn with_zero(mut self, negative: bool) -> Scan
         ensures { λ r. ⌜ r ≡ taken (Item.Zero negative) self ⌝ }
     {
         if negative {
@@ -109,8 +122,7 @@ impl Scan {
         self
     }
 
-    // A term whose highest bit lies at a position.
-    pub fn top(mut self, position: u64) -> Scan
+    fn with_top(mut self, position: u64) -> Scan
         ensures { λ r. ⌜ r ≡ raised position self ⌝ }
     {
         if self.top < position {
@@ -118,7 +130,76 @@ impl Scan {
         }
         self
     }
+}
 
+// The four updates, which change a scan that is lent. They are proved by hand, by one walk for all (proofs/Lent.antt).
+impl Scan {
+    // A NaN.
+    fn nan(&mut self, n: OfferedNan)
+        ensures { λ _. ⌜ Offered n (now (self .entry)) (now (self .exit)) ⌝ }
+    {
+        *self = self.with_nan(n);
+    }
+
+    // An infinity.
+    fn infinity(&mut self, negative: bool)
+        ensures { λ _. ⌜ now (self .exit) ≡ taken (Item.Infinite negative) (now (self .entry)) ⌝ }
+    {
+        *self = self.with_infinity(negative);
+    }
+
+    // A zero.
+    fn zero(&mut self, negative: bool)
+        ensures { λ _. ⌜ now (self .exit) ≡ taken (Item.Zero negative) (now (self .entry)) ⌝ }
+    {
+        *self = self.with_zero(negative);
+    }
+
+    // A term whose highest bit lies at a position.
+    fn top(&mut self, position: u64)
+        ensures { λ _. ⌜ now (self .exit) ≡ raised position (now (self .entry)) ⌝ }
+    {
+        *self = self.with_top(position);
+    }
+}
+
+// The same by value: a scan of its own is lent to the update. The walks over a list use these, since a loop that lends its scan is not covered.
+impl Scan {
+    fn noted_nan(self, n: OfferedNan) -> Scan
+        ensures { λ r. ⌜ Offered n self r ⌝ }
+    {
+        let mut s = self;
+        s.nan(n);
+        s
+    }
+
+    fn noted_infinity(self, negative: bool) -> Scan
+        ensures { λ r. ⌜ r ≡ taken (Item.Infinite negative) self ⌝ }
+    {
+        let mut s = self;
+        s.infinity(negative);
+        s
+    }
+
+    fn noted_zero(self, negative: bool) -> Scan
+        ensures { λ r. ⌜ r ≡ taken (Item.Zero negative) self ⌝ }
+    {
+        let mut s = self;
+        s.zero(negative);
+        s
+    }
+
+    fn noted_top(self, position: u64) -> Scan
+        ensures { λ r. ⌜ r ≡ raised position self ⌝ }
+    {
+        let mut s = self;
+        s.top(position);
+        s
+    }
+}
+
+// One operand, and one element or pair.
+impl Scan {
     // An operand that was read: flag 128, and the choice among NaNs.
     fn read(mut self, rule: u64, subnormal: bool, v: Unpacked) -> Scan
         ensures { λ r. ⌜ Reads rule subnormal (unpackedOf v) self r ⌝ }
@@ -132,13 +213,13 @@ impl Scan {
         else {
             return self;
         };
-        let n = Nan {
-            some: true,
+        let n = OfferedNan {
+            rule,
             negative,
             signaling,
             payload,
         };
-        self.nan(rule, n)
+        self.noted_nan(n)
     }
 
     // What an element or a pair is.
@@ -151,9 +232,9 @@ impl Scan {
                 self.invalid = true;
                 self
             }
-            Item::Infinite(negative) => self.infinity(negative),
-            Item::Zero(negative) => self.zero(negative),
-            Item::Top(position) => self.top(position),
+            Item::Infinite(negative) => self.noted_infinity(negative),
+            Item::Zero(negative) => self.noted_zero(negative),
+            Item::Top(position) => self.noted_top(position),
         }
     }
 }

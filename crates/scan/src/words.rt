@@ -31,7 +31,7 @@ pub fn scan_list(f: Format, c: Settings, u: u64, values: &[u64]) -> Scan
             top = at;
         }
     }
-    s.top(top)
+    s.noted_top(top)
 }
 
 pub fn scan_pairs(f: Format, c: Settings, left: &[u64], right: &[u64]) -> Scan
@@ -53,5 +53,5 @@ pub fn scan_pairs(f: Format, c: Settings, left: &[u64], right: &[u64]) -> Scan
             top = at;
         }
     }
-    s.top(top)
+    s.noted_top(top)
 }

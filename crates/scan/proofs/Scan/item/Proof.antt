@@ -16,20 +16,20 @@ enum-told-2 c = search needs
 enum-known-i : tie.Need-enum-known-i
 enum-known-i c = search needs
 
-infinity-requires : tie.Need-infinity-requires
-infinity-requires c κs = search needs
+noted-infinity-requires : tie.Need-noted-infinity-requires
+noted-infinity-requires c κs = search needs
 
 enum-known-i-2 : tie.Need-enum-known-i-2
 enum-known-i-2 c = search needs
 
-zero-requires : tie.Need-zero-requires
-zero-requires c κs = search needs
+noted-zero-requires : tie.Need-noted-zero-requires
+noted-zero-requires c κs = search needs
 
 enum-known-i-3 : tie.Need-enum-known-i-3
 enum-known-i-3 c = search needs
 
-top-requires : tie.Need-top-requires
-top-requires c κs = search needs
+noted-top-requires : tie.Need-noted-top-requires
+noted-top-requires c κs = search needs
 
 returns : tie.Need-returns
 returns c = rw (c .enum-told .given .1) (taken-is (c .before .before .args .self) item.Nan _ (sym (max-zero _)))
@@ -38,13 +38,13 @@ returns-2 : tie.Need-returns-2
 returns-2 c = rw (c .enum-told2 .given .1) (taken-is (c .before .before .args .self) item.Invalid _ (sym (max-zero _)))
 
 returns-3 : tie.Need-returns-3
-returns-3 c = rw (c .before .before .i .given .1) (c .infinity .ensures)
+returns-3 c = rw (c .before .before .i .given .1) (c .noted-infinity .ensures)
 
 returns-4 : tie.Need-returns-4
-returns-4 c = rw (c .before .before .i2 .given .1) (c .zero .ensures)
+returns-4 c = rw (c .before .before .i2 .given .1) (c .noted-zero .ensures)
 
 returns-5 : tie.Need-returns-5
-returns-5 c = rw (c .before .before .i3 .given .1) (c .top .ensures ∙ taken-is (c .before .before .before .before .args .self) (item.Top _) _ refl)
+returns-5 c = rw (c .before .before .i3 .given .1) (c .noted-top .ensures ∙ taken-is (c .before .before .before .before .args .self) (item.Top _) _ refl)
 
 pub item-spec : {M : Type 1} → statement M
 item-spec =
@@ -53,11 +53,11 @@ item-spec =
     enum-told
     enum-told-2
     enum-known-i
-    infinity-requires
+    noted-infinity-requires
     enum-known-i-2
-    zero-requires
+    noted-zero-requires
     enum-known-i-3
-    top-requires
+    noted-top-requires
     returns
     returns-2
     returns-3

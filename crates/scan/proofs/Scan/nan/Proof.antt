@@ -1,17 +1,17 @@
--- `scan::Scan::nan` meets its contract.
-use Rattle.scan.proofs.Updates.{nan-read}
-use borrow.Author.Needs.{needs}
+-- `scan::Scan::nan` meets its contract, by the walk of an update in `Lent`. All that is known of `with_nan` is that it meets its own.
+use base.Logic.{emp}
+use contract.Monad.{factI}
+use Rattle.scan.proofs.Record.{nan}
+use Rattle.scan.proofs.Lent.{update-holds}
+use Rattle.scan.proofs.Scan.with_nan.Symbol as callee
+use Rattle.scan.proofs.Scan.with_nan.Met.{met}
+use Rattle.scan.proofs.Scan.nan.{clauses}
+use Rattle.scan.proofs.Scan.nan.Key.{name}
 use Rattle.scan.proofs.Scan.nan.Statement.{statement}
-use Rattle.scan.proofs.Scan.nan.Tie as tie
-
-select-requires : tie.Need-select-requires
-select-requires c κs = search needs
-
-either-requires : tie.Need-either-requires
-either-requires c κs = search needs
-
-returns : tie.Need-returns
-returns c = nan-read _ _ _ _ _ (c .before .before .before .pre) (c .either .ensures) (c .before .select .ensures)
+use Rattle.scan.proofs.Scan.nan.Code as code
 
 pub nan-spec : {M : Type 1} → statement M
-nan-spec = tie.close (tie.spec select-requires either-requires returns)
+unfolding code.routine
+nan-spec 𝓤 H 𝓜 𝓖 𝓡 =
+    update-holds nan 𝓤 H 𝓜 𝓖 𝓡 code.env name callee.name callee.routine code.calls-scan·Scan·with-nan (code.unfolded 𝓤 H 𝓜 𝓡) (met 𝓤 H 𝓜 𝓖 𝓡)
+    (clauses 𝓤 H (𝓖 .A) (𝓜 .mem) (𝓡 .run)) (λ κs a k r e. factI 𝓤 _ (emp 𝓤) e)

@@ -1,15 +1,17 @@
--- `scan::Scan::top` meets its contract.
-use Prim.Native.Nat.{max}
-use mathlib.Core.Path.{_≡_}
-use native.Mathlib.Omega.{arith}
+-- `scan::Scan::top` meets its contract, by the walk of an update in `Lent`. All that is known of `with_top` is that it meets its own.
+use base.Logic.{emp}
+use contract.Monad.{factI}
+use Rattle.scan.proofs.Record.{top}
+use Rattle.scan.proofs.Lent.{update-holds}
+use Rattle.scan.proofs.Scan.with_top.Symbol as callee
+use Rattle.scan.proofs.Scan.with_top.Met.{met}
+use Rattle.scan.proofs.Scan.top.{clauses}
+use Rattle.scan.proofs.Scan.top.Key.{name}
 use Rattle.scan.proofs.Scan.top.Statement.{statement}
-use Rattle.scan.proofs.Scan.top.Tie as tie
-
-returns : tie.Need-returns
-returns c = let e : c .before .before .args .position ≡ max (c .before .before .args .self .top) (c .before .before .args .position) = omega arith in rw (← e)
-
-returns-2 : tie.Need-returns-2
-returns-2 c = let e : c .before .before .args .self .top ≡ max (c .before .before .args .self .top) (c .before .before .args .position) = omega arith in rw (← e)
+use Rattle.scan.proofs.Scan.top.Code as code
 
 pub top-spec : {M : Type 1} → statement M
-top-spec = tie.close (tie.spec returns returns-2)
+unfolding code.routine
+top-spec 𝓤 H 𝓜 𝓖 𝓡 =
+    update-holds top 𝓤 H 𝓜 𝓖 𝓡 code.env name callee.name callee.routine code.calls-scan·Scan·with-top (code.unfolded 𝓤 H 𝓜 𝓡) (met 𝓤 H 𝓜 𝓖 𝓡)
+    (clauses 𝓤 H (𝓖 .A) (𝓜 .mem) (𝓡 .run)) (λ κs a k r e. factI 𝓤 _ (emp 𝓤) e)

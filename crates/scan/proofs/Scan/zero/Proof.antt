@@ -1,17 +1,17 @@
--- `scan::Scan::zero` meets its contract.
-use mathlib.Core.Path.{sym}
-use mathlib.Core.Bool.{true, false}
-use native.Mathlib.Nat.{max-zero}
-use Rattle.arithmetic.specs.declared.Item.the-variants as item
-use Rattle.scan.proofs.Updates.{taken-is}
+-- `scan::Scan::zero` meets its contract, by the walk of an update in `Lent`. All that is known of `with_zero` is that it meets its own.
+use base.Logic.{emp}
+use contract.Monad.{factI}
+use Rattle.scan.proofs.Record.{zero}
+use Rattle.scan.proofs.Lent.{update-holds}
+use Rattle.scan.proofs.Scan.with_zero.Symbol as callee
+use Rattle.scan.proofs.Scan.with_zero.Met.{met}
+use Rattle.scan.proofs.Scan.zero.{clauses}
+use Rattle.scan.proofs.Scan.zero.Key.{name}
 use Rattle.scan.proofs.Scan.zero.Statement.{statement}
-use Rattle.scan.proofs.Scan.zero.Tie as tie
-
-returns : tie.Need-returns
-returns c = rw (c .if1 .taken) (taken-is (c .before .args .self) (item.Zero true) _ (sym (max-zero _)))
-
-returns-2 : tie.Need-returns-2
-returns-2 c = rw (c .if1 .left) (taken-is (c .before .args .self) (item.Zero false) _ (sym (max-zero _)))
+use Rattle.scan.proofs.Scan.zero.Code as code
 
 pub zero-spec : {M : Type 1} → statement M
-zero-spec = tie.close (tie.spec returns returns-2)
+unfolding code.routine
+zero-spec 𝓤 H 𝓜 𝓖 𝓡 =
+    update-holds zero 𝓤 H 𝓜 𝓖 𝓡 code.env name callee.name callee.routine code.calls-scan·Scan·with-zero (code.unfolded 𝓤 H 𝓜 𝓡) (met 𝓤 H 𝓜 𝓖 𝓡)
+    (clauses 𝓤 H (𝓖 .A) (𝓜 .mem) (𝓡 .run)) (λ κs a k r e. factI 𝓤 _ (emp 𝓤) e)

@@ -77,14 +77,14 @@ loop-again-3 c =
     let m : p .top ≡ max (p .top) at = omega arith in
     (add-one-le h, p .inv .1, walk-plain (formatOf (a .f)) (settingsOf (a .c)) (list (formatOf (a .f)) (settingsOf (a .c)) (summandOf (a .u))) (valuesIn (a .values .now)) (p .i) 0 _ (p .s) (p .top) (omega (arith, values-length (a .values .now), p .inv .1)) (c .before .before .before .word-at .ensures) (p .inv .2) at (p .top) (list-plainly (formatOf (a .f)) (settingsOf (a .c)) (summandOf (a .u)) _ at z (c .before .before .plain-top .ensures)) m)
 
-top-requires : tie.Need-top-requires Inv-loop μ-loop
-top-requires c κs = search needs
+noted-top-requires : tie.Need-noted-top-requires Inv-loop μ-loop
+noted-top-requires c κs = search needs
 
 returns : tie.Need-returns Inv-loop μ-loop
 returns c =
     let a = c .before .before .before .before .before .args in
     let p = c .before .before .loop in
-    walk-done (formatOf (a .f)) (settingsOf (a .c)) (list (formatOf (a .f)) (settingsOf (a .c)) (summandOf (a .u))) (valuesIn (a .values .now)) (p .i) (p .s) (c .top .result) (p .top) (omega (arith, values-length (a .values .now), p .inv .1)) (c .top .ensures) (p .inv .2)
+    walk-done (formatOf (a .f)) (settingsOf (a .c)) (list (formatOf (a .f)) (settingsOf (a .c)) (summandOf (a .u))) (valuesIn (a .values .now)) (p .i) (p .s) (c .noted-top .result) (p .top) (omega (arith, values-length (a .values .now), p .inv .1)) (c .noted-top .ensures) (p .inv .2)
 
 pub scan-list-spec : {M : Type 1} → statement M
 scan-list-spec =
@@ -104,5 +104,5 @@ scan-list-spec =
     loop-again-2
     loop-less-3
     loop-again-3
-    top-requires
+    noted-top-requires
     returns)

@@ -80,14 +80,14 @@ loop-again-3 c =
     let m : p .top ≡ max (p .top) at = omega arith in
     (add-one-le h, p .inv .1, pairs-plain (formatOf (a .f)) (settingsOf (a .c)) (valuesIn (a .left .now)) (valuesIn (a .right .now)) (values-length (a .right .now) ∙ c .before .before .before .before .before .before .before .before .before .before .pre .1 ∙ sym (values-length (a .left .now))) (p .i) _ _ (p .s) (p .top) (omega (arith, values-length (a .left .now), p .inv .1)) (c .before .before .before .before .word-at .ensures) (c .before .before .before .word-at2 .ensures) (p .inv .2) at (p .top) z (c .before .before .plain-pair-top .ensures) m)
 
-top-requires : tie.Need-top-requires Inv-loop μ-loop
-top-requires c κs = search needs
+noted-top-requires : tie.Need-noted-top-requires Inv-loop μ-loop
+noted-top-requires c κs = search needs
 
 returns : tie.Need-returns Inv-loop μ-loop
 returns c =
     let a = c .before .before .before .before .before .before .args in
     let p = c .before .before .loop in
-    pairs-done (formatOf (a .f)) (settingsOf (a .c)) (valuesIn (a .left .now)) (valuesIn (a .right .now)) (values-length (a .right .now) ∙ c .before .before .before .before .before .before .pre .1 ∙ sym (values-length (a .left .now))) (p .i) (p .s) (c .top .result) (p .top) (omega (arith, values-length (a .left .now), p .inv .1)) (c .top .ensures) (p .inv .2)
+    pairs-done (formatOf (a .f)) (settingsOf (a .c)) (valuesIn (a .left .now)) (valuesIn (a .right .now)) (values-length (a .right .now) ∙ c .before .before .before .before .before .before .pre .1 ∙ sym (values-length (a .left .now))) (p .i) (p .s) (c .noted-top .result) (p .top) (omega (arith, values-length (a .left .now), p .inv .1)) (c .noted-top .ensures) (p .inv .2)
 
 pub scan-pairs-spec : {M : Type 1} → statement M
 scan-pairs-spec =
@@ -108,5 +108,5 @@ scan-pairs-spec =
     loop-again-2
     loop-less-3
     loop-again-3
-    top-requires
+    noted-top-requires
     returns)

@@ -75,14 +75,14 @@ loop-again-3 c =
     let m : p .top ≡ max (p .top) at = omega arith in
     (add-one-le (c .before .before .before .before .loop-test .taken), walk-plain (formatOf (a .f)) (settingsOf (a .c)) (list (formatOf (a .f)) (settingsOf (a .c)) (summandOf (a .u))) (a .values .now) (p .i) 0 (getD (a .values .now) (p .i) 0) (p .s) (p .top) (c .before .before .before .before .loop-test .taken) refl (p .inv .1) at (p .top) (list-plainly (formatOf (a .f)) (settingsOf (a .c)) (summandOf (a .u)) _ at z (c .before .before .plain-top .ensures)) m)
 
-top-requires : tie.Need-top-requires Inv-loop μ-loop
-top-requires c κs = search needs
+noted-top-requires : tie.Need-noted-top-requires Inv-loop μ-loop
+noted-top-requires c κs = search needs
 
 returns : tie.Need-returns Inv-loop μ-loop
 returns c =
     let a = c .before .before .before .before .before .args in
     let p = c .before .before .loop in
-    walk-done (formatOf (a .f)) (settingsOf (a .c)) (list (formatOf (a .f)) (settingsOf (a .c)) (summandOf (a .u))) (a .values .now) (p .i) (p .s) (c .top .result) (p .top) (omega arith) (c .top .ensures) (p .inv .1)
+    walk-done (formatOf (a .f)) (settingsOf (a .c)) (list (formatOf (a .f)) (settingsOf (a .c)) (summandOf (a .u))) (a .values .now) (p .i) (p .s) (c .noted-top .result) (p .top) (omega arith) (c .noted-top .ensures) (p .inv .1)
 
 pub scan-list-spec : {M : Type 1} → statement M
 scan-list-spec =
@@ -103,5 +103,5 @@ scan-list-spec =
     loop-again-2
     loop-less-3
     loop-again-3
-    top-requires
+    noted-top-requires
     returns)
