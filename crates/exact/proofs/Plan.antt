@@ -1,5 +1,5 @@
 -- From what a value to round has to meet to what its rounding is: the laws of numbers, joined to the code's contracts.
-use mathlib.Core.Path.{_≡_, sym, _∙_}
+use mathlib.Core.Path.{_≡_, refl, sym, _∙_, subst}
 use mathlib.Core.Bool.{Bool, true, false, _&&_, cond}
 use Prim.Native.Nat.{ℕ, suc, _+_, _-_, _*_, _/_, _^_, _≤_, _<_}
 use native.Mathlib.Nat.{lt-of-lt-of-le}
@@ -14,7 +14,7 @@ use Rattle.totals_spec.specs.Settings.{Settings, Rounding, roundingOf, precisio
 use Rattle.totals_spec.specs.Decode.{zeroOf, finite}
 use Rattle.totals_spec.specs.Round.{Dropped, dropped, inexact, roundsUp, roundedAt, overflows, overflow, round}
 use Rattle.format.specs.Fits.{Encodes}
-use Rattle.exact.specs.Joined.{Stands, Measured, RoundedTo, EndsAt, smallOf}
+use Rattle.exact.specs.Joined.{Stands, Measured, RoundedTo, EndsAt, Begins, smallOf}
 use Rattle.exact.specs.declared.Unrounded.{Unrounded}
 use Rattle.exact.specs.declared.Digits.{Digits}
 use Rattle.exact.proofs.Rules.{flag-le}
@@ -73,6 +73,13 @@ module _ {f : Format} {c : Settings} {g : ℕ} {v : Unrounded} {end : ℕ} (B : 
     most = omega (arith, p-most, Q .2);
     high = B .rounds .high;
     long = λ t. omega (arith, sticky-long t, Q .2);
+  }
+
+  pub begins : {d : Digits} → RoundedTo (roundingOf (c .rounding)) v end q d → Begins f c g v q d
+  begins {d} D = record {
+    ends = record { rounds = B .rounds; is = refl; top = omega (arith, B .is, B .top) };
+    keeps = Q;
+    first = subst (λ (e : ℕ). RoundedTo (roundingOf (c .rounding)) v e q d) (B .is) D;
   }
 
   -- at or above emin

@@ -1,10 +1,12 @@
 -- Cutting a value at a position: the digits kept and the part dropped are those of every number that the value stands for.
 use mathlib.Core.Path.{_≡_, refl, sym, ap, ap₂, _∙_}
 use mathlib.Core.Bool.{Bool, true, false, not, _||_, cond}
+use mathlib.Core.List.{List, [], _∷_}
 use Prim.Native.Nat.{ℕ, zero, suc, _+_, _-_, _*_, _/_, _%_, _^_, _≤_, _<_}
 use native.Mathlib.Nat.{lt-of-lt-of-le, mul-le-mul-right, mul-assoc, suc-mul, mod-lt, mod-eq-of-lt, div-one, add-zero}
 use native.Mathlib.Omega.{arith}
 use lib.Dec.{eqb}
+use lib.ListN.{getD}
 use lib.Arith.{digits-div, digits-mod}
 use lib.Pow.{pow-add, pow-pos, pow-mono, shr-shr, shl-shr, shr-lt, mod-pow-add}
 use lib.Ieee.{size}
@@ -158,8 +160,10 @@ cut-up false v a u h le pos end = record {
 pub cut-down : (v a j u : ℕ) → a + j ≡ u → a + size v ≤ u + 64 → v / 2 ^ j < 2 ^ 64
 cut-down v a j u at end = shr-lt 64 j (lt-of-lt-of-le (size-lt v) (pow-mono {i = size v} {j = 64 + j} (omega arith)))
 
-pub low-word : (x : ℕ) → x < 2 ^ 64 → x / 2 ^ 0 / 2 ^ (64 * 0) % 2 ^ 64 ≡ x
-low-word x h = ap (λ (y : ℕ). y % 2 ^ 64) (div-one (x / 1) ∙ div-one x) ∙ mod-eq-of-lt h
+pub first-word : (l : List ℕ) → value l < 2 ^ 64 → getD l 0 0 ≡ value l
+unfolding value
+first-word [] h = refl
+first-word (w ∷ l) h = omega arith
 
 pub one-word : (x : ℕ) → x < 2 ^ 64 → x / 2 ^ (64 * 0) % 2 ^ 64 ≡ x
 one-word x h = ap (λ (y : ℕ). y % 2 ^ 64) (div-one x) ∙ mod-eq-of-lt h

@@ -54,6 +54,10 @@ StandsAt true m unit x = (m * unit < x) × (x < suc m * unit)
 abbrev pub Stands : Unrounded → ℕ → Type 0
 Stands v x = StandsAt (v .sticky) (value (v .significand)) (2 ^ (v .position)) x
 
+-- the position just above a value's highest bit
+abbrev pub endOf : Unrounded → ℕ
+endOf v = v .position + bitLength (value (v .significand))
+
 -- a value of which q digits can be taken: its highest bit lies just below `end`, and a sticky bit below its first q digits
 pub record Measured (v : Unrounded) (end q : ℕ) : Type 0 where
   pub some : 0 < value (v .significand)
@@ -88,6 +92,12 @@ pub record EndsAt (f : spec.Format) (c : env.Settings) (g : ℕ) (v : Unrounded)
   pub rounds : Rounds f c g v
   pub is : end ≡ v .position + bitLength (value (v .significand))
   pub top : end < 9223372036854775808
+
+-- such a value with its first q digits, rounded: q digits are kept
+pub record Begins (f : spec.Format) (c : env.Settings) (g : ℕ) (v : Unrounded) (q : ℕ) (d : Digits) : Type 0 where
+  pub ends : EndsAt f c g v (endOf v)
+  pub keeps : (q ≡ env.precisionOf f c) × (1 ≤ q) × (q ≤ spec.digits f)
+  pub first : RoundedTo (env.roundingOf (c .rounding)) v (endOf v) q d
 
 -- ---- rounded values
 

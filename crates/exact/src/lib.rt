@@ -20,7 +20,6 @@ use format::ones;
 use format::power;
 use format::scaled;
 use format::unpacked::Unpacked;
-use limbs_window as window;
 ghost use mathlib.Core.Path.{_≡_};
 ghost use mathlib.Core.Bool.{true, not, cond, _||_};
 ghost use Prim.Native.Nat.{ℕ, _+_, _-_, _*_, _/_, _%_, _^_, _<_, _≤_};
@@ -33,7 +32,7 @@ ghost use Rattle.totals_spec.specs.Settings as env;
 ghost use Rattle.totals_spec.specs.Round as round;
 ghost use Rattle.format.specs.Joined.{formatOf, settingsOf, unpackedOf};
 ghost use Rattle.format.specs.Fits.{Encodes};
-ghost use Rattle.exact.specs.Joined.{droppedOf, smallOf, roundedOf, Stands, Measured, RoundedTo, Rounds, EndsAt, RoundedOnce};
+ghost use Rattle.exact.specs.Joined.{droppedOf, smallOf, roundedOf, Stands, endOf, Measured, RoundedTo, Rounds, Begins, RoundedOnce};
 
 // A magnitude to round: significand * 2^position units, or with a sticky bit any number between that and significand + 1 of these.
 pub struct Unrounded {
@@ -69,7 +68,7 @@ fn some_below(s: [u64; 12], count: usize, sticky: bool) -> bool
     if sticky {
         return true;
     }
-    window::any_below(s, count)
+    limbs_window::any_below(s, count)
 }
 
 impl Unrounded {
@@ -82,16 +81,16 @@ impl Unrounded {
         let s = self.significand;
         if lowest <= self.position {
             return Cut {
-                kept: scaled(window::shr_at(s, 0, 0), self.position - lowest),
+                kept: scaled(s[0], self.position - lowest),
                 dropped: Dropped::Nothing,
             };
         }
         let shift = (lowest - self.position) as usize;
-        let first = window::bit(s, shift - 1);
+        let first = limbs_window::bit(s, shift - 1);
         let rest = some_below(s, shift - 1, self.sticky);
         let d = Dropped::new(first, rest);
         Cut {
-            kept: window::shr_at(s, shift, 0),
+            kept: limbs_window::shr_at(s, shift, 0),
             dropped: d,
         }
     }
@@ -225,14 +224,12 @@ pub fn flag(n: u64, set: bool) -> u64
     if set { n } else { 0 }
 }
 
-// A magnitude of at least 2^emin: the first q digits.
-fn round_normal(f: Format, c: Settings, g: u64, v: Unrounded, end: u64) -> Rounded
-    requires { ⌜ EndsAt (formatOf f) (settingsOf c) g v end × (spec.eminAt (formatOf f) g < end) ⌝ }
+// A magnitude of at least 2^emin: its first q digits.
+fn round_normal(f: Format, c: Settings, g: u64, v: Unrounded, q: u64, d: Digits) -> Rounded
+    requires { ⌜ Begins (formatOf f) (settingsOf c) g v q d × (spec.eminAt (formatOf f) g < endOf v) ⌝ }
     ensures { λ r. ⌜ RoundedOnce (formatOf f) (settingsOf c) g v r ⌝ }
 {
     let p = digits(f);
-    let q = precision_within(f, c);
-    let d = first_digits(c.rounding, v, end, q);
     if overflows(f, q, g, d.kept, d.lowest) {
         return overflow(f, c, q, v.negative);
     }
@@ -273,14 +270,12 @@ fn small_number(negative: bool, kept: u64, n: u64) -> Unpacked
 
 // A magnitude below 2^emin: the digits down to the subnormal grid. They are cut from the value itself; the first q digits decide only
 // whether it is tiny.
-fn round_small(f: Format, c: Settings, g: u64, v: Unrounded, end: u64) -> Rounded
-    requires { ⌜ EndsAt (formatOf f) (settingsOf c) g v end × (end ≤ spec.eminAt (formatOf f) g) ⌝ }
+fn round_small(f: Format, c: Settings, g: u64, v: Unrounded, q: u64, unlimited: Digits) -> Rounded
+    requires { ⌜ Begins (formatOf f) (settingsOf c) g v q unlimited × (endOf v ≤ spec.eminAt (formatOf f) g) ⌝ }
     ensures { λ r. ⌜ RoundedOnce (formatOf f) (settingsOf c) g v r ⌝ }
 {
     let negative = v.negative;
     let p = digits(f);
-    let q = precision_within(f, c);
-    let unlimited = first_digits(c.rounding, v, end, q);
     let tiny = is_tiny(c.tininess, unlimited.lowest + q, emin(f, g));
     let first = v.cut(g + (p - q));
     let d = first.dropped;
@@ -305,7 +300,7 @@ fn round_small(f: Format, c: Settings, g: u64, v: Unrounded, end: u64) -> Rounde
 fn length(s: [u64; 12]) -> u64
     ensures { λ r. ⌜ (r ≡ bitLength (value s)) × (r ≤ 768) ⌝ }
 {
-    window::bit_length(s) as u64
+    limbs_window::bit_length(s) as u64
 }
 
 // One rounding of a non-zero magnitude, where g is the position of the format's least non-zero number.
@@ -315,9 +310,11 @@ pub fn round(f: Format, c: Settings, g: u64, v: Unrounded) -> Rounded
 {
     let s = v.significand;
     let end = v.position + length(s);
+    let q = precision_within(f, c);
+    let d = first_digits(c.rounding, v, end, q);
     if end > emin(f, g) {
-        round_normal(f, c, g, v, end)
+        round_normal(f, c, g, v, q, d)
     } else {
-        round_small(f, c, g, v, end)
+        round_small(f, c, g, v, q, d)
     }
 }

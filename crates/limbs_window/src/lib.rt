@@ -9,9 +9,9 @@ use limbs::word::sub_word;
 ghost use mathlib.Core.Path.{_≡_};
 ghost use mathlib.Core.List.{_∷_};
 ghost use mathlib.Core.Bool.{not};
-ghost use Prim.Native.Nat.{_-_, _*_, _/_, _%_, _^_, _<_};
+ghost use Prim.Native.Nat.{_-_, _*_, _/_, _%_, _^_, _<_, min};
 ghost use lib.Dec.{eqb};
-ghost use lib.ListN.{getD};
+ghost use lib.ListN.{length, getD};
 ghost use Rattle.limbs.specs.Value.{value, bitLength, plus, minus};
 ghost use Rattle.limbs_window.specs.Compared.{compared};
 
@@ -76,8 +76,9 @@ pub fn bit_length(a: [u64; 12]) -> usize
 }
 
 // The word i, 0 past the end.
-fn word_at(a: [u64; 12], i: usize) -> u64
-    ensures { λ r. ⌜ r ≡ getD a i 0 ⌝ }
+fn word_at(a: &[u64; 12], i: usize) -> u64
+    requires { ⌜ length (now a) ≡ 12 ⌝ }
+    ensures { λ r. ⌜ r ≡ getD (now (a .entry)) i 0 ⌝ }
 {
     if i < 12 { a[i] } else { 0 }
 }
@@ -86,7 +87,7 @@ fn word_at(a: [u64; 12], i: usize) -> u64
 fn word_below(a: [u64; 12], i: usize) -> u64
     ensures { λ r. ⌜ r ≡ getD (0 ∷ a) i 0 ⌝ }
 {
-    if i == 0 { 0 } else { word_at(a, i - 1) }
+    if i == 0 { 0 } else { word_at(&a, i - 1) }
 }
 
 // The word i of a / 2^count.
@@ -96,7 +97,9 @@ pub fn shr_at(a: [u64; 12], count: usize, i: usize) -> u64
 {
     let p = split(count);
     let at = i + p.word;
-    funnel(word_at(a, at), word_at(a, at + 1), p.bit)
+    let low = word_at(&a, at);
+    let high = word_at(&a, at + 1);
+    funnel(low, high, p.bit)
 }
 
 // a / 2^count
@@ -153,11 +156,25 @@ pub fn low_bits(a: [u64; 12], count: usize) -> [u64; 12]
     r
 }
 
-// Whether one of the lowest `count` bits is set.
+fn smaller(a: usize, b: usize) -> usize
+    ensures { λ r. ⌜ r ≡ min a b ⌝ }
+{
+    if a < b { a } else { b }
+}
+
+// Whether one of the lowest `count` bits is set: in one of the words that lie below `count` as a whole, or in the next word.
 pub fn any_below(a: [u64; 12], count: usize) -> bool
     ensures { λ r. ⌜ r ≡ not (eqb (value a % 2 ^ count) 0) ⌝ }
 {
-    !is_zero(low_bits(a, count))
+    let p = split(count);
+    let end = smaller(p.word, 12);
+    for i in 0..end {
+        if a[i] != 0 {
+            return true;
+        }
+    }
+    let w = word_at(&a, end);
+    word::low_bits(w, p.bit) != 0
 }
 
 // The bit at a position, false past the end.
@@ -165,7 +182,8 @@ pub fn bit(a: [u64; 12], position: usize) -> bool
     ensures { λ r. ⌜ r ≡ eqb (value a / 2 ^ position % 2) 1 ⌝ }
 {
     let p = split(position);
-    (word_at(a, p.word) >> p.bit) % 2 == 1
+    let w = word_at(&a, p.word);
+    (w >> p.bit) % 2 == 1
 }
 
 // a + 1

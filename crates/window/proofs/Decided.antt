@@ -10,12 +10,12 @@ use lib.Dec.{T, leb, ltb, eqb, ltb→lt, nltb→le, eqb→eq}
 use lib.Pow.{pow-mono}
 use lib.Ieee.{size}
 use lib.Ieee.Digits.{size-lt}
-use borrow.Author.Tests.{eq-eqb, ne-eqb, lt-ltb, le-ltb, le-leb, lt-leb}
+use borrow.Author.Tests.{eqb-true, eqb-false, eq-eqb, ne-eqb, lt-ltb, le-ltb, le-leb, lt-leb}
 use Rattle.limbs.specs.Value.{value}
 use Rattle.limbs.proofs.Length.{size-zero}
 use Rattle.totals_spec.specs.Basics as words
 use Rattle.totals_spec.specs.Chain as chain
-use Rattle.window.specs.Joined.{signedOf, boundBy, boundOf, outcomeBy, sidedOf, nearBy, counted, Ready, Ends, Sides, Goes, Bounds, Follows, totalOf, Steps}
+use Rattle.window.specs.Joined.{signedOf, boundBy, boundOf, outcomeBy, sidedOf, exactOf, nearBy, counted, Ready, Ends, Sides, Goes, Bounds, Follows, totalOf, Steps}
 use Rattle.window.specs.declared.Pass.{Pass}
 use Rattle.window.specs.declared.Signed.{Signed}
 use Rattle.window.specs.declared.Chain.{Chain}
@@ -77,15 +77,15 @@ lowered w n lost k f = omega arith
 pub no-bits : (x : ℕ) → size x ≡ 0 → x ≡ 0
 no-bits x e = let h : x < 1 = subst (λ (n : ℕ). x < 2 ^ n) e (size-lt x) in omega arith
 
-bits : (n x : ℕ) → n ≡ size x → eqb x 0 ≡ eqb n 0
+pub differ : true ≡ false → ⊥
+differ u = let z : _≡_ {A = ℕ} 0 1 = cc in omega arith
+
+pub bits : (n x : ℕ) → n ≡ size x → eqb x 0 ≡ eqb n 0
 bits n x e = go (eqb n 0) (eqb→eq n 0) refl
   where
     go : (b : Bool) → (T b → n ≡ 0) → eqb n 0 ≡ b → eqb x 0 ≡ b
     go true h q = eq-eqb x 0 (no-bits x (sym e ∙ h tt))
     go false h q = ne-eqb x 0 (λ z. differ (sym (eq-eqb n 0 (e ∙ ap size z ∙ size-zero)) ∙ q))
-      where
-        differ : true ≡ false → ⊥
-        differ u = let z : _≡_ {A = ℕ} 0 1 = cc in omega arith
 
 leb-ltb : (a b : ℕ) → leb a b ≡ not (ltb b a)
 leb-ltb a b = go (ltb b a) (ltb→lt b a) (nltb→le b a)
@@ -206,13 +206,12 @@ module _ (p : ℕ) (c : Chain) (s : Signed) (n lost : ℕ) (r : Step) where
     decided : chain.decide p (boundOf c) (c .edge) lost (signedOf s) n ≡ chain.decide p chain.noBoundary (c .edge) lost (signedOf s) n
     decided = ap (λ (b : chain.Boundary). chain.decide p b (c .edge) lost (signedOf s) n) no-bound
 
-    pub zero-follows : n ≡ size (value (s .magnitude)) → lost ≡ 0 → n ≡ 0 → Ends out.Zero s c r → AsDecided
-    zero-follows e l z g = done-follows c r _ _ out.Zero (g .verdict) (decided ∙ decide-zero p (c .edge) (signedOf s) n lost l (no-bits _ (sym e ∙ z))) (g .passes) (g .edge)
-
-    pub exact-follows : n ≡ size (value (s .magnitude)) → lost ≡ 0 → (n ≡ 0 → ⊥) → Ends out.Exact s c r → AsDecided
-    exact-follows e l z g =
-        done-follows c r _ _ out.Exact (g .verdict)
-        (decided ∙ decide-exact p (c .edge) (signedOf s) n lost l (λ m. z (e ∙ ap size m ∙ size-zero)) ∙ cc) (g .passes) (g .edge)
+    pub exactly-follows : lost ≡ 0 → (zero : Bool) → zero ≡ eqb (value (s .magnitude)) 0 → Ends (exactOf zero) s c r → AsDecided
+    exactly-follows l true z g =
+        done-follows c r _ _ out.Zero (g .verdict) (decided ∙ decide-zero p (c .edge) (signedOf s) n lost l (eqb-true (value (s .magnitude)) 0 (sym z))) (g .passes) (g .edge)
+    exactly-follows l false z g =
+        done-follows c r _ _ out.Exact (g .verdict) (decided ∙ decide-exact p (c .edge) (signedOf s) n lost l (eqb-false (value (s .magnitude)) 0 (sym z)) ∙ cc)
+        (g .passes) (g .edge)
 
     pub lower-follows : (lost ≡ 0 → ⊥) → n < p + 70 → Goes n lost c r → AsDecided
     lower-follows l h g =

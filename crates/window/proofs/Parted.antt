@@ -2,14 +2,14 @@
 use mathlib.Core.Path.{_≡_, refl, sym, ap, ap₂, _∙_, subst}
 use mathlib.Core.Bool.{Bool, true, false, not, cond}
 use Prim.Native.Nat.{ℕ, zero, suc, _+_, _-_, _*_, _/_, _%_, _^_, _≤_, _<_}
-use native.Mathlib.Nat.{lt-of-lt-of-le, mul-pos, mul-assoc, zero-mul, mul-one, add-zero, mul-mod-left, mul-div-cancel, div-eq-of-lt, mul-le-mul-right, zero-lt-suc}
+use native.Mathlib.Nat.{lt-of-lt-of-le, mul-pos, mul-assoc, zero-mul, mul-one, add-zero, mul-mod-left, mul-div-cancel, div-eq-of-lt, mul-le-mul-right}
 use native.Mathlib.Omega.{arith}
-use lib.Dec.{eqb, eqb·suc-zero}
+use lib.Dec.{eqb}
 use lib.Pow.{pow-pos, pow-mono, shl-lt, shl-shr, shr-shr, mod-pow-add}
 use lib.Ieee.{size}
 use lib.Ieee.Digits.{size-lt, size-reaches}
-use borrow.Author.Tests.{ne-eqb}
 use Rattle.limbs.proofs.Length.{size-above, size-zero}
+use Rattle.limbs_window.proofs.Below.{same-zero}
 use Rattle.totals_spec.proofs.Bits.{pow-split, multiple-mod, multiple-ge, ltb-true, ltb-false}
 use Rattle.totals_spec.specs.Chain.{lostEnd}
 
@@ -78,14 +78,7 @@ module _ (x s w : ℕ) where
 
   across : s ≤ w → w < s + size x → (b : Bool) → eqb (x % 2 ^ (w - s)) 0 ≡ b → cond b 0 w ≡ lostEnd w (x * 2 ^ s)
   unfolding lostEnd
-  across h k b e = rw (ltb-false (reaches h k), rest h) (ap (λ (z : Bool). cond z 0 w) (sym (same (x % 2 ^ (w - s)) ∙ e)))
-    where
-      same : (n : ℕ) → eqb (n * 2 ^ s) 0 ≡ eqb n 0
-      same zero = ap (λ (n : ℕ). eqb n 0) (zero-mul (2 ^ s))
-      same (suc n) = ne-eqb (suc n * 2 ^ s) 0 (λ e. not-zero (suc n * 2 ^ s) (mul-pos (zero-lt-suc n) (pow-pos s)) e) ∙ sym (eqb·suc-zero n)
-        where
-          not-zero : (n : ℕ) → 0 < n → n ≡ 0 → ⊥
-          not-zero n h e = omega arith
+  across h k b e = rw (ltb-false (reaches h k), rest h) (ap (λ (z : Bool). cond z 0 w) (sym e ∙ same-zero (x % 2 ^ (w - s)) (2 ^ s) (pow-pos s)))
 
   pub across-lost : s ≤ w → w < s + size x → (a : Bool) → a ≡ not (eqb (x % 2 ^ (w - s)) 0) → cond a w 0 ≡ lostEnd w (x * 2 ^ s)
   across-lost h k a e = go (eqb (x % 2 ^ (w - s)) 0) refl e

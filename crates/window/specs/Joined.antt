@@ -59,6 +59,10 @@ runOf e = record { outcome = outcomeOf e; passes = e .chain .passes; edge = e .c
 abbrev pub sidedOf : Bool → Bool → ℕ → Outcome
 sidedOf s x n = cond (eqb n 0) out.On (cond (Bool·beq x s) out.Above out.Below)
 
+-- how a sum of which nothing is lost comes out
+abbrev pub exactOf : Bool → Outcome
+exactOf zero = cond zero out.Zero out.Exact
+
 -- where a remainder d by 2^r stands
 abbrev pub nearBy : ℕ → ℕ → Nearness
 nearBy d r = cond (ltb d (2 ^ 65)) Low (cond (ltb (2 ^ r - 2 ^ 65) d) High Between)
@@ -127,6 +131,12 @@ totalOf q = chain.signedOf chain.half (value (q .total))
 
 abbrev pub widthOf : Pass → ℕ
 widthOf q = size (totalOf q .mag)
+
+-- a total that is the sum as it stands: there is no boundary, nothing is lost, and it is not negative
+pub record IsSum (near : Bool) (lost : ℕ) (total : List ℕ) : Type 0 where
+  pub free : near ≡ false
+  pub all : lost ≡ 0
+  pub plus : _≡_ {A = words.Signed} (record { neg = false; mag = value total }) (chain.signedOf chain.half (value total))
 
 abbrev pub Steps : ℕ → Chain → Pass → Step → Type 0
 Steps p c q r =

@@ -11,7 +11,7 @@ ghost use Rattle.limbs.specs.Value.{value, bitLength, term};
 ghost use Rattle.totals_spec.specs.Basics.{flag};
 ghost use Rattle.totals_spec.specs.Chain as spec;
 ghost use Rattle.arithmetic.specs.Joined.{magnitude};
-ghost use Rattle.window.specs.Joined.{boundOf, sidedOf, signedOf, nearBy, counted, Ready, Ends, Sides, Goes, Bounds, Follows, Steps, Roundable, Leaves};
+ghost use Rattle.window.specs.Joined.{boundOf, sidedOf, exactOf, signedOf, nearBy, counted, Ready, Ends, Sides, Goes, Bounds, Follows, IsSum, Steps, Roundable, Leaves};
 
 // The part of a term at or above an edge, to be added `up` bits above it, and the lost bit plus one.
 pub struct Part {
@@ -119,10 +119,10 @@ pub enum Verdict {
     Next,
 }
 
-// A chain after a pass.
+// A chain after a pass. The chain stands first, and so in ExactSum: behind a field of a byte or two it would be copied from an odd address, which is slow.
 pub struct Step {
-    pub verdict: Verdict,
     pub chain: Chain,
+    pub verdict: Verdict,
 }
 
 // The chain before its first pass. Fewer than 2^64 terms, each below 2^(top + 1), sum to less than 2^(top + 65); with a bit for the sign that
@@ -177,6 +177,17 @@ fn done(c: Chain, o: Outcome, s: Signed) -> Step
             whole: m,
         },
     }
+}
+
+// A chain that is done with the sum S at its edge, of which nothing is lost.
+fn done_exactly(c: Chain, s: Signed, zero: bool) -> Step
+    requires { ⌜ c .passes < 2 ^ 62 ⌝ }
+    ensures { λ r. ⌜ Ends (exactOf zero) s c r ⌝ }
+{
+    if zero {
+        return done(c, Outcome::Zero, s);
+    }
+    done(c, Outcome::Exact, s)
 }
 
 // How many passes a step counts for. Where S, of n bits, is 0 and the lost bit lies far below the edge w, the passes until an edge is at most 64
@@ -274,10 +285,7 @@ fn step_without_boundary(p: u64, c: Chain, s: Signed, n: u64, lost: u64) -> Step
     ensures { λ r. ⌜ Follows (r .verdict) (spec.decide p (boundOf c) (c .edge) lost (signedOf s) n) (counted (c .edge) n lost) c (r .chain) ⌝ }
 {
     if lost == 0 {
-        if n == 0 {
-            return done(c, Outcome::Zero, s);
-        }
-        return done(c, Outcome::Exact, s);
+        return done_exactly(c, s, n == 0);
     }
     if n < p + 70 {
         return go_on(c, n, lost);
@@ -318,12 +326,32 @@ fn step_with_boundary(c: Chain, s: Signed, n: u64, lost: u64) -> Step
     done_beside(c, s, n)
 }
 
-// What follows from a pass at the chain's edge.
+// Whether a pass's total is the sum as it stands: there is no boundary, nothing is lost, and the total is not negative.
+fn is_sum(near: bool, lost: u64, total: [u64; 12]) -> bool
+    ensures { λ r. ⌜ (r ≡ true → IsSum near lost total) ⌝ }
+{
+    if near {
+        return false;
+    }
+    if lost != 0 {
+        return false;
+    }
+    !window::bit(total, 767)
+}
+
+// What follows from a pass at the chain's edge. Most sums are done here with their first pass.
 pub fn advance(p: u64, c: Chain, seen: Pass) -> Step
     requires { ⌜ (p ≤ 64) × Ready c (seen .lost) ⌝ }
     ensures { λ r. ⌜ Steps p c seen r ⌝ }
 {
     let t = seen.total;
+    if is_sum(c.near, seen.lost, t) {
+        let plain = Signed {
+            negative: false,
+            magnitude: t,
+        };
+        return done_exactly(c, plain, window::is_zero(t));
+    }
     let s = signed_of(t);
     let m = s.magnitude;
     let n = width(m);
@@ -336,8 +364,8 @@ pub fn advance(p: u64, c: Chain, seen: Pass) -> Step
 
 // The end of a chain.
 pub struct ExactSum {
-    pub outcome: Outcome,
     pub chain: Chain,
+    pub outcome: Outcome,
 }
 
 // The value to round at the end of a chain whose sum is not zero: S, or a value just above or below the boundary, which lies between the same

@@ -3,19 +3,13 @@ use mathlib.Core.Path.{sym, _∙_}
 use native.Mathlib.Omega.{arith}
 use Rattle.totals_spec.specs.Basics.{isSet}
 use Rattle.exact.proofs.Rules.{is-flushed, is-kept}
-use Rattle.exact.proofs.Plan.{measured, small-word, small-sticky, small-sum, small-fits, small-encodes, flushed, unflushed}
+use Rattle.exact.proofs.Plan.{small-word, small-sticky, small-sum, small-fits, small-encodes, flushed, unflushed}
 use borrow.Author.Needs.{needs}
 use Rattle.exact.proofs.round_small.Statement.{statement}
 use Rattle.exact.proofs.round_small.Tie as tie
 
 digits-requires : tie.Need-digits-requires
 digits-requires c κs = search needs
-
-precision-within-requires : tie.Need-precision-within-requires
-precision-within-requires c κs = search needs
-
-first-digits-requires : tie.Need-first-digits-requires
-first-digits-requires c κs = measured (c .before .before .pre .0) (c .precision-within .ensures)
 
 add-is-tiny : tie.Need-add-is-tiny
 add-is-tiny c = search needs
@@ -34,11 +28,11 @@ add-cut c = search needs
 
 cut-requires : tie.Need-cut-requires
 cut-requires c κs =
-    let s = c .before .before .before .before .before .before in
-    let digits = c .before .before .before .before .before .digits in
-    let precision-within = c .before .before .before .before .precision-within in
+    let s = c .before .before .before .before in
+    let b = s .pre .0 in
+    let digits = c .before .before .before .digits in
     rw (digits .ensures)
-    ((s .pre .0 .rounds .some, small-word (s .pre .0) (precision-within .ensures) (s .pre .1)), small-sticky (s .pre .0) (precision-within .ensures) (s .pre .1))
+    ((b .ends .rounds .some, small-word (b .ends) (b .keeps) (s .pre .1)), small-sticky (b .ends) (b .keeps) (s .pre .1))
 
 rounds-up-requires : tie.Need-rounds-up-requires
 rounds-up-requires c κs = search needs
@@ -60,21 +54,22 @@ flag-requires c κs = search needs
 
 add-kept : tie.Need-add-kept
 add-kept c =
-    let s = c .before .before .before .before .before .before .before .before .before .before .before .before .before .before .before in
-    let digits = c .before .before .before .before .before .before .before .before .before .before .before .before .before .before .digits in
-    let precision-within = c .before .before .before .before .before .before .before .before .before .before .before .before .before .precision-within in
+    let s = c .before .before .before .before .before .before .before .before .before .before .before .before .before in
+    let b = s .pre .0 in
+    let digits = c .before .before .before .before .before .before .before .before .before .before .before .before .digits in
     let cut = c .before .before .before .before .before .before .before .before .cut in
     let rounds-up = c .before .before .before .before .before .before .before .rounds-up in
     let flag = c .before .flag in
     let cut = rw (digits .ensures) at (cut .ensures) in
-    record { fits = omega (arith, small-sum (s .pre .0) (precision-within .ensures) (s .pre .1) cut (rounds-up .ensures), flag .ensures .0) }
+    record { fits = omega (arith, small-sum (b .ends) (b .keeps) (s .pre .1) cut (rounds-up .ensures), flag .ensures .0) }
 
 flag-requires-2 : tie.Need-flag-requires-2
 flag-requires-2 c κs = search needs
 
 add-raised : tie.Need-add-raised
 add-raised c =
-    let s = c .before .before .before .before .before .before .before .before .before .before .before .before .before .before .before .before in
+    let s = c .before .before .before .before .before .before .before .before .before .before .before .before .before .before in
+    let b = s .pre .0 in
     let is-tiny = c .before .before .before .before .before .before .before .before .before .before .is-tiny in
     let is-inexact = c .before .before .before .before .before .before .before .is-inexact in
     let new = c .before .before .before .before .before .before .new in
@@ -88,21 +83,20 @@ sub-small-number c = search needs
 
 small-number-requires : tie.Need-small-number-requires
 small-number-requires c κs =
-    let s = c .before .before .before .before .before .before .before .before .before .before .before .before .before .before .before .before in
-    let digits = c .before .before .before .before .before .before .before .before .before .before .before .before .before .before .before .digits in
-    let precision-within = c .before .before .before .before .before .before .before .before .before .before .before .before .before .before .precision-within in
+    let s = c .before .before .before .before .before .before .before .before .before .before .before .before .before .before in
+    let b = s .pre .0 in
+    let digits = c .before .before .before .before .before .before .before .before .before .before .before .before .before .digits in
     let cut = c .before .before .before .before .before .before .before .before .before .cut in
     let rounds-up = c .before .before .before .before .before .before .before .before .rounds-up in
     let flag = c .before .before .flag in
     let cut = rw (digits .ensures) at (cut .ensures) in
-    rw (digits .ensures, flag .ensures .0) (small-fits (s .pre .0) (precision-within .ensures) (s .pre .1) cut (rounds-up .ensures))
+    rw (digits .ensures, flag .ensures .0) (small-fits (b .ends) (b .keeps) (s .pre .1) cut (rounds-up .ensures))
 
 returns : tie.Need-returns
 returns c =
-    let s = c .before .before .before .before .before .before .before .before .before .before .before .before .before in
-    let digits = c .before .before .before .before .before .before .before .before .before .before .before .before .digits in
-    let precision-within = c .before .before .before .before .before .before .before .before .before .before .before .precision-within in
-    let first-digits = c .before .before .before .before .before .before .before .before .before .before .first-digits in
+    let s = c .before .before .before .before .before .before .before .before .before .before .before in
+    let b = s .pre .0 in
+    let digits = c .before .before .before .before .before .before .before .before .before .before .digits in
     let emin = c .before .before .before .before .before .before .before .before .emin in
     let is-tiny = c .before .before .before .before .before .before .before .is-tiny in
     let cut = c .before .before .before .before .before .before .cut in
@@ -113,15 +107,14 @@ returns c =
     let cut = rw (digits .ensures) at (cut .ensures) in
     let k = is-flushed (is-tiny .result) (is-inexact .result) (isSet (s .args .c .«flush_to_zero»)) _ (sym (new .ensures) ∙ flags .given .1) in
     let tiny = rw (emin .ensures) at (is-tiny .ensures) in
-    let same = flushed (s .pre .0) (precision-within .ensures) (s .pre .1) cut (rounds-up .ensures) (first-digits .ensures) tiny (k .0) in
+    let same = flushed (b .ends) (b .keeps) (s .pre .1) cut (rounds-up .ensures) (b .first) tiny (k .0) in
     record { equal = λ x st. rw (k .1) (same x st); encodes = tt; flags = omega (arith, k .1) }
 
 returns-2 : tie.Need-returns-2
 returns-2 c =
-    let s = c .before .before .before .before .before .before .before .before .before .before .before .before .before .before .before .before .before in
-    let digits = c .before .before .before .before .before .before .before .before .before .before .before .before .before .before .before .before .digits in
-    let precision-within = c .before .before .before .before .before .before .before .before .before .before .before .before .before .before .before .precision-within in
-    let first-digits = c .before .before .before .before .before .before .before .before .before .before .before .before .before .before .first-digits in
+    let s = c .before .before .before .before .before .before .before .before .before .before .before .before .before .before .before in
+    let b = s .pre .0 in
+    let digits = c .before .before .before .before .before .before .before .before .before .before .before .before .before .before .digits in
     let emin = c .before .before .before .before .before .before .before .before .before .before .before .before .emin in
     let is-tiny = c .before .before .before .before .before .before .before .before .before .before .before .is-tiny in
     let cut = c .before .before .before .before .before .before .before .before .before .before .cut in
@@ -135,8 +128,8 @@ returns-2 c =
     let cut = rw (digits .ensures) at (cut .ensures) in
     let k = is-kept (is-tiny .result) (is-inexact .result) (isSet (s .args .c .«flush_to_zero»)) _ (sym (new .ensures) ∙ flags2 .given .1) in
     let tiny = rw (emin .ensures) at (is-tiny .ensures) in
-    let same = unflushed (s .pre .0) (precision-within .ensures) (s .pre .1) cut (rounds-up .ensures) (first-digits .ensures) tiny (k .off) in
-    let can = small-encodes (s .pre .0) (precision-within .ensures) (s .pre .1) cut (rounds-up .ensures) in
+    let same = unflushed (b .ends) (b .keeps) (s .pre .1) cut (rounds-up .ensures) (b .first) tiny (k .off) in
+    let can = small-encodes (b .ends) (b .keeps) (s .pre .1) cut (rounds-up .ensures) in
     record {
       equal = λ x st. rw (small-number .ensures, flag .ensures .0, flag2 .ensures .0, k .are, is-inexact .ensures, digits .ensures) (same x st);
       encodes = rw (small-number .ensures, flag .ensures .0, digits .ensures) can;
@@ -148,8 +141,6 @@ round-small-spec =
     tie.close
     (tie.spec
     digits-requires
-    precision-within-requires
-    first-digits-requires
     add-is-tiny
     emin-requires
     is-tiny-requires

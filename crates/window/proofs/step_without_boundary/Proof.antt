@@ -1,35 +1,29 @@
 -- `window::step_without_boundary` meets its contract.
+use mathlib.Core.Path.{sym}
 use native.Mathlib.Nat.{pos-of-ne-zero}
 use native.Mathlib.Omega.{arith}
-use Rattle.window.proofs.Decided.{zero-follows, exact-follows, lower-follows, inexact-follows, low-follows, high-follows}
+use lib.Dec.{eqb}
+use Rattle.window.proofs.Decided.{bits, exactly-follows, lower-follows, inexact-follows, low-follows, high-follows}
 use borrow.Author.Needs.{needs}
 use Rattle.window.proofs.step_without_boundary.Statement.{statement}
 use Rattle.window.proofs.step_without_boundary.Tie as tie
 
-done-requires : tie.Need-done-requires
-done-requires c κs = search needs
+done-exactly-requires : tie.Need-done-exactly-requires
+done-exactly-requires c κs = search needs
 
 returns : tie.Need-returns
 returns c =
-    let s = c .before .before .before in
-    zero-follows (s .args .p) (s .args .c) (s .args .s) (s .args .n) (s .args .lost) _ (s .pre .2) (s .pre .3) (c .before .before .if1 .taken) (c .before .if2 .taken) (c .done .ensures)
+    let s = c .before .before in
+    exactly-follows (s .args .p) (s .args .c) (s .args .s) (s .args .n) (s .args .lost) _ (s .pre .2) (c .before .if1 .taken) (eqb (s .args .n) 0) (sym (bits (s .args .n) _ (s .pre .3))) (c .done-exactly .ensures)
 
-done-requires-2 : tie.Need-done-requires-2
-done-requires-2 c κs = search needs
-
-returns-2 : tie.Need-returns-2
-returns-2 c =
-    let s = c .before .before .before in
-    exact-follows (s .args .p) (s .args .c) (s .args .s) (s .args .n) (s .args .lost) _ (s .pre .2) (s .pre .3) (c .before .before .if1 .taken) (c .before .if2 .left) (c .done2 .ensures)
-
-add-if3 : tie.Need-add-if3
-add-if3 c = search needs
+add-if2 : tie.Need-add-if2
+add-if2 c = search needs
 
 go-on-requires : tie.Need-go-on-requires
 go-on-requires c κs = search needs
 
-returns-3 : tie.Need-returns-3
-returns-3 c =
+returns-2 : tie.Need-returns-2
+returns-2 c =
     let s = c .before .before .before in
     lower-follows (s .args .p) (s .args .c) (s .args .s) (s .args .n) (s .args .lost) _ (s .pre .2) (c .before .before .if1 .left) (omega arith) (c .go-on .ensures)
 
@@ -61,35 +55,33 @@ set-boundary-requires-2 c κs =
 enum-told-3 : tie.Need-enum-told-3
 enum-told-3 c = search needs
 
-done-requires-3 : tie.Need-done-requires-3
-done-requires-3 c κs = search needs
+done-requires : tie.Need-done-requires
+done-requires c κs = search needs
+
+returns-3 : tie.Need-returns-3
+returns-3 c =
+    let s = c .before .before .before .before .before .before .before in
+    low-follows (s .args .p) (s .args .c) (s .args .s) (s .args .n) (s .args .lost) _ (s .pre .2) (c .before .before .before .before .before .before .if1 .left) (omega arith) _ (c .before .before .before .how-near .ensures) (c .before .enum-told .given .1) (c .set-boundary .ensures)
 
 returns-4 : tie.Need-returns-4
 returns-4 c =
     let s = c .before .before .before .before .before .before .before in
-    low-follows (s .args .p) (s .args .c) (s .args .s) (s .args .n) (s .args .lost) _ (s .pre .2) (c .before .before .before .before .before .before .if1 .left) (omega arith) _ (c .before .before .before .how-near .ensures) (c .before .enum-told .given .1) (c .set-boundary .ensures)
+    high-follows (s .args .p) (s .args .c) (s .args .s) (s .args .n) (s .args .lost) _ (s .pre .2) (c .before .before .before .before .before .before .if1 .left) (omega arith) _ (c .before .before .before .how-near .ensures) (c .before .enum-told2 .given .1) (c .set-boundary2 .ensures)
 
 returns-5 : tie.Need-returns-5
 returns-5 c =
     let s = c .before .before .before .before .before .before .before in
-    high-follows (s .args .p) (s .args .c) (s .args .s) (s .args .n) (s .args .lost) _ (s .pre .2) (c .before .before .before .before .before .before .if1 .left) (omega arith) _ (c .before .before .before .how-near .ensures) (c .before .enum-told2 .given .1) (c .set-boundary2 .ensures)
-
-returns-6 : tie.Need-returns-6
-returns-6 c =
-    let s = c .before .before .before .before .before .before .before in
-    inexact-follows (s .args .p) (s .args .c) (s .args .s) (s .args .n) (s .args .lost) _ (s .pre .2) (c .before .before .before .before .before .before .if1 .left) (omega arith) _ (c .before .before .before .how-near .ensures) (c .before .enum-told3 .given .1) (c .done3 .ensures)
+    inexact-follows (s .args .p) (s .args .c) (s .args .s) (s .args .n) (s .args .lost) _ (s .pre .2) (c .before .before .before .before .before .before .if1 .left) (omega arith) _ (c .before .before .before .how-near .ensures) (c .before .enum-told3 .given .1) (c .done .ensures)
 
 pub step-without-boundary-spec : {M : Type 1} → statement M
 step-without-boundary-spec =
     tie.close
     (tie.spec
-    done-requires
+    done-exactly-requires
     returns
-    done-requires-2
-    returns-2
-    add-if3
+    add-if2
     go-on-requires
-    returns-3
+    returns-2
     sub-rest
     sub-rest-2
     how-near-requires
@@ -98,7 +90,7 @@ step-without-boundary-spec =
     enum-told-2
     set-boundary-requires-2
     enum-told-3
-    done-requires-3
+    done-requires
+    returns-3
     returns-4
-    returns-5
-    returns-6)
+    returns-5)
