@@ -244,7 +244,10 @@ fn a_million_zeros_and_one_more() {
     let code = dot(BINARY64, PLAIN, &zeros, &zeros, &mut buffer);
     accepted(code, &buffer, 0, 0, 0);
     check_dot_refused(BINARY64, PLAIN, &more, &more, 24, 6, 0);
-    // 6 comes before 7, and 5 before 6
+    // 1, 2 and 5 come before 6, and 6 before 7
+    let ragged = vec![0u8; 8 * (LIMIT + 1) + 7];
+    check_sum_refused(BINARY64, PLAIN, 0, &ragged, 24, 1, 0);
+    check_sum_refused(BINARY64, PLAIN, 0, &more, 23, 2, 0);
     check_sum_refused(BINARY16, PLAIN, 0, &vec![0xff; 8 * (LIMIT + 1)], 24, 6, 0);
     check_dot_refused(BINARY64, PLAIN, &more, &zeros, 24, 5, 0);
 }

@@ -1,10 +1,10 @@
-// Runs the codec and the rounding over the vectors of standard input, and prints how many of the answers agree. harness/codec_vectors.py makes
-// the vectors, from the text of document 01 alone, and says how a row is laid out.
+// Runs the codec and the rounding over the vectors of standard input, and prints how many of the answers agree. vectors.py makes the vectors, from
+// the text of document 01 alone, and says how a row is laid out.
 mod rows;
 
+use hex::number;
 use rows::decode_row;
 use rows::format_row;
-use rows::hex;
 use rows::nan_row;
 use rows::round_row;
 use rows::settings_row;
@@ -64,11 +64,11 @@ fn report(part: u64, n: u64, all: u64)
 fn main() {
     let mut head = [0u8; 25];
     io::read_full(0, &mut head);
-    let d = hex(&head, 0, 4) % 65536;
-    let n = hex(&head, 5, 4) % 65536;
-    let r = hex(&head, 10, 4) % 65536;
-    let f = hex(&head, 15, 4) % 65536;
-    let s = hex(&head, 20, 4) % 65536;
+    let d = number(&head, 0, 4) % 65536;
+    let n = number(&head, 5, 4) % 65536;
+    let r = number(&head, 10, 4) % 65536;
+    let f = number(&head, 15, 4) % 65536;
+    let s = number(&head, 20, 4) % 65536;
     io::write_all(1, b"decode, operand, encode: ");
     report(0, d, 5 * d);
     io::write_all(1, b"choice among NaNs: ");

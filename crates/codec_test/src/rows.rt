@@ -23,6 +23,7 @@ use format::grid;
 use format::origin;
 use format::unpacked::Unpacked;
 use format::valid_format;
+use hex::number;
 use limbs_window as window;
 ghost use mathlib.Core.Path.{_≡_};
 ghost use mathlib.Core.Bool.{true};
@@ -34,41 +35,6 @@ ghost use Rattle.format.specs.Joined.{formatOf};
 ghost use Rattle.format.specs.Fits.{Encodes};
 ghost use Rattle.binary.specs.Joined.{nanOf};
 
-fn byte_at(s: &[u8], i: usize) -> u8 {
-    if i < s.len() { s[i] } else { 48 }
-}
-
-fn digit(b: u8) -> u64
-    ensures { λ r. ⌜ r < 16 ⌝ }
-{
-    if b < 48 {
-        return 0;
-    }
-    if b < 58 {
-        return (b - 48) as u64;
-    }
-    if b < 97 {
-        return 0;
-    }
-    if b < 103 {
-        return (b - 87) as u64;
-    }
-    0
-}
-
-// The number of n hex digits from an index on; only the last sixteen count.
-pub fn hex(s: &[u8], at: usize, n: usize) -> u64
-    requires { ⌜ (at < 4096) × (n < 64) ⌝ }
-{
-    let mut v: u64 = 0;
-    let mut i: usize = 0;
-    while i < n {
-        v = v % 1152921504606846976 * 16 + digit(byte_at(s, at + i));
-        i += 1;
-    }
-    v
-}
-
 fn agrees(a: u64, b: u64) -> u64
     ensures { λ r. ⌜ r ≤ 1 ⌝ }
 {
@@ -77,9 +43,9 @@ fn agrees(a: u64, b: u64) -> u64
 
 fn format_at(s: &[u8]) -> Format {
     Format {
-        kind: hex(s, 0, 1),
-        exponent_bits: hex(s, 1, 1),
-        width: hex(s, 2, 1),
+        kind: number(s, 0, 1),
+        exponent_bits: number(s, 1, 1),
+        width: number(s, 2, 1),
     }
 }
 
@@ -160,17 +126,17 @@ fn decodings(f: Format, s: &[u8]) -> u64
     requires { ⌜ FormatBounds (formatOf f) ⌝ }
     ensures { λ r. ⌜ r ≤ 5 ⌝ }
 {
-    let b = hex(s, 4, 2);
+    let b = number(s, 4, 2);
     let e = again(f, b);
     let v = decode(f, b);
     let plain = is_plain(f, b);
     let o = operand(f, settings(0, 1, 0, 0, 0), b);
     let w = o.value;
-    let mut agreed = agrees(tag(v, o.subnormal, plain), hex(s, 7, 2));
-    agreed += agrees(shift_of(v), hex(s, 9, 2));
-    agreed += agrees(number_of(v), hex(s, 11, 2));
-    agreed += agrees(tag(w, o.subnormal, plain), hex(s, 14, 2));
-    agreed += agrees(e, hex(s, 17, 2));
+    let mut agreed = agrees(tag(v, o.subnormal, plain), number(s, 7, 2));
+    agreed += agrees(shift_of(v), number(s, 9, 2));
+    agreed += agrees(number_of(v), number(s, 11, 2));
+    agreed += agrees(tag(w, o.subnormal, plain), number(s, 14, 2));
+    agreed += agrees(e, number(s, 17, 2));
     agreed
 }
 
@@ -220,14 +186,14 @@ fn choices(f: Format, s: &[u8]) -> u64
     requires { ⌜ FormatBounds (formatOf f) ⌝ }
     ensures { λ r. ⌜ r ≤ 8 ⌝ }
 {
-    let a = nan_at(f, hex(s, 4, 2));
-    let b = nan_at(f, hex(s, 7, 2));
+    let a = nan_at(f, number(s, 4, 2));
+    let b = nan_at(f, number(s, 7, 2));
     let mut agreed: u64 = 0;
     let mut j: u64 = 0;
     while j < 8 {
         agreed += agrees(
             chosen(f, j % 4, j / 4, a, b),
-            hex(s, 10 + 2 * (j as usize), 2),
+            number(s, 10 + 2 * (j as usize), 2),
         );
         j += 1;
     }
@@ -244,15 +210,15 @@ pub fn nan_row(s: &[u8]) -> u64
 // A value to round: two words, which stand at a word of the window.
 fn value_at(s: &[u8], negative: bool) -> Unrounded {
     let mut w = [0u64; 12];
-    let i = hex(s, 5, 1) as usize;
+    let i = number(s, 5, 1) as usize;
     if i < 11 {
-        w[i] = hex(s, 34, 16);
-        w[i + 1] = hex(s, 17, 16);
+        w[i] = number(s, 34, 16);
+        w[i + 1] = number(s, 17, 16);
     }
     Unrounded {
         negative,
-        sticky: hex(s, 4, 1) == 1,
-        position: hex(s, 12, 4) % 65536,
+        sticky: number(s, 4, 1) == 1,
+        position: number(s, 12, 4) % 65536,
         significand: w,
     }
 }
@@ -298,19 +264,19 @@ fn roundings(f: Format, s: &[u8]) -> u64
     requires { ⌜ FormatBounds (formatOf f) ⌝ }
     ensures { λ r. ⌜ r ≤ 128 ⌝ }
 {
-    let g = hex(s, 7, 4) % 65536;
+    let g = number(s, 7, 4) % 65536;
     let plus = value_at(s, false);
     let minus = value_at(s, true);
     let mut agreed: u64 = 0;
     let mut j: u64 = 0;
     while j < 128 {
-        let c = settings(j, 0, 0, 0, hex(s, 3, 1));
+        let c = settings(j, 0, 0, 0, number(s, 3, 1));
         let r = if j < 64 {
             rounded(f, c, g, plus)
         } else {
             rounded(f, c, g, minus)
         };
-        agreed += agrees(r, hex(s, 51 + 4 * (j as usize), 4));
+        agreed += agrees(r, number(s, 51 + 4 * (j as usize), 4));
         j += 1;
     }
     agreed
@@ -327,13 +293,13 @@ fn widths(f: Format, s: &[u8]) -> u64
     requires { ⌜ FormatBounds (formatOf f) ⌝ }
     ensures { λ r. ⌜ r ≤ 7 ⌝ }
 {
-    let mut agreed = agrees(bias(f), hex(s, 8, 8));
-    agreed += agrees(exponent_range(f), hex(s, 17, 8));
-    agreed += agrees(depth(f), hex(s, 26, 8));
-    agreed += agrees(origin(f, false), hex(s, 35, 8));
-    agreed += agrees(origin(f, true), hex(s, 44, 8));
-    agreed += agrees(grid(f, false), hex(s, 53, 8));
-    agreed += agrees(grid(f, true), hex(s, 62, 8));
+    let mut agreed = agrees(bias(f), number(s, 8, 8));
+    agreed += agrees(exponent_range(f), number(s, 17, 8));
+    agreed += agrees(depth(f), number(s, 26, 8));
+    agreed += agrees(origin(f, false), number(s, 35, 8));
+    agreed += agrees(origin(f, true), number(s, 44, 8));
+    agreed += agrees(grid(f, false), number(s, 53, 8));
+    agreed += agrees(grid(f, true), number(s, 62, 8));
     agreed
 }
 
@@ -341,9 +307,9 @@ pub fn format_row(s: &[u8]) -> u64
     ensures { λ r. ⌜ r ≤ 7 ⌝ }
 {
     let f = Format {
-        kind: hex(s, 0, 1),
-        exponent_bits: hex(s, 2, 2),
-        width: hex(s, 5, 2),
+        kind: number(s, 0, 1),
+        exponent_bits: number(s, 2, 2),
+        width: number(s, 5, 2),
     };
     if valid_format(f) { widths(f, s) } else { 0 }
 }
@@ -363,22 +329,22 @@ pub fn settings_row(s: &[u8]) -> u64
     ensures { λ r. ⌜ r ≤ 4 ⌝ }
 {
     let f = Format {
-        kind: hex(s, 0, 1),
-        exponent_bits: hex(s, 2, 2),
-        width: hex(s, 5, 2),
+        kind: number(s, 0, 1),
+        exponent_bits: number(s, 2, 2),
+        width: number(s, 5, 2),
     };
     let c = Settings {
-        rounding: hex(s, 8, 1),
-        tininess: hex(s, 9, 1),
-        nan_propagation: hex(s, 10, 1),
-        default_nan_negative: hex(s, 11, 1),
-        flush_to_zero: hex(s, 12, 1),
-        denormals_are_zero: hex(s, 13, 1),
-        saturate: hex(s, 14, 1),
-        precision: hex(s, 16, 2),
+        rounding: number(s, 8, 1),
+        tininess: number(s, 9, 1),
+        nan_propagation: number(s, 10, 1),
+        default_nan_negative: number(s, 11, 1),
+        flush_to_zero: number(s, 12, 1),
+        denormals_are_zero: number(s, 13, 1),
+        saturate: number(s, 14, 1),
+        precision: number(s, 16, 2),
     };
-    let zeros = hex(s, 19, 1);
-    let all = hex(s, 21, 1);
+    let zeros = number(s, 19, 1);
+    let all = number(s, 21, 1);
     let sign = zero_sum_sign(c, zeros % 2 == 1, zeros / 2 % 2 == 1);
     let mut agreed = 2 * agrees(offered(f, c), all % 4);
     agreed += agrees(flag(1, sign), all / 4 % 2);

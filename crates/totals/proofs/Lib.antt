@@ -1,4 +1,4 @@
 pub mod Stray
 pub mod Written
 mod Answers
-mod Figures
+pub mod Figures

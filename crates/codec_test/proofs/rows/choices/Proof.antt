@@ -10,14 +10,14 @@ Inv-loop f s a b agreed₀ j₀ agreed j = (j ≤ 8) × (agreed ≤ j)
 abbrev μ-loop : tie.MeasureT-loop
 μ-loop f s a b agreed₀ j₀ agreed j = 8 - j
 
-hex-requires : tie.Need-hex-requires Inv-loop μ-loop
-hex-requires c κs = search needs
+number-requires : tie.Need-number-requires Inv-loop μ-loop
+number-requires c κs = search needs
 
 nan-at-requires : tie.Need-nan-at-requires Inv-loop μ-loop
 nan-at-requires c κs = search needs
 
-hex-requires-2 : tie.Need-hex-requires-2 Inv-loop μ-loop
-hex-requires-2 c κs = search needs
+number-requires-2 : tie.Need-number-requires-2 Inv-loop μ-loop
+number-requires-2 c κs = search needs
 
 nan-at-requires-2 : tie.Need-nan-at-requires-2 Inv-loop μ-loop
 nan-at-requires-2 c κs = search needs
@@ -28,14 +28,14 @@ loop-holds c = search needs
 chosen-requires : tie.Need-chosen-requires Inv-loop μ-loop
 chosen-requires c κs = search needs
 
-mul-hex : tie.Need-mul-hex Inv-loop μ-loop
-mul-hex c = search needs
+mul-number : tie.Need-mul-number Inv-loop μ-loop
+mul-number c = search needs
 
-add-hex : tie.Need-add-hex Inv-loop μ-loop
-add-hex c = search needs
+add-number : tie.Need-add-number Inv-loop μ-loop
+add-number c = search needs
 
-hex-requires-3 : tie.Need-hex-requires-3 Inv-loop μ-loop
-hex-requires-3 c κs = search needs
+number-requires-3 : tie.Need-number-requires-3 Inv-loop μ-loop
+number-requires-3 c κs = search needs
 
 agrees-requires : tie.Need-agrees-requires Inv-loop μ-loop
 agrees-requires c κs = search needs
@@ -61,15 +61,15 @@ choices-spec =
     (tie.spec
     Inv-loop
     μ-loop
-    hex-requires
+    number-requires
     nan-at-requires
-    hex-requires-2
+    number-requires-2
     nan-at-requires-2
     loop-holds
     chosen-requires
-    mul-hex
-    add-hex
-    hex-requires-3
+    mul-number
+    add-number
+    number-requires-3
     agrees-requires
     add-agreed
     add-j

@@ -4,14 +4,14 @@ use borrow.Author.Needs.{needs}
 use Rattle.codec_test.proofs.rows.format_row.Statement.{statement}
 use Rattle.codec_test.proofs.rows.format_row.Tie as tie
 
-hex-requires : tie.Need-hex-requires
-hex-requires c κs = search needs
+number-requires : tie.Need-number-requires
+number-requires c κs = search needs
 
-hex-requires-2 : tie.Need-hex-requires-2
-hex-requires-2 c κs = search needs
+number-requires-2 : tie.Need-number-requires-2
+number-requires-2 c κs = search needs
 
-hex-requires-3 : tie.Need-hex-requires-3
-hex-requires-3 c κs = search needs
+number-requires-3 : tie.Need-number-requires-3
+number-requires-3 c κs = search needs
 
 valid-format-requires : tie.Need-valid-format-requires
 valid-format-requires c κs = search needs
@@ -29,9 +29,9 @@ pub format-row-spec : {M : Type 1} → statement M
 format-row-spec =
     tie.close
     (tie.spec
-    hex-requires
-    hex-requires-2
-    hex-requires-3
+    number-requires
+    number-requires-2
+    number-requires-3
     valid-format-requires
     widths-requires
     returns

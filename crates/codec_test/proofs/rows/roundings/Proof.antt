@@ -10,8 +10,8 @@ Inv-loop f s g plus minus agreed₀ j₀ agreed j = (j ≤ 128) × (agreed ≤ j
 abbrev μ-loop : tie.MeasureT-loop
 μ-loop f s g plus minus agreed₀ j₀ agreed j = 128 - j
 
-hex-requires : tie.Need-hex-requires Inv-loop μ-loop
-hex-requires c κs = search needs
+number-requires : tie.Need-number-requires Inv-loop μ-loop
+number-requires c κs = search needs
 
 value-at-requires : tie.Need-value-at-requires Inv-loop μ-loop
 value-at-requires c κs = search needs
@@ -22,8 +22,8 @@ value-at-requires-2 c κs = search needs
 loop-holds : tie.Need-loop-holds Inv-loop μ-loop
 loop-holds c = search needs
 
-hex-requires-2 : tie.Need-hex-requires-2 Inv-loop μ-loop
-hex-requires-2 c κs = search needs
+number-requires-2 : tie.Need-number-requires-2 Inv-loop μ-loop
+number-requires-2 c κs = search needs
 
 settings-requires : tie.Need-settings-requires Inv-loop μ-loop
 settings-requires c κs = search needs
@@ -34,14 +34,14 @@ rounded-requires c κs = search needs
 rounded-requires-2 : tie.Need-rounded-requires-2 Inv-loop μ-loop
 rounded-requires-2 c κs = search needs
 
-mul-hex : tie.Need-mul-hex Inv-loop μ-loop
-mul-hex c = search needs
+mul-number : tie.Need-mul-number Inv-loop μ-loop
+mul-number c = search needs
 
-add-hex : tie.Need-add-hex Inv-loop μ-loop
-add-hex c = search needs
+add-number : tie.Need-add-number Inv-loop μ-loop
+add-number c = search needs
 
-hex-requires-3 : tie.Need-hex-requires-3 Inv-loop μ-loop
-hex-requires-3 c κs = search needs
+number-requires-3 : tie.Need-number-requires-3 Inv-loop μ-loop
+number-requires-3 c κs = search needs
 
 agrees-requires : tie.Need-agrees-requires Inv-loop μ-loop
 agrees-requires c κs = search needs
@@ -67,17 +67,17 @@ roundings-spec =
     (tie.spec
     Inv-loop
     μ-loop
-    hex-requires
+    number-requires
     value-at-requires
     value-at-requires-2
     loop-holds
-    hex-requires-2
+    number-requires-2
     settings-requires
     rounded-requires
     rounded-requires-2
-    mul-hex
-    add-hex
-    hex-requires-3
+    mul-number
+    add-number
+    number-requires-3
     agrees-requires
     add-agreed
     add-j

@@ -1,0 +1,1121 @@
+#!/usr/bin/env python3
+"""The cases of the program `replay`, in sections, and the files `stdin` and `stdout` beside this one.
+
+    cases.py write --oracle BINARY        makes both files: result and flags from the Rust oracle, all else from model.py
+    cases.py check                        works every row of `stdin` out by model.py alone, and compares
+    cases.py cover                        prints what the sections reach
+    cases.py draw --oracle BINARY SEED N  compares model.py with the oracle on N more cases, drawn at random
+
+README.md says where the answers come from and how the oracle is asked.
+
+`stdin` begins with the number of sections, two hex digits and a line end.
+A section begins with a line of its name, filled with dots to 44 bytes, a
+letter for the length of its rows, and the number of its rows in four hex
+digits. A row has 281 bytes, the line end among them (letter r), or 485 where
+dots have more than six pairs (letter l). Every number is in hex:
+
+column  0      s a sum, d a dot
+        2      kind
+        4      E, two digits
+        7      W, two digits
+       10      rounding, tininess, NaN propagation, default NaN sign, flush to
+               zero, denormals are zero, saturate: one digit each
+       18      precision, two digits
+       21      summand
+       23      number of values of a sum; of the left and of the right list of
+               a dot
+       26      bytes that the byte calls get behind the values (0 to 7): of
+               the left, of the right list
+       29      length of the buffer lent to a byte entry, two digits
+       32      result, 16 digits
+       49      flags, two digits
+       52      passes, six digits
+       59      last edge: a sign and eight digits
+       69      refusal
+       71      place
+       73      what the byte entry returns, three digits
+       77      twelve values, 16 digits each: a sum's from the first on; a
+               dot's left list from the first on, its right one from the
+               seventh on. A long row has twenty-four, and there a dot's
+               right list begins with the thirteenth
+
+Behind the sections stand the rows of the pence of one encoding, their number first, four hex digits and a line end. Such a row has 49 bytes:
+
+column  0      p
+        2      kind, E, W, as above
+       10      the encoding, 16 digits
+       27      the figure: a sign and 16 digits
+       45      refusal and place
+"""
+
+import os
+import subprocess
+import sys
+from itertools import combinations, product
+
+sys.dont_write_bytecode = True
+from model import *
+
+HERE = os.path.dirname(os.path.abspath(__file__))
+NAME = 44
+VALUES, LONG = 12, 24
+
+
+class Draw:
+    """Random numbers of a fixed seed (splitmix64), the same in every version of Python."""
+
+    def __init__(self, seed):
+        self.state = seed
+
+    def bits(self, n):
+        self.state = (self.state + 0x9e3779b97f4a7c15) % 2 ** 64
+        z = self.state
+        z = (z ^ z >> 30) * 0xbf58476d1ce4e5b9 % 2 ** 64
+        z = (z ^ z >> 27) * 0x94d049bb133111eb % 2 ** 64
+        return (z ^ z >> 31) >> 64 - n
+
+    def below(self, n):
+        return self.bits(64) * n >> 64
+
+    def between(self, a, b):
+        return a + self.below(b - a + 1)
+
+    def choice(self, these):
+        return these[self.below(len(these))]
+
+    def chance(self, percent):
+        return self.below(100) < percent
+
+    def shuffled(self, these):
+        these = list(these)
+        for i in range(len(these) - 1, 0, -1):
+            j = self.below(i + 1)
+            these[i], these[j] = these[j], these[i]
+        return these
+
+
+# ---- a case
+
+class Case:
+    """A call, and what it answers. A right list makes it a dot."""
+
+    def __init__(self, f, c, left, right=None, summand=VALUE, more=(0, 0), room=32):
+        self.kind, self.e, self.w = f if isinstance(f, tuple) else (f.kind, f.e, f.w)
+        self.c, self.left, self.right, self.summand = {**PLAIN, **c}, left, right, summand
+        self.more, self.room = more, room
+        self.holds = conditions(self.kind, self.e, self.w, self.c, summand, left, right, more, room)
+        self.refusal = min([n for n in self.holds if n > 2], default=0)
+        self.place = 0
+        if self.refusal == 7:
+            self.place = (stray(self.w, left) + stray(self.w, right or []))[0]
+        lowest = min(self.holds, default=0)
+        self.returned = lowest + 256 * self.place * (lowest == 7)
+        if self.refusal:
+            record = Record(0, 0)
+        elif right is None:
+            record = sum_record(self.format(), self.c, summand, left)
+        else:
+            record = dot_record(self.format(), self.c, left, right)
+        self.result, self.flags, self.passes, self.edge = record.result, record.flags, record.passes, record.edge
+        self.end, self.side, self.below_zero = record.end, record.side, record.negative
+
+    def format(self):
+        return Format(self.kind, self.e, self.w)
+
+    def answer(self):
+        """The fields from the result on to what the byte entry returns."""
+        return '%016x %02x %06x %s%08x %x %x %03x' % (
+            self.result, self.flags, self.passes, '-' if self.edge < 0 else '+', abs(self.edge), self.refusal,
+            self.place, self.returned)
+
+    def row(self, most=VALUES):
+        """A row of so many values."""
+        dot = self.right is not None
+        values = (self.left + [0] * most)[:most // 2] + self.right if dot else self.left
+        assert len(values) <= most and len(self.left) <= (most // 2 if dot else VALUES)
+        head = '%s %x %02x %02x %s %02x %x %x%x %x%x %02x' % (
+            'd' if dot else 's', self.kind, self.e, self.w, ''.join('%x' % self.c[name] for name in SETTINGS[:7]),
+            self.c['precision'], self.summand, len(self.left), len(self.right or []), *self.more, self.room)
+        text = ' '.join([head, self.answer()] + ['%016x' % v for v in values + [0] * (most - len(values))]) + '\n'
+        assert len(text) == 77 + 17 * most
+        return text
+
+    def line(self):
+        """The case as the oracle reads it."""
+        head = ['sum' if self.right is None else 'dot', self.kind, self.e, self.w]
+        head += [self.c[name] for name in SETTINGS] + [self.summand, len(self.left)]
+        return ' '.join([str(h) for h in head] + ['%x' % v for v in self.left + (self.right or [])])
+
+    def is_product(self):
+        return self.right is not None or self.summand == SQUARE
+
+    def has_nan(self):
+        return any(self.format().decode(v)[0] == 'nan' for v in self.left + (self.right or []))
+
+
+def case_of(row):
+    """The call of a row, with the model's answer."""
+    number = lambda at, digits: int(row[at:at + digits], 16)
+    c = {name: number(10 + i, 1) for i, name in enumerate(SETTINGS[:7])}
+    c['precision'] = number(18, 2)
+    values = [number(at, 16) for at in range(77, len(row), 17)]
+    n, m, half = number(23, 1), number(24, 1), len(values) // 2
+    right = values[half:half + m] if row[0] == 'd' else None
+    return Case((number(2, 1), number(4, 2), number(7, 2)), c, values[:n], right, number(21, 1), (number(26, 1), number(27, 1)), number(29, 2))
+
+
+# ---- numbers and formats
+
+DOUBLE = Format(IEEE, 11, 64)
+# seven pairs of E and W: prime to the numbers of modes, signs, kinds and sides, so that a running index pairs each with each
+PAIRS = ((4, 8), (5, 16), (8, 32), (11, 64), (5, 8), (3, 16), (8, 16))
+# pairs whose exponents reach past a window of 768 bits, eleven of them
+FAR = ((11, 64), (11, 33), (15, 64), (12, 64), (11, 13), (28, 64), (15, 41), (20, 53), (13, 15), (11, 24), (14, 16))
+WIDE = [(0, 11, 64), (0, 11, 64), (1, 11, 64), (2, 11, 64), (3, 11, 64), (0, 15, 64), (0, 12, 14), (3, 12, 64), (2, 20, 64), (0, 28, 64),
+        (1, 15, 47)]
+
+
+def widths(e):
+    """The widths of the oracle's standard formats with E exponent bits."""
+    some = {w for w in (17, 18, 19, 21, 24, 27, 31, 32, 33, 37, 41, 47, 53, 59, 61, 63) if e in (2, 3, 5, 8, 11, 15, 20, 24, 28) and w >= e + 2}
+    return sorted({e + 2, 64} | set(range(e + 2, 17)) | some)
+
+
+def power(f, n, negative=0, rest=0):
+    """The number of the exponent n and these fraction bits, or of the nearest exponent that there is."""
+    field = min(max(n + f.bias, 1), f.ones - 1)
+    return f.sign * negative + (field << f.fraction) + rest
+
+
+def flipped(f, values, negative=1):
+    return [v ^ f.sign * negative for v in values]
+
+
+# ---- C1 to C12
+
+def careers():
+    minus, big = 1 << 63, 0x7fefffffffffffff
+    at = lambda n: power(DOUBLE, n)
+    rows = [
+        ([], VALUE, DOWN, 0, 0x00, 0, 0),
+        ([minus], VALUE, EVEN, minus, 0x00, 0, 0),
+        ([0, minus], VALUE, DOWN, minus, 0x00, 0, 0),
+        ([at(0), minus + at(0)], VALUE, EVEN, 0, 0x00, 1, -702),
+        ([at(1000), at(0), minus + at(1000)], VALUE, EVEN, 0x3ff0000000000000, 0x00, 2, None),
+        ([at(0), at(-53)], VALUE, EVEN, 0x3ff0000000000000, 0x10, 1, -702),
+        ([at(0), at(-53), at(-1000)], VALUE, EVEN, 0x3ff0000000000001, 0x50, 2, -1403),
+        ([big, big], VALUE, EVEN, 0x7ff0000000000000, 0x54, 1, 1023 - 702),
+        ([big, big], VALUE, TO_ZERO, big, 0x14, 1, 1023 - 702),
+        ([1], VALUE, EVEN, 1, 0xa0, 1, -1074 - 702),
+        ([at(-600)], SQUARE, EVEN, 0, 0x38, 1, -1199 - 702),
+        ([0xfff0000000000000, 0x7ff8000000000000], MAGNITUDE, EVEN, 0x7ff0000000000000, 0x00, 0, 0),
+    ]
+    cases = []
+    for values, summand, mode, result, flags, passes, edge in rows:
+        case = Case(DOUBLE, {'rounding': mode}, values, summand=summand)
+        assert (case.result, case.flags, case.passes) == (result, flags, passes)
+        assert edge is None or case.edge == edge
+        cases.append(case)
+    return cases
+
+
+# ---- the rounding
+
+def roundings():
+    """Every rounding, sign and side of a tie, in every kind: a number and less than half a unit of its last place, half of it beside an
+    even and beside an odd number, and more than half."""
+    cases = []
+    for kind, mode, negative, side in product(range(4), range(8), range(2), ('below', 'on', 'on odd', 'above')):
+        i = len(cases)
+        f = Format(kind, *PAIRS[i % 7])
+        t = 3
+        odd = side == 'on odd' or side != 'on' and i // 4 % 2
+        m = (1 << f.fraction) + (i * 2654435761 % (1 << f.fraction) & ~1) + odd
+        half = [f.number(negative, 7, t - f.p - 3)] if side == 'below' else [f.number(negative, 1, t - f.p)]
+        more = [f.number(negative, 1, t - f.p - 3)] if side == 'above' else []
+        values = [f.number(negative, m, t - f.fraction)] + half + more
+        c = {'rounding': mode, 'tininess': i % 2}
+        if i % 3 == 0:
+            case = Case(f, c, values)
+        elif i % 3 == 1:
+            factor = power(f, (-1, 0, 0)[i // 3 % 3], (0, 1, 0)[i // 3 % 3])
+            case = Case(f, c, flipped(f, values, factor >> f.w - 1), [factor] * len(values))
+        elif negative:
+            case = Case(f, c, values[::-1])
+        else:
+            case = Case(f, c, [v ^ f.sign * (j % 2) for j, v in enumerate(values)], None, MAGNITUDE)
+        assert (case.side, case.below_zero) == (side, negative)
+        cases.append(case)
+    return cases
+
+
+def boundaries():
+    """A sum so close to a number, or to the middle between two, that the first pass cannot tell on which side it lies: below the boundary, on
+    it and above it, in every mode and of either sign, over a list and over pairs."""
+    cases = []
+    for mode, negative, middle, side, dot in product(range(8), range(2), range(2), ('below', 'on', 'above'), range(2)):
+        i = len(cases)
+        f = Format(i // 5 % 4, *FAR[i % 11])
+        t = i % 13
+        edge = t - 702 + dot
+        values = [power(f, t, negative, i // 2 % 2)] + [power(f, t - f.p, negative)] * middle
+        # within 2^65 units of the first pass, and below its edge
+        near, far = power(f, edge + 3 + 4 * (i % 13), negative), power(f, edge - 67 - i, negative)
+        if side == 'on':
+            values += [far, far ^ f.sign] + [near, near ^ f.sign] * (i // 2 % 2)
+        else:
+            below = f.sign * (side == 'below')
+            values += [near ^ below, far ^ f.sign * (i // 5 % 2)] if i // 3 % 2 else [far ^ below]
+        right = [power(f, 0, negative)] * len(values) if dot else None
+        case = Case(f, {'rounding': mode, 'tininess': i % 2}, flipped(f, values, negative * dot), right)
+        assert (case.end, case.passes > 1, case.below_zero) == (side, True, negative)
+        cases.append(case)
+    return cases
+
+
+# ---- the passes
+
+def margins():
+    """Sums of binary64 that meet a number of the passes' rules exactly, or miss it by one."""
+    at = lambda *terms: [power(DOUBLE, e, int(sign < 0), *rest) for sign, e, *rest in terms]
+    lists = [
+        # the first window's unit is 2^-702, the spacing of ties 2^-53; 2^65 units are 2^-637
+        at((1, 0), (1, -637), (1, -1000)),
+        at((1, 0), (1, -637), (-1, -702), (1, -1000)),
+        at((1, 0), (1, -637), (1, -702), (1, -1000)),
+        at((1, 0), (1, -638), (1, -1000)),
+        at((1, 0), (1, -53), (-1, -637), (1, -1000)),
+        at((1, 0), (1, -53), (-1, -637), (1, -702), (-1, -1000)),
+        at((1, 0), (1, -53), (-1, -637), (-1, -702), (1, -1000)),
+        at((1, 0), (1, -53), (-1, -638), (-1, -1000)),
+        at((1, 0), (-1, -702), (1, -1000)),
+        at((1, 0), (1, -53), (1, -702), (-1, -1000)),
+        at((1, 0), (1, -702)),
+        at((1, 0), (1, -703)),
+        at((1, 0), (1, -702), (1, -703)),
+        # what is left of the first window has 123 digits, p + 70, or one less
+        at((1, 0), (-1, 0), (1, -580), (1, -1000)),
+        at((1, 0), (-1, 0), (1, -581), (1, -1000)),
+        at((1, 0), (-1, 0), (1, -580), (1, -634), (1, -1000)),
+        at((1, 0), (-1, 0), (1, -580), (1, -637), (-1, -1000)),
+        at((1, 0), (-1, 0), (1, -580), (1, -638), (-1, -1000)),
+        # 66 digits decide about a boundary, 65 do not
+        at((1, 1000), (1, -338), (1, -900)),
+        at((1, 1000), (1, -339), (1, -900)),
+        at((1, 1000), (1, -338), (-1, -403), (1, -900)),
+        at((1, 1000), (1, 947), (-1, -338), (-1, -900)),
+        at((1, 1000), (1, 947), (-1, -339), (-1, -900)),
+        # the next edge is 766 below a lost bit and 65, or below what is left
+        at((1, 1000), (-1, 1000), (1, 297), (1, -600)),
+        at((1, 1000), (-1, 1000), (1, 363), (1, 297), (1, -600)),
+        at((1, 1000), (-1, 1000), (1, 364), (1, 297), (1, -600)),
+        at((1, 1000), (-1, 1000), (1, 233), (1, -467), (1, -600)),
+        at((1, 1000), (-1, 1000), (1, 200), (-1, 200), (1, -467), (1, -700)),
+        # a term that reaches the edge drops its lowest bit
+        at((1, 1000), (-1, 1000), (1, 298, 1)),
+        at((1, 1000), (-1, 1000), (1, 300, 1), (1, -600)),
+        at((1, 1000), (1, -403, 1), (1, -900)),
+        at((1, 1000), (1, -340, 1), (-1, -900)),
+    ]
+    cases = []
+    for values in lists:
+        cases.append(Case(DOUBLE, {}, values))
+        cases.append(Case(DOUBLE, {'rounding': TO_ODD}, flipped(DOUBLE, values)))
+        # a product's first edge is one higher, and so are the numbers met, but for the ends of the first window
+        ends = at((1, 0), (1, -53), (1, 1000), (1, 947))
+        values = [v if v % DOUBLE.sign in ends else v + (1 << 52) for v in values]
+        cases.append(Case(DOUBLE, {'rounding': DOWN}, values, [power(DOUBLE, 0, 1)] * len(values)))
+    return cases
+
+
+def ends_of_binary64():
+    """Binary64 from its largest exponent down to its least subnormal number, through terms that cancel or a boundary."""
+    f, cases = DOUBLE, []
+    big, sign = power(f, 1023), f.sign
+    for mode in (EVEN, UP, DOWN, TO_ODD):
+        for side in (0, sign):
+            c = {'rounding': mode}
+            cases.append(Case(f, c, [big, side + 1]))
+            cases.append(Case(f, c, [big, big + sign, side + 1]))
+            cases.append(Case(f, c, [big, big + sign, power(f, 442), side + 1]))
+            cases.append(Case(f, c, [big, side + 1], [power(f, 0), 1]))
+            cases.append(Case(f, c, [big, big + sign, side + 1], [big, big, 1]))
+            cases.append(Case(f, c, [big, power(f, 733), side + 1, big], [big, power(f, 733), 1, big + sign]))
+        cases.append(Case(f, c, [power(f, 511), 1], None, SQUARE))
+        cases.append(Case(f, c, [big, 1], None, SQUARE))
+        cases.append(Case(f, c, [big + sign, 1 + sign], None, MAGNITUDE))
+    return cases
+
+
+def chain_of_seven(draw, f):
+    """The longest chain of a dot with E 11 and p 53: what is left of the first pass has p + 69 digits, the boundary of the second is met, and
+    three times a pair that cancels is lost right below the edge."""
+    high = f.emax - 1
+    big = power(f, high)
+    pairs = [(big, big), (big ^ f.sign, big)]
+
+    def put(at, negative, rest=0):
+        a = draw.between(max(f.emin, at - high), min(high, at - f.emin))
+        pairs.append((power(f, a, negative, rest), power(f, at - a)))
+
+    edge = 2 * high + 1 - 702
+    put(edge + f.p + 68, draw.bits(1), draw.choice([0, 1, draw.bits(f.fraction)]))
+    edge += f.p + 69 - 766 - 701
+    for _ in range(3):
+        lost = edge - 1 - draw.below(12)
+        put(lost, 0, draw.bits(f.fraction))
+        pairs.append((pairs[-1][0] ^ f.sign, pairs[-1][1]))
+        edge = lost + 65 - 766
+    low = draw.between(1, 3)
+    pairs.append((low + f.sign * draw.bits(1), 1))
+    if draw.chance(25):
+        pairs.append((pairs[-1][0] ^ f.sign, 1))
+    left, right = zip(*draw.shuffled(pairs))
+    return settings(draw, f), list(left), list(right), VALUE
+
+
+def by_passes(draw):
+    """The sections of sums in 2, 3 and 4 passes, and of products (dots and squares) in 2 to 7."""
+    keys = [(passes, False) for passes in (2, 3, 4)] + [(passes, True) for passes in range(2, 8)]
+    found = {key: [] for key in keys}
+    for case in ends_of_binary64():
+        key = case.passes, case.is_product()
+        if key in found:
+            found[key].append(case)
+    while any(len(found[key]) < 24 for key in keys[:-1]):
+        f = Format(*draw.choice(WIDE)) if draw.bits(1) else Format(draw.below(4), 11, 64)
+        case = drawn(draw, f, (staircase, near_tie, cancelling, descent))
+        key = case.passes, case.is_product()
+        if len(found.get(key, [0] * 24)) < 24:
+            found[key].append(case)
+    while len(found[7, True]) < 24:
+        case = drawn(draw, Format(len(found[7, True]) % 4, 11, 64), (chain_of_seven,))
+        if not case.c['daz']:
+            assert case.passes == 7
+            found[7, True].append(case)
+    return [('%s in %d passes' % ('dots and squares' if key[1] else 'sums', key[0]), found[key]) for key in keys]
+
+
+def long_chains():
+    """The largest exponent and the least subnormal number of wide formats: passes by the thousand, nearly all of which see no term."""
+    cases = []
+    for i, (e, w) in enumerate(((12, 14), (12, 64), (13, 16), (14, 64), (15, 41), (16, 18), (17, 64), (18, 20), (19, 64), (20, 33), (21, 64),
+                                (22, 24), (23, 64), (24, 61), (25, 27), (26, 64), (27, 29), (28, 64))):
+        f = Format(i % 4, e, w)
+        c = {'rounding': i % 8, 'tininess': i % 2}
+        big, least = power(f, f.emax), 1 + f.sign * (i // 2 % 2)
+        if e < 26 or i % 2:
+            cases.append(Case(f, c, [big, least]))
+        if e < 26 or i % 2 == 0:
+            cases.append(Case(f, c, [least, big, big ^ f.sign]))
+        if e < 25:
+            cases.append(Case(f, c, [big, least], None, SQUARE))
+            cases.append(Case(f, c, [big, 1, big ^ f.sign], [big, least, big]))
+    f = Format(IEEE, 28, 30)
+    cases.append(Case(f, {}, [0x1ffffffd, 1]))
+    cases.append(Case(f, {'rounding': UP}, [0x1ffffffc, 1], [0x1ffffffc, 1]))
+    return cases
+
+
+# ---- overflow, and numbers below the least normal one
+
+def overflows(saturate):
+    """In every kind, rounding and sign: far more than the largest number; and the largest number with less than half a unit of its last place,
+    half of it, or more than half. NoInf's next number is its NaN."""
+    cases = []
+    for kind, mode, negative in product(range(4), range(8), range(2)):
+        i = len(cases) // 2
+        f = Format(kind, *PAIRS[(i + saturate) % 7])
+        big, unit = f.largest(negative, f.p), f.emax - f.p + 1
+        half, bit = f.number(negative, 1, unit - 1), f.number(negative, 1, unit - 3)
+        c = {'rounding': mode, 'saturate': saturate}
+        if i % 3 == 0:
+            cases.append(Case(f, c, [big, half], [power(f, 1), power(f, 1)]))
+        elif i % 3 == 1 and not negative:
+            cases.append(Case(f, c, [big ^ f.sign, big], None, 1 + i % 2))
+        else:
+            cases.append(Case(f, c, [big, big]))
+        assert cases[-1].flags & OVERFLOW
+        cases.append(Case(f, c, ([big, half, bit ^ f.sign], [big, half], [big, half, bit], [bit, half, bit, half, big])[(i + mode // 2) % 4]))
+    return cases
+
+
+def least_normal(tininess):
+    """The least normal number less a quarter, a half or a whole of the last of q digits below it."""
+    cases = []
+    for mode, negative, below in product(range(8), range(2), (2, 1, 0)):
+        j = mode + tininess + below
+        f = Format(j % 4, *((5, 16), (4, 8), (5, 8))[j % 3])
+        q = (f.p, f.p, 2)[mode % 3]
+        c = {'rounding': mode, 'tininess': tininess, 'precision': 0 if q == f.p else q}
+        a = f.emin // 2
+        left = [power(f, a, negative), power(f, a - 1, 1 - negative)]
+        cases.append(Case(f, c, left, [power(f, f.emin - a), power(f, f.emin - q - below - a + 1)]))
+    return cases
+
+
+def tiny(draw, c):
+    """A case about the least normal number and the least subnormal one."""
+    f = Format(*draw.choice([(0, 5, 16), (1, 4, 8), (2, 5, 8), (3, 4, 8), (0, 8, 32), (0, 11, 64), (0, 4, 8), (2, 4, 8), (3, 8, 16), (1, 11, 64)]))
+    if draw.chance(25):
+        c = {**c, 'precision': draw.between(1, f.p)}
+    a = draw.between(f.emin // 2 - 2, f.emin // 2 + 2)
+    ones = (1 << f.fraction) - 1
+    at = draw.choice([f.emin, f.emin - 1, f.emin - 1, f.emin - 2, f.low, f.low - 1, f.low - 2]) - a
+    left = [power(f, a, draw.bits(1), draw.choice([0, ones, ones, draw.bits(f.fraction)]))]
+    right = [power(f, at, 0, draw.choice([0, 0, ones - draw.bits(1), draw.bits(f.fraction)]))]
+    if draw.chance(40):
+        left.append(draw.choice([1, f.quiet, f.sign + 1]))
+        right.append(power(f, draw.choice([0, -1, -f.p, 1])))
+    if draw.chance(20):
+        return Case(f, c, left, None, SQUARE)
+    if draw.chance(20):
+        return Case(f, c, [1, f.quiet, f.quiet - 1, f.sign + 1][:draw.between(1, 4)], None, draw.bits(1))
+    return Case(f, c, left, right)
+
+
+def subnormals(draw, tininess):
+    cases = least_normal(tininess)
+    while len(cases) < 96:
+        case = tiny(draw, {'rounding': len(cases) % 8, 'tininess': tininess})
+        if case.flags & TINY or len(cases) % 6 == 0:
+            cases.append(case)
+    return cases
+
+
+def flushed(draw):
+    """An exact sum that is subnormal, and a case drawn, in every rounding, tininess and sign."""
+    cases = []
+    for mode, tininess, negative in product(range(8), range(2), range(2)):
+        f = Format((mode + tininess) % 4, *PAIRS[len(cases) // 2 % 7])
+        c = {'rounding': mode, 'tininess': tininess, 'flush': 1}
+        cases.append(Case(f, c, [f.number(negative, 3, f.low), f.number(1 - negative, 1, f.low)]))
+        cases.append(tiny(draw, c))
+    return cases
+
+
+def denormals(draw):
+    """Subnormal operands taken as zeros, beside ones that are not."""
+    cases = []
+    for i in range(56):
+        f = Format(i % 4, *PAIRS[i % 7])
+        c = {'rounding': i % 8, 'daz': int(i % 7 != 3), 'tininess': i // 8 % 2, 'flush': int(i % 9 == 4)}
+        pool = [1, f.sign + 1, f.quiet, (1 << f.fraction) - 1, f.sign + (1 << f.fraction) - 1, 0, power(f, 0), power(f, f.emin, 1)]
+        if f.kind == IEEE:
+            pool += [f.infinity(i % 2), f.infinity(0) + f.quiet]
+        if i % 4 == 1:
+            pool = pool[:5]
+        values = [draw.choice(pool) for _ in range(draw.between(1, 4))]
+        if i % 3 == 0:
+            cases.append(Case(f, c, values, [draw.choice(pool) for _ in values]))
+        else:
+            cases.append(Case(f, c, values, None, (0, 0, 1, 2)[i // 3 % 4]))
+    return cases
+
+
+def precisions(draw):
+    """A limit of q digits: ties at q digits (a number of q digits and half a unit of its last one, less, or more), overflow, subnormal numbers."""
+    cases = []
+    for mode, pair, turn in product(range(8), PAIRS, range(2)):
+        i = len(cases)
+        f = Format(i // 3 % 4, *pair)
+        q = (1, 2, f.p - 1, f.p)[i // 2 % 4] if turn else draw.between(1, f.p)
+        c = {'rounding': mode, 'tininess': i % 2, 'precision': q, 'saturate': i // 7 % 2}
+        negative = i // 2 % 2
+        m = (1 << q - 1) + (draw.bits(q - 1) if q > 1 else 0)
+        half, bit = f.number(negative, 1, 3 - q), f.number(negative, 1, max(-q, f.low))
+        values = [f.number(negative, m, 4 - q), half] + [[], [bit], [bit ^ f.sign]][i % 3]
+        if i % 5 == 4:
+            values = [f.largest(negative, q), f.number(negative, 1, f.emax - q)] + [half] * (i % 2)
+        elif i % 5 == 3:
+            values = [f.number(negative, 5, f.low), f.number(negative, 1, f.low)]
+        cases.append(Case(f, c, values, [power(f, 0)] * len(values) if i % 5 == 2 else None))
+    return cases
+
+
+# ---- lists without a rounding
+
+def nans(rule):
+    """NaNs of either sign, quiet and signaling, with payloads, by one rule; in sums of each summand and on either side of a dot."""
+    cases = []
+    for j, pair in enumerate(((5, 16), (11, 64), (3, 6), (8, 32), (15, 64))):
+        f = Format(IEEE, *pair)
+        inf, one = f.infinity(0), power(f, 0)
+        nan = lambda negative, signaling, payload: f.sign * negative + inf + f.quiet * (not signaling) + payload
+        most, some = f.quiet - 1, f.quiet // 2
+        lists = [
+            [nan(0, 0, some), nan(1, 1, 1), nan(0, 1, most)],
+            [nan(1, 0, some), nan(0, 0, some), nan(1, 0, 0)],
+            [nan(1, 1, most), nan(0, 1, most), one],
+            [one, nan(1, 0, 0), nan(0, 1, most), 1],
+            [nan(0, 1, 1), nan(1, 0, most), inf],
+        ]
+        for i in range(3):
+            values = lists[(i + 2 * j + rule) % 5]
+            c = {'nan': rule, 'negative': (i + j) % 2, 'rounding': (i + 3 * j) % 8}
+            cases.append(Case(f, c, values))
+            cases.append(Case(f, c, values, None, 1 + i % 2))
+            cases.append(Case(f, c, values, [one, inf, 0, one + f.sign][:len(values)]))
+            cases.append(Case(f, c, [one, nan(i % 2, 0, 1), inf, one][:len(values)], values))
+    for f in (Format(NOINF, 4, 8), Format(FNUZ, 4, 8), Format(NOINF, 11, 64), Format(FNUZ, 5, 16)):
+        for negative in range(2):
+            none = f.nan(negative, 0)
+            c = {'nan': rule, 'negative': negative}
+            cases.append(Case(f, c, [power(f, 0), none, f.sign | f.nan(1, 0)]))
+            cases.append(Case(f, c, [none], None, 1 + negative))
+            cases.append(Case(f, c, [0, 1], [none, f.sign - 1]))
+    return cases
+
+
+def infinities():
+    cases = []
+    for negative in range(2):
+        for pair in ((5, 16), (11, 64)):
+            f = Format(IEEE, *pair)
+            inf, one = f.infinity(0), power(f, 0)
+            quiet, signaling = inf + f.quiet + 1, f.sign + inf + 1
+            c = {'negative': negative, 'saturate': negative, 'rounding': 3 * negative}
+            for values in ([inf], [inf + f.sign], [inf, inf + f.sign], [inf, one, inf], [inf + f.sign, quiet], [inf, signaling], [inf + f.sign, 1, f.sign]):
+                cases += [Case(f, c, values, None, summand) for summand in range(3)]
+                cases.append(Case(f, c, values, [one + f.sign * negative] * len(values)))
+            cases.append(Case(f, c, [inf, one], [0, one]))
+            cases.append(Case(f, c, [f.sign, quiet], [inf, one]))
+            cases.append(Case(f, {**c, 'daz': 1}, [1, one], [inf, one]))
+            cases.append(Case(f, c, [inf, one], [one + f.sign, inf]))
+            cases.append(Case(f, c, [inf, 0, one], [inf, one, one]))
+    return cases
+
+
+def zeros():
+    cases = []
+    for kind in range(4):
+        f = Format(kind, 4, 8)
+        one, minus = power(f, 0), 0 if kind == FNUZ else f.sign
+        for mode in (EVEN, UP, DOWN) if kind else range(8):
+            c = {'rounding': mode}
+            for values in ([], [0], [minus], [0, minus], [one, minus, one + f.sign]):
+                cases.append(Case(f, c, values))
+            cases.append(Case(f, c, [minus], None, 1 + mode % 2))
+            cases.append(Case(f, c, [], []))
+            cases.append(Case(f, c, [0, minus], [one + f.sign, one]))
+            cases.append(Case(f, c, [one, minus, one], [one + f.sign, one, one]))
+    return cases
+
+
+# ---- drawn lists
+
+# terms further apart are for long_chains alone: the exact sum has as many bits
+WIDEST = 1000000
+
+
+def settings(draw, f):
+    c = {name: draw.below(most) for name, most in zip(SETTINGS, RANGES)}
+    for name in ('flush', 'daz', 'saturate'):
+        c[name] &= draw.bits(1)
+    c['precision'] = draw.between(1, f.p) if draw.chance(30) else 0
+    return c
+
+
+def any_value(draw, f, near):
+    pick = draw.below(100)
+    rest = draw.choice([0, 1, (1 << f.fraction) - 1, 1 << f.fraction - 1, draw.bits(f.fraction)])
+    if pick < 10:
+        field = draw.choice([0, f.ones])
+    elif pick < 30:
+        field = draw.bits(f.e)
+    else:
+        field = near + draw.choice([0, 0, 1, -1, f.p, -f.p, -2 * f.p, -70, -700, -1400, draw.between(-80, 80)])
+    return f.sign * draw.bits(1) + (min(max(field, 0), f.ones) << f.fraction) + rest
+
+
+def mixed(draw, f):
+    """Any values close to one exponent, some of them with their negatives."""
+    near = draw.choice([0, 1, f.ones - 1, f.bias, draw.bits(f.e)])
+    dot = draw.chance(40)
+    tame = lambda values: [v if f.decode(v)[0] in ('zero', 'number') else power(f, near - f.bias) for v in values]
+    left = [any_value(draw, f, near) for _ in range(draw.below(5))]
+    if draw.chance(75):
+        left = tame(left)
+    if left and draw.chance(40):
+        left.insert(draw.below(len(left) + 1), draw.choice(left) ^ f.sign)
+    if not dot:
+        return settings(draw, f), left, None, draw.choice([0, 0, 0, 1, 2])
+    near = draw.choice([near, f.bias, f.bias, draw.bits(f.e)])
+    right = [any_value(draw, f, near) for _ in left]
+    if draw.chance(75):
+        right = tame(right)
+    if draw.chance(30):
+        right = right[:1] * len(left)
+    return settings(draw, f), left, right, VALUE
+
+
+STEPS = (1, 2, 60, 64, 65, 66, 70, 640, 700, 701, 702, 703, 764, 765, 766, 767, 768, 1400, 1468)
+
+
+def near_tie(draw, f):
+    """A number, half a unit of it, and what decides between them, far below."""
+    c = settings(draw, f)
+    q = c['precision'] or f.p
+    top = draw.choice([0, draw.between(-50, 50), draw.between(0, min(f.emax, 9000)), f.emax - 1])
+    negative = draw.bits(1)
+    rest = draw.choice([0, (1 << f.fraction) - 1, draw.bits(f.fraction)]) >> f.p - q << f.p - q
+    values = [power(f, top, negative, rest), power(f, top - q, negative if draw.chance(70) else 1 - negative)]
+    at = top - q
+    for _ in range(draw.below(4)):
+        at -= draw.choice(STEPS + (draw.between(1, 2000),))
+        values.append(power(f, at, draw.bits(1), draw.choice([0, draw.bits(f.fraction)])))
+    if len(values) < 5 and draw.chance(30):
+        values.append(draw.choice(values[1:]) ^ f.sign)
+    values = draw.shuffled(values)
+    if draw.chance(35):
+        return c, values, [power(f, draw.choice([0, 0, 0, 1, -3]), draw.bits(1) & draw.bits(1)) for _ in values], VALUE
+    return c, values, None, draw.choice([0, 0, 0, 0, 1, 2])
+
+
+def cancelling(draw, f):
+    """Values with most of their negatives, and at times one value more."""
+    c = settings(draw, f)
+    spread = draw.choice([100, 800, 1600, 4000])
+    base = draw.choice([f.emax - 1, draw.between(-100, min(f.emax - 1, 6000)), spread + f.emin])
+    dot = draw.chance(40)
+    values = [power(f, base - draw.below(spread + 1), draw.bits(1), draw.choice([0, draw.bits(f.fraction)])) for _ in range(draw.between(1, 2 if dot else 5))]
+    values += [v ^ f.sign for v in values if draw.chance(90)]
+    if draw.chance(70):
+        values.append(power(f, base - draw.below(2 * spread + 1), draw.bits(1), draw.bits(f.fraction)))
+    if draw.chance(30):
+        values.append(draw.choice([0, 1, 0 if f.kind == FNUZ else f.sign]))
+    values = draw.shuffled(values)
+    if not dot:
+        return c, values, None, VALUE
+    values = values[:6]
+    return c, values, [power(f, draw.choice([0, 1, f.emin // 2, f.emax // 2]))] * len(values), VALUE
+
+
+def staircase(draw, f):
+    """Pairs that cancel, each far below the one before, and what decides at the end: many passes."""
+    c = settings(draw, f)
+    top = f.emax - 1
+    if draw.chance(40):
+        at, left = top, []
+        for _ in range(draw.between(1, 3)):
+            left.append(power(f, at, draw.bits(1), draw.choice([0, draw.bits(f.fraction)])))
+            at -= draw.choice([766, 767, 768, 830, 701 + f.p, draw.between(300, 1000)])
+        left += [v ^ f.sign for v in left if draw.chance(95)]
+        if draw.chance(60):
+            left += [power(f, at), power(f, at - f.p), power(f, at - f.p - draw.choice(STEPS), draw.bits(1))]
+        return c, left, None, VALUE
+    # a product reaches twice as far: a position is shared between the factors
+    left, right = [], []
+    at = 2 * top
+    while at >= 2 * f.emin and len(left) < 6:
+        a = min(top, at - f.emin) if draw.bits(1) else at // 2
+        left.append(power(f, a, draw.bits(1)))
+        right.append(power(f, at - a))
+        if len(left) % 2 == 1 and draw.bits(1) and len(left) < 6:
+            left.append(left[-1] ^ f.sign)
+            right.append(right[-1])
+        at -= draw.choice([f.p, 701, 766, 767, 768, 830, 700 + f.p, draw.between(300, 1000)])
+    return c, left, right, VALUE
+
+
+def descent(draw, f):
+    """Products from the largest ones down to the least, most of which cancel."""
+    c = settings(draw, f)
+    high = f.emax - 1
+    big = power(f, high)
+    pairs = [(big, big), (big ^ f.sign, big)] if draw.bits(1) else [(big ^ f.sign * draw.bits(1), big)]
+    for _ in range(draw.below(3)):
+        at = draw.between(max(2 * f.emin, 2 * high - 5000), 2 * high)
+        a = draw.between(max(f.emin, at - high), min(high, at - f.emin))
+        pairs.append((power(f, a, draw.bits(1)), power(f, at - a)))
+        if len(pairs) < 5 and draw.bits(1):
+            pairs.append((pairs[-1][0] ^ f.sign, pairs[-1][1]))
+    pairs = pairs[:5] + [(draw.choice([1, power(f, f.emin)]) ^ f.sign * draw.bits(1), draw.choice([1, 2, 3, power(f, f.emin), power(f, 0)]))]
+    left, right = zip(*draw.shuffled(pairs))
+    return c, list(left), list(right), VALUE
+
+
+def drawn(draw, f, makers):
+    """A case of one of the makers, none with terms too far apart."""
+    while True:
+        c, left, right, summand = draw.choice(makers)(draw, f)
+        xs = operands(f, c, left)[0]
+        terms, top = sum_terms(summand, xs) if right is None else dot_terms(list(zip(xs, operands(f, c, right)[0])))
+        if top - min((x for _, _, x in terms), default=top) <= WIDEST:
+            return Case(f, c, left, right, summand)
+
+
+def named_formats(draw):
+    """binary16, bfloat16, TF32, binary32, binary64 and the two 8-bit formats, in the four kinds."""
+    return [drawn(draw, Format(kind, *pair), (mixed, mixed, near_tie, cancelling))
+            for pair in ((5, 16), (8, 16), (8, 19), (8, 32), (11, 64), (4, 8), (5, 8)) for kind in range(4) for _ in range(4)]
+
+
+def many_formats(draw, kind):
+    """Every E from 2 to 28, each with W = E + 2, W = 64 and two widths drawn."""
+    return [drawn(draw, Format(kind, e, w), (mixed, mixed, near_tie, cancelling))
+            for e in range(2, 29) for w in (e + 2, 64, draw.choice(widths(e)), draw.choice(widths(e)))]
+
+
+def rearrangements(draw):
+    """Lists and pairs in five orders: as drawn, backwards, by encoding, and shuffled twice. One record for each."""
+    cases = []
+    while len(cases) < 220:
+        f = Format(*draw.choice(WIDE)) if len(cases) % 20 < 10 else Format(draw.below(4), *draw.choice(PAIRS))
+        case = drawn(draw, f, (staircase, near_tie, cancelling, mixed))
+        rows = list(zip(case.left, case.right)) if case.right is not None else [(v,) for v in case.left]
+        if len(set(rows)) < 3 or any(f.decode(v)[0] == 'nan' for row in rows for v in row):
+            continue
+        group = []
+        for order in (rows, rows[::-1], sorted(rows), draw.shuffled(rows), draw.shuffled(rows)):
+            left, *right = [list(side) for side in zip(*order)]
+            group.append(Case(f, case.c, left, right[0] if right else None, case.summand))
+        assert len({other.answer() for other in group}) == 1
+        cases += group
+    return cases
+
+
+# ---- refusals
+
+HALF, ONE, STRAY = (0, 5, 16), 0x3c00, 1 << 16
+
+
+def each_refusal():
+    """Each number by itself, at the limits of its condition and beyond them."""
+    cases = []
+    # 1: bytes behind the last whole value
+    for x in range(1, 8):
+        cases.append(Case(HALF, {}, [ONE] * (x % 3), None, 0, (x, 0)))
+        cases.append(Case(HALF, {}, [ONE], [ONE], 0, (x, 0) if x % 2 else (0, x)))
+    cases.append(Case(HALF, {}, [ONE], [ONE], 0, (4, 4)))
+    # 2: a buffer of 23 bytes or fewer
+    for room in (0, 1, 8, 16, 23):
+        cases.append(Case(HALF, {}, [ONE], None, 0, (0, 0), room))
+        cases.append(Case(HALF, {}, [ONE], [ONE], 0, (0, 0), room))
+    # 3: the format; the last four are accepted
+    for kind, e, w in ((4, 11, 64), (15, 5, 16), (0, 1, 16), (0, 0, 8), (0, 29, 64), (1, 11, 12), (2, 11, 65), (3, 28, 29), (0, 255, 255), (0, 11, 0),
+                       (3, 2, 4), (2, 2, 64), (1, 28, 30), (0, 28, 64)):
+        cases.append(Case((kind, e, w), {}, []))
+        cases.append(Case((kind, e, w), {}, [0], [0]))
+    # 4: a setting, the summand of a sum; a dot looks at none
+    for name, most in zip(SETTINGS, RANGES):
+        for bad in (most, 15):
+            cases.append(Case(HALF, {name: bad}, [ONE]))
+            cases.append(Case(HALF, {name: bad}, [ONE], [ONE]))
+    for precision in (12, 255):
+        cases.append(Case(HALF, {'precision': precision}, [ONE]))
+        cases.append(Case(HALF, {'precision': precision}, [ONE], [ONE]))
+    cases += [Case(HALF, {}, [ONE], None, 3), Case(HALF, {}, [], None, 15), Case(HALF, {}, [ONE], [ONE], 3)]
+    # 5: a dot's lists of different lengths
+    for n, m in ((2, 3), (3, 2), (0, 1), (1, 0), (6, 5)):
+        cases.append(Case(HALF, {}, [ONE] * n, [ONE] * m))
+    # 7: a bit at W or above: the first such element of the left list, else of the right one
+    for i in range(6):
+        far = [ONE] * i + [ONE + (1 << (16, 40)[i % 2])] + [ONE] * (5 - i)
+        cases.append(Case(HALF, {}, far))
+        cases.append(Case(HALF, {}, far, [ONE] * 6))
+        cases.append(Case(HALF, {}, [ONE] * 6, far))
+    cases.append(Case(HALF, {}, [ONE, STRAY, 1 << 20]))
+    cases.append(Case(HALF, {}, [ONE] * 11 + [1 << 63]))
+    cases.append(Case(HALF, {}, [ONE, ONE, STRAY], [STRAY, 0, 0]))
+    cases.append(Case(HALF, {}, [ONE, 1 << 63, ONE, STRAY], [1 << 20, 0, STRAY, 0]))
+    cases.append(Case(HALF, {}, [ONE] * 4, [ONE, 1 << 63, ONE, STRAY]))
+    cases.append(Case(HALF, {}, [0x7e00, STRAY]))
+    cases.append(Case((0, 2, 63), {}, [0, 1 << 63]))
+    cases.append(Case((0, 2, 64), {}, [0, 1 << 63]))
+    cases.append(Case((0, 2, 4), {}, [15, 16]))
+    return cases
+
+
+def spoiled(numbers, dot, turn):
+    """A call of which exactly the conditions of these numbers hold."""
+    f = ((4, 5, 16), (0, 1, 16), (1, 29, 40), (2, 11, 12))[turn % 4] if 3 in numbers else (turn % 4, 5, 16)
+    c = ({'rounding': 8}, {'nan': 4}, {'saturate': 2}, {'tininess': 15})[turn // 2 % 4] if 4 in numbers else {}
+    summand = 0
+    if numbers.isdisjoint({1, 2, 3}) and turn % 3 == 2 and 4 in numbers:
+        c, summand = ({'precision': 12}, 0) if dot or turn % 2 else ({}, 3)
+    left, right = [ONE, 2, ONE], [ONE, ONE, 3] if dot else None
+    if 3 in numbers:
+        left, right = [1, 2, 3], [1, 1, 3] if dot else None
+    if 7 in numbers:
+        side = right if dot and turn % 2 else left
+        side[turn % 3] += 1 << f[2] + turn
+    if 5 in numbers:
+        left = left + [1] if turn % 4 < 2 else left
+        right = right + [1, 1] if turn % 4 < 2 else right + [1]
+    more = (0, 0)
+    if 1 in numbers:
+        more = (1 + turn, 0) if not dot or turn % 2 else (0, 1 + turn)
+    case = Case(f, c, left, right, summand, more, (0, 23, 8, 22)[turn % 4] if 2 in numbers else 32)
+    assert case.holds == set(numbers), (numbers, case.holds)
+    assert case.returned % 256 == min(numbers)
+    return case
+
+
+def two_refusals():
+    """Every two numbers that hold together; 6 is asked by the program itself."""
+    cases = []
+    for numbers in combinations((1, 2, 3, 4, 5, 7), 2):
+        for turn in range(4):
+            if 5 not in numbers:
+                cases.append(spoiled(set(numbers), False, turn))
+            cases.append(spoiled(set(numbers), True, turn))
+    return cases
+
+
+def more_refusals():
+    """Every three numbers and more that hold together."""
+    cases = []
+    for n in (3, 4, 5, 6):
+        for numbers in combinations((1, 2, 3, 4, 5, 7), n):
+            if 5 not in numbers:
+                cases.append(spoiled(set(numbers), False, len(cases) % 4))
+            cases.append(spoiled(set(numbers), True, len(cases) % 4))
+    return cases
+
+
+# ---- the list
+
+def sections():
+    draw = Draw(754)
+    made = [
+        ('C1 to C12', careers()),
+        ('roundings by sign and side of a tie', roundings()),
+        ('below, on and above a boundary', boundaries()),
+        ('margins of the passes', margins()),
+        *by_passes(draw),
+        ('longer chains, up to 700,877 passes', long_chains()),
+        ('overflow', overflows(0)),
+        ('overflow, saturated', overflows(1)),
+        ('tiny results, tininess before rounding', subnormals(draw, 0)),
+        ('tiny results, tininess after rounding', subnormals(draw, 1)),
+        ('flush to zero', flushed(draw)),
+        ('denormals are zero', denormals(draw)),
+        ('precision limits', precisions(draw)),
+        ('NaNs: signaling first', nans(0)),
+        ('NaNs: first operand', nans(1)),
+        ('NaNs: larger significand', nans(2)),
+        ('NaNs: default NaN', nans(3)),
+        ('infinities', infinities()),
+        ('zeros and terms that cancel', zeros()),
+        ('named formats', named_formats(draw)),
+        ('Ieee, E from 2 to 28', many_formats(draw, IEEE)),
+        ('NoInf, E from 2 to 28', many_formats(draw, NOINF)),
+        ('Fnuz, E from 2 to 28', many_formats(draw, FNUZ)),
+        ('Finite, E from 2 to 28', many_formats(draw, FINITE)),
+        ('the same list in five orders', rearrangements(draw)),
+        ('each refusal', each_refusal()),
+        ('two refusals at once', two_refusals()),
+        ('more refusals at once', more_refusals()),
+    ]
+    # every eighth accepted call gets a buffer of another length
+    accepted = [case for _, cases in made for case in cases if not case.holds]
+    for i, case in enumerate(accepted):
+        case.room = 24 + i // 8 % 9 if i % 8 == 7 else 32
+    return made
+
+
+def texts(made):
+    """The two files."""
+    dots = lambda name: name + ' ' + '.' * (NAME - len(name) - 1)
+    agreed = lambda name, n: '%s words %d, bytes %d, entries %d of %d agree\n' % (dots(name), n, n, n, n)
+    stdin = '%02x\n' % len(made)
+    for name, cases in made:
+        most = LONG if any(len(case.right or []) > VALUES // 2 for case in cases) else VALUES
+        stdin += '%s %s %04x\n' % (dots(name), 'l' if most == LONG else 'r', len(cases)) + ''.join(case.row(most) for case in cases)
+    stdout = ''.join(agreed(name, len(cases)) for name, cases in made)
+    stdout += agreed('all of these', sum(len(cases) for _, cases in made))
+    # asked by the program itself, which knows the twelve answers from the table of refusals
+    stdout += dots('refusals by the number of elements') + ' 12 of 12 agree\n'
+    rows = pence_rows()
+    stdin += '%04x\n' % len(rows) + ''.join(rows)
+    stdout += dots('pence of one encoding') + ' %d of %d agree\n' % (len(rows), len(rows))
+    return stdin, stdout
+
+
+def asked(binary, cases):
+    """The oracle's answers: result, flags and passes."""
+    text = ''.join(case.line() + '\n' for case in cases)
+    answers = subprocess.run([binary, '--passes'], input=text, capture_output=True, text=True, check=True).stdout.split('\n')
+    assert answers.pop() == '' and len(answers) == len(cases)
+    return answers
+
+
+def differs(case, answer):
+    return answer != '%x %d %d' % (case.result, case.flags, case.passes)
+
+
+def write(binary):
+    made = sections()
+    accepted = [(name, i + 1, case) for name, cases in made for i, case in enumerate(cases) if case.refusal == 0]
+    answers = asked(binary, [case for _, _, case in accepted])
+    for (name, i, case), answer in zip(accepted, answers):
+        if differs(case, answer):
+            sys.exit('%s, row %d: %s\n  oracle %s, model %x %d %d' % (name, i, case.line(), answer, case.result, case.flags, case.passes))
+        result, flags, _ = answer.split()
+        case.result, case.flags = int(result, 16), int(flags)
+    for file, text in zip(('stdin', 'stdout'), texts(made)):
+        with open(os.path.join(HERE, file), 'w') as out:
+            out.write(text)
+    print(len(accepted), 'accepted rows with the answers of the oracle,', sum(len(cases) for _, cases in made) - len(accepted), 'refused ones')
+
+
+def check():
+    """Reads the list that stands there, and compares every answer with the model's."""
+    with open(os.path.join(HERE, 'stdin')) as file:
+        lines = file.readlines()
+    wrong = rows = 0
+    at = 1
+    for _ in range(int(lines[0], 16)):
+        name, n = lines[at][:NAME].rstrip('. '), int(lines[at][NAME + 2:], 16)
+        for i, row in enumerate(lines[at + 1:at + 1 + n]):
+            rows += 1
+            case = case_of(row)
+            if case.row((len(row) - 77) // 17) != row:
+                wrong += 1
+                print('%s, row %d (line %d):\n  listed %s\n  model  %s' % (name, i + 1, at + 2 + i, row[32:76], case.answer()))
+        at += 1 + n
+    assert at + 1 + int(lines[at], 16) == len(lines)
+    for i, (row, made) in enumerate(zip(lines[at + 1:], pence_rows(), strict=True)):
+        rows += 1
+        if row != made:
+            wrong += 1
+            print('pence, row %d (line %d):\n  listed %s  model  %s' % (i + 1, at + 2 + i, row, made), end='')
+    print(rows - wrong, 'of', rows, 'rows agree with the model')
+    with open(os.path.join(HERE, 'stdout')) as file:
+        same = texts(sections()) == (''.join(lines), file.read())
+    print('stdin and stdout are those that this script makes' if same else 'stdin or stdout is not what this script makes')
+    sys.exit(wrong != 0 or not same)
+
+
+def draw_more(binary, seed, count):
+    known = subprocess.run([binary, 'formats'], capture_output=True, text=True, check=True).stdout.split('\n')
+    known = [k for k in (tuple(map(int, row.split())) for row in known if row) if k[0] < 4]
+    draw = Draw(seed)
+    cases = [drawn(draw, Format(*draw.choice(known)), (mixed, near_tie, cancelling, staircase, descent)) for _ in range(count)]
+    wrong = [(case, answer) for case, answer in zip(cases, asked(binary, cases)) if differs(case, answer)]
+    for case, answer in wrong:
+        print(case.line(), '| oracle', answer, '| model %x %d %d' % (case.result, case.flags, case.passes))
+    print(len(cases), 'cases,', len(wrong), 'wrong')
+    sys.exit(wrong != [])
+
+
+# ---- what the list reaches
+
+def fewest(label, cases, keys, *sides):
+    """Prints how many rows have one of the wanted keys, and the fewest that a key has."""
+    wanted = list(product(*sides))
+    seen = dict.fromkeys(wanted, 0)
+    for case in cases:
+        if keys(case) in seen:
+            seen[keys(case)] += 1
+    print('%5d  %s: %d kinds, no fewer than %d rows of each' % (sum(seen.values()), label, len(wanted), min(seen.values())))
+    assert min(seen.values()) > 0
+
+
+def cover():
+    every = [case for _, cases in sections() for case in cases]
+    accepted = [case for case in every if case.refusal == 0]
+    where = lambda test: [case for case in accepted if test(case)]
+    modes, two, kinds = range(8), range(2), range(4)
+    print('%5d  rows, %d of them accepted' % (len(every), len(accepted)))
+    fewest('rounding, sign, side of a tie (below, on even, on odd, above)', accepted, lambda c: (c.c['rounding'], c.below_zero, c.side),
+           modes, two, ('below', 'on', 'on odd', 'above'))
+    fewest('rounding, sign, side of a boundary (below, on, above)', accepted, lambda c: (c.c['rounding'], c.below_zero, c.end),
+           modes, two, ('below', 'on', 'above'))
+    fewest('end of the chain (zero, exact, inexact, below, on, above)', accepted, lambda c: (c.end,), ('zero', 'exact', 'inexact', 'below', 'on', 'above'))
+    fewest('sums by passes, 0 to 4', where(lambda c: not c.is_product()), lambda c: (c.passes,), range(5))
+    fewest('dots and squares by passes, 0 to 7', where(Case.is_product), lambda c: (c.passes,), range(8))
+    fewest('binary64 dots by passes, 0 to 7', where(lambda c: c.right is not None and (c.kind, c.e, c.w) == (0, 11, 64)), lambda c: (c.passes,), range(8))
+    print('%5d  passes of the longest chain' % max(c.passes for c in accepted))
+    fewest('overflow by kind, rounding, sign, saturation', where(lambda c: c.flags & OVERFLOW),
+           lambda c: (c.kind, c.c['rounding'], c.below_zero, c.c['saturate']), kinds, modes, two, two)
+    fewest('tiny by rounding, tininess, flush', where(lambda c: c.flags & TINY), lambda c: (c.c['rounding'], c.c['tininess'], c.c['flush']), modes, two, two)
+    fewest('tiny by tininess, exact and inexact, not flushed', where(lambda c: c.flags & TINY and not c.c['flush']),
+           lambda c: (c.c['tininess'], c.side == 'exact'), two, two)
+    fewest('rounded at q below p, by rounding', where(lambda c: 0 < c.c['precision'] < c.w - c.e and c.side), lambda c: (c.c['rounding'],), modes)
+    fewest('lists with a NaN, by rule and kind', where(Case.has_nan), lambda c: (c.c['nan'], c.kind), kinds, (IEEE, NOINF, FNUZ))
+    fewest('lists with a subnormal operand, by denormals-are-zero', where(lambda c: c.flags & SUBNORMAL), lambda c: (c.c['daz'],), two)
+    fewest('kind and E from 2 to 28', accepted, lambda c: (c.kind, c.e), kinds, range(2, 29))
+    print('%5d  formats' % len({(c.kind, c.e, c.w) for c in accepted}))
+    fewest('one refusal alone', [c for c in every if len(c.holds) == 1], lambda c: tuple(c.holds), (1, 2, 3, 4, 5, 7))
+    fewest('two refusals at once, by pair', [c for c in every if len(c.holds) == 2], lambda c: (tuple(sorted(c.holds)),),
+           list(combinations((1, 2, 3, 4, 5, 7), 2)))
+
+
+# ---- pence
+
+def pence_rows():
+    """Encodings, each with its figure in pence, refusal and place."""
+    rows = []
+
+    def add(f, b):
+        kind, e, w = f if isinstance(f, tuple) else (f.kind, f.e, f.w)
+        figure, refusal, place = pence(kind, e, w, b)
+        rows.append('p %x %02x %02x %016x %s%016x %x %x\n' % (kind, e, w, b, '-' if figure < 0 else '+', abs(figure), refusal, place))
+        assert len(rows[-1]) == 49
+        return figure, refusal
+
+    def both(f, m, x):
+        """m * 2^x and its negative, and the encodings beside it."""
+        b = f.number(0, m, x)
+        for near in (b, b - 1, b + 1):
+            for sign in (0, f.sign):
+                add(f, near + sign)
+
+    assert add(DOUBLE, 0x3fc0000000000000) == (13, 0)
+    assert add(DOUBLE, 0xbfc0000000000000) == (-13, 0)
+    # ties: odd multiples of 1/8
+    for m in (1, 3, 5, 7, 9, 1001, 2 ** 40 + 1):
+        both(DOUBLE, m, -3)
+    for kind in range(4):
+        for e, w in ((5, 16), (8, 32), (4, 8)):
+            both(Format(kind, e, w), 1, -3)
+    # the largest figures: 92,233,720,368,547,758 pounds where a pound is a unit of the last place, less elsewhere
+    for f in ((0, 7, 64), (1, 7, 64), (3, 7, 64), (0, 11, 64), (2, 8, 64), (0, 8, 32), (3, 15, 64), (0, 28, 64), (1, 9, 64)):
+        f, m = Format(*f), LARGEST_PENCE // 100
+        drop = max(0, m.bit_length() - f.p)
+        both(f, m >> drop, drop)
+    assert pence(0, 7, 64, Format(0, 7, 64).number(0, LARGEST_PENCE // 100, 0)) == (9223372036854775800, 0, 0)
+    assert pence(0, 7, 64, Format(0, 7, 64).number(0, LARGEST_PENCE // 100 + 1, 0)) == (0, 8, 0)
+    # zeros, the least and the largest numbers, NaNs and infinities of many formats
+    for kind in range(4):
+        for e, w in ((2, 4), (2, 64), (3, 6), (5, 8), (8, 16), (11, 64), (15, 41), (28, 30), (28, 64)):
+            f = Format(kind, e, w)
+            some = [0, f.sign, 1, f.largest(0, f.p), f.largest(1, f.p), f.sign + (1 << f.fraction) - 1]
+            some += [f.infinity(0), f.infinity(1), f.nan(0, 0), f.nan(1, 0), f.infinity(1) + 1] if kind == IEEE else [f.sign - 1, 2 * f.sign - 1]
+            for b in some:
+                add(f, b)
+    # refusals 3 and 7, and 3 before 7 before 8
+    for f, b in (((4, 11, 64), 1), ((0, 1, 16), 0x7c00), ((0, 29, 64), 0), ((0, 11, 12), 1 << 12), ((1, 11, 65), 1), ((15, 5, 16), STRAY),
+                 (HALF, STRAY), (HALF, 0x17e00), (HALF, 1 << 63), ((1, 4, 8), 0x17f), ((2, 4, 8), 0x180), ((3, 2, 4), 16), ((0, 2, 63), 1 << 63)):
+        add(f, b)
+    # amounts, and any encodings
+    draw = Draw(100)
+    for i in range(60):
+        f = Format(i % 4, *((5, 16), (8, 32), (11, 64), (7, 64), (8, 19))[i % 5])
+        e = draw.between(max(f.emin, -9), min(f.emax - 1, 57))
+        add(f, power(f, e, draw.bits(1), draw.bits(f.fraction)))
+    for i in range(108):
+        e = 2 + i // 4
+        f = Format(i % 4, e, draw.choice(widths(e)))
+        add(f, draw.bits(f.w))
+    return rows
+
+
+def main():
+    command, words = sys.argv[1], sys.argv[2:]
+    if command == 'write' and words[:1] == ['--oracle']:
+        write(words[1])
+    elif command == 'check':
+        check()
+    elif command == 'cover':
+        cover()
+    elif command == 'draw' and words[:1] == ['--oracle']:
+        draw_more(words[1], int(words[2]), int(words[3]))
+    else:
+        sys.exit(__doc__)
+
+
+if __name__ == '__main__':
+    main()

@@ -1,0 +1,354 @@
+"""What document 01 (docs/01-scope.md) says of a total, in whole numbers of any length.
+
+Written from the text of document 01, and from the Rust's where document 01
+names a function of it (the choice among NaNs, overflow, the largest number).
+A sum is added up exactly, as a whole number times a power of two, and rounded
+once. The chain of passes is walked beside that, for the passes and the last
+edge alone; the result does not depend on the walk.
+"""
+
+IEEE, NOINF, FNUZ, FINITE = range(4)
+EVEN, TIES_AWAY, TIES_TO_ZERO, UP, DOWN, TO_ZERO, AWAY, TO_ODD = range(8)
+VALUE, MAGNITUDE, SQUARE = range(3)
+INVALID, OVERFLOW, UNDERFLOW, INEXACT, TINY, RAISED, SUBNORMAL = 1, 4, 8, 16, 32, 64, 128
+SETTINGS = ('rounding', 'tininess', 'nan', 'negative', 'flush', 'daz', 'saturate', 'precision')
+RANGES = (8, 2, 4, 2, 2, 2, 2)
+PLAIN = dict.fromkeys(SETTINGS, 0)
+LIMIT = 1048576
+LARGEST_PENCE = 9223372036854775807
+
+
+# ---- formats
+
+class Format:
+    def __init__(self, kind, e, w):
+        self.kind, self.e, self.w = kind, e, w
+        self.fraction = w - e - 1
+        self.p = w - e
+        self.bias = 2 ** (e - 1) - (0 if kind == FNUZ else 1)
+        self.emin = 1 - self.bias
+        self.emax = 2 ** e - (2 if kind == IEEE else 1) - self.bias
+        self.ones = 2 ** e - 1
+        self.low = self.emin - self.p + 1
+        self.quiet = 1 << (self.fraction - 1)
+        self.sign = 1 << (w - 1)
+
+    def decode(self, b):
+        """('nan', negative, signaling, payload), ('infinity', negative),
+        ('zero', negative) or ('number', negative, significand, position)."""
+        negative, field, rest = b >> self.w - 1, b >> self.fraction & self.ones, b % (1 << self.fraction)
+        if self.kind == IEEE and field == self.ones:
+            if rest == 0:
+                return 'infinity', negative
+            return 'nan', negative, rest < self.quiet, rest % self.quiet
+        if self.kind == NOINF and field == self.ones and rest == (1 << self.fraction) - 1:
+            return 'nan', negative, False, 0
+        if self.kind == FNUZ and b == self.sign:
+            return 'nan', 1, False, 0
+        if field == 0:
+            return ('number', negative, rest, self.low) if rest else ('zero', negative)
+        return 'number', negative, rest + (1 << self.fraction), self.low + field - 1
+
+    def is_subnormal(self, v):
+        return v[0] == 'number' and v[2] >> self.fraction == 0
+
+    def zero(self, negative):
+        return self.sign * (negative and self.kind != FNUZ)
+
+    def infinity(self, negative):
+        return self.sign * negative + (self.ones << self.fraction)
+
+    def nan(self, negative, payload):
+        if self.kind == IEEE:
+            return self.sign * negative + (self.ones << self.fraction) + self.quiet + payload
+        if self.kind == NOINF:
+            return self.sign * negative + self.sign - 1
+        assert self.kind == FNUZ
+        return self.sign
+
+    def number(self, negative, m, x):
+        """Encodes m * 2^x, which the format has."""
+        while m % 2 == 0 and x < self.low:
+            m, x = m // 2, x + 1
+        while x > self.low and m < 1 << self.fraction:
+            m, x = 2 * m, x - 1
+        while m >= 1 << self.p:
+            assert m % 2 == 0
+            m, x = m // 2, x + 1
+        assert x >= self.low
+        b = self.sign * negative + (x - self.low << self.fraction) + m
+        assert self.decode(b) == ('number', negative, m, x)
+        return b
+
+    def largest(self, negative, q):
+        m = (1 << q) - 1
+        if self.kind == NOINF and q == self.p:
+            m -= 1
+        return self.number(negative, m, self.emax - q + 1)
+
+
+def valid_format(kind, e, w):
+    return kind <= 3 and 2 <= e <= 28 and e + 2 <= w <= 64
+
+
+# ---- one rounding
+
+def goes_up(mode, negative, odd, side):
+    """Whether a magnitude goes up to the next multiple. The side says what
+    lies above the lower one: nothing, or less, as much or more than half."""
+    if side == 'exact':
+        return False
+    if mode == EVEN:
+        return side == 'above' or side == 'on' and odd
+    if mode == TIES_AWAY:
+        return side != 'below'
+    if mode == TIES_TO_ZERO:
+        return side == 'above'
+    if mode == UP:
+        return not negative
+    if mode == DOWN:
+        return bool(negative)
+    if mode == TO_ODD:
+        return not odd
+    return mode == AWAY
+
+
+def multiple(mode, negative, m, x, unit):
+    """m * 2^x as a count of 2^unit, whether that went up, and the side."""
+    if x >= unit:
+        return m << (x - unit), False, 'exact'
+    count = m >> (unit - x)
+    rest, half = m - (count << (unit - x)), 1 << (unit - x - 1)
+    side = 'exact' if rest == 0 else 'below' if rest < half else 'on' if rest == half else 'above'
+    up = goes_up(mode, negative, count % 2 == 1, side)
+    return count + up, up, side + ' odd' * (side == 'on' and count % 2 == 1)
+
+
+def round_once(f, c, negative, m, x):
+    """The encoded result, the flags and the side of m * 2^x."""
+    mode = c['rounding']
+    q = c['precision'] or f.p
+    top = x + m.bit_length() - 1
+    unit = max(f.emin, top) - q + 1
+    count, up, side = multiple(mode, negative, m, x, unit)
+    inexact = side != 'exact'
+    if c['tininess'] == 0:
+        tiny = top < f.emin
+    else:
+        free, _, _ = multiple(mode, negative, m, x, top - q + 1)
+        tiny = top - q + 1 + free.bit_length() - 1 < f.emin
+    if tiny and c['flush']:
+        return f.zero(negative), UNDERFLOW + INEXACT + TINY, side
+    flags = TINY * tiny + INEXACT * inexact + UNDERFLOW * (tiny and inexact)
+    if count == 0:
+        return f.zero(negative), flags, side
+    at = unit + count.bit_length() - 1
+    # NoInf's NaN takes the place of the number with every digit set
+    taken = f.kind == NOINF and q == f.p and at == f.emax and count == (1 << f.p) - 1
+    if at > f.emax or taken:
+        outward = mode in (EVEN, TIES_AWAY, TIES_TO_ZERO, AWAY) or mode == (DOWN if negative else UP)
+        if not outward or c['saturate'] or f.kind == FINITE:
+            return f.largest(negative, q), OVERFLOW + INEXACT, side
+        if f.kind == IEEE:
+            return f.infinity(negative), OVERFLOW + INEXACT + RAISED, side
+        return f.nan(negative, 0), OVERFLOW + INEXACT, side
+    return f.number(negative, count, unit), flags + RAISED * up, side
+
+
+# ---- the passes
+
+def part(m, x, w):
+    """m * 2^x in units of 2^w, cut toward zero, modulo 2^768, and the lost bit."""
+    if x >= w:
+        return m << min(x - w, 768), None
+    if m.bit_length() <= w - x:
+        return 0, x + m.bit_length() - 1
+    units = m >> (w - x)
+    return units, None if units << (w - x) == m else w - 1
+
+
+def chain(p, terms, top):
+    """The number of passes, the last edge, and how the chain ends: the sum is
+    zero or exact, or inexact and far from what the rounding asks, or it lies
+    below the boundary, on it or above it, by magnitude."""
+    w, boundary, passes = top - 702, None, 0
+    while True:
+        passes += 1
+        s, lost = 0, []
+        for negative, m, x in terms:
+            units, bit = part(m, x, w)
+            s += -units if negative else units
+            if bit is not None:
+                lost.append(bit)
+        if boundary:
+            whole, at = boundary
+            s -= whole << min(at - w, 768)
+        s = (s + 2 ** 767) % 2 ** 768 - 2 ** 767
+        n = abs(s).bit_length()
+        if boundary is None:
+            if not lost:
+                return passes, w, 'exact' if s else 'zero'
+            if n >= p + 70:
+                r = n - p - 1
+                whole, d = divmod(abs(s), 1 << r)
+                if 2 ** 65 <= d <= 2 ** r - 2 ** 65:
+                    return passes, w, 'inexact'
+                whole += d > 2 ** r - 2 ** 65
+                boundary = (-whole if s < 0 else whole), w + r
+                w -= 701
+                continue
+        elif not lost or n >= 66:
+            return passes, w, 'on' if s == 0 else 'above' if (s > 0) == (boundary[0] > 0) else 'below'
+        w = max([w + n] + [bit + 65 for bit in lost]) - 766
+
+
+# ---- records of accepted lists
+
+class Record:
+    """An accepted record. How the chain ends, the side and the sum's sign are
+    no part of a record: they tell what a case reaches."""
+
+    def __init__(self, result, flags, passes=0, edge=0, end='', side='', negative=0):
+        self.result, self.flags, self.passes, self.edge = result, flags, passes, edge
+        self.end, self.side, self.negative = end, side, negative
+
+
+def chosen_nan(f, c, nans):
+    if c['nan'] == 3:
+        return f.nan(c['negative'], 0)
+    if c['nan'] == 0:
+        first = [v for v in nans if v[2]] + nans
+    elif c['nan'] == 1:
+        first = nans
+    else:
+        first = sorted(nans, key=lambda v: (v[2], -v[3], v[1]))
+    return f.nan(first[0][1], first[0][3])
+
+
+def settle(f, c, flags, zeros, infinities, terms, top):
+    """The record of a list without a NaN."""
+    if len(infinities) == 2:
+        return Record(f.nan(c['negative'], 0), flags + INVALID)
+    if infinities:
+        return Record(f.infinity(infinities.pop()), flags)
+    down = int(c['rounding'] == DOWN)
+    if not terms:
+        return Record(f.zero(down if len(zeros) == 2 else 1 in zeros), flags)
+    low = min(x for _, _, x in terms)
+    passes, edge, end = chain(f.p, terms, top)
+    total = sum((-m if negative else m) << (x - low) for negative, m, x in terms)
+    if total == 0:
+        return Record(f.zero(down), flags, passes, edge, end)
+    negative = int(total < 0)
+    result, more, side = round_once(f, c, negative, abs(total), low)
+    return Record(result, flags + more, passes, edge, end, side, negative)
+
+
+def position(v):
+    return v[3] + v[2].bit_length() - 1
+
+
+def operands(f, c, values):
+    """The values decoded, and flag 128."""
+    vs, flags = [f.decode(b) for b in values], 0
+    for i, v in enumerate(vs):
+        if f.is_subnormal(v):
+            flags = SUBNORMAL
+            if c['daz']:
+                vs[i] = 'zero', v[1]
+    return vs, flags
+
+
+def sum_terms(summand, vs):
+    """The terms of the finite values that are not zero, and T."""
+    numbers = [v for v in vs if v[0] == 'number']
+    if summand == SQUARE:
+        return [(0, v[2] ** 2, 2 * v[3]) for v in numbers], max((2 * position(v) + 1 for v in numbers), default=0)
+    terms = [(v[1] if summand == VALUE else 0, v[2], v[3]) for v in numbers]
+    return terms, max((position(v) for v in numbers), default=0)
+
+
+def sum_record(f, c, summand, values):
+    vs, flags = operands(f, c, values)
+    nans = [v for v in vs if v[0] == 'nan']
+    signaling = any(v[2] for v in nans)
+    infinite = any(v[0] == 'infinity' for v in vs)
+    if nans and (summand == VALUE or signaling or not infinite):
+        return Record(chosen_nan(f, c, nans), flags + INVALID * signaling)
+    sign = lambda v: v[1] if summand == VALUE else 0
+    zeros = {sign(v) for v in vs if v[0] == 'zero'}
+    infinities = {sign(v) for v in vs if v[0] == 'infinity'}
+    return settle(f, c, flags, zeros, infinities, *sum_terms(summand, vs))
+
+
+def dot_terms(pairs):
+    numbers = [(x, y) for x, y in pairs if x[0] == y[0] == 'number']
+    terms = [(x[1] ^ y[1], x[2] * y[2], x[3] + y[3]) for x, y in numbers]
+    return terms, max((position(x) + position(y) + 1 for x, y in numbers), default=0)
+
+
+def dot_record(f, c, left, right):
+    (xs, a), (ys, b) = operands(f, c, left), operands(f, c, right)
+    flags = a | b
+    pairs = list(zip(xs, ys))
+    invalid = any({x[0], y[0]} == {'infinity', 'zero'} for x, y in pairs)
+    nans = [v for pair in pairs for v in pair if v[0] == 'nan']
+    if nans:
+        return Record(chosen_nan(f, c, nans), flags + INVALID * (invalid or any(v[2] for v in nans)))
+    if invalid:
+        return Record(f.nan(c['negative'], 0), flags + INVALID)
+    infinities = {x[1] ^ y[1] for x, y in pairs if 'infinity' in (x[0], y[0])}
+    zeros = {x[1] ^ y[1] for x, y in pairs if 'zero' in (x[0], y[0])}
+    return settle(f, c, flags, zeros, infinities, *dot_terms(pairs))
+
+
+# ---- refusals
+
+def stray(w, values):
+    """The indices of the elements with a set bit at position W or above."""
+    return [i for i, v in enumerate(values) if v >> w]
+
+
+def conditions(kind, e, w, c, summand, left, right, more, room):
+    """The numbers of the table whose conditions hold. A right list makes it a
+    dot; more is the number of bytes behind the values of either list, and
+    room the length of the answer buffer of a byte entry."""
+    holds = set()
+    if any(more):
+        holds.add(1)
+    if room < 24:
+        holds.add(2)
+    if not valid_format(kind, e, w):
+        holds.add(3)
+    if any(c[name] >= most for name, most in zip(SETTINGS, RANGES)) or c['precision'] > max(w - e, 0):
+        holds.add(4)
+    if right is None and summand > 2:
+        holds.add(4)
+    if right is not None and len(left) != len(right):
+        holds.add(5)
+    if len(left) > LIMIT:
+        holds.add(6)
+    if stray(w, left) or stray(w, right or []):
+        holds.add(7)
+    return holds
+
+
+# ---- pence
+
+def pence(kind, e, w, b):
+    """The figure, the refusal and the place."""
+    if not valid_format(kind, e, w):
+        return 0, 3, 0
+    if b >> w:
+        return 0, 7, 0
+    v = Format(kind, e, w).decode(b)
+    if v[0] in ('nan', 'infinity'):
+        return 0, 8, 0
+    if v[0] == 'zero':
+        return 0, 0, 0
+    _, negative, m, x = v
+    # the nearest whole number to 100 m 2^x, ties away from zero
+    figure = 100 * m << x if x >= 0 else (200 * m + (1 << -x)) >> (1 - x)
+    if figure > LARGEST_PENCE:
+        return 0, 8, 0
+    return -figure if negative else figure, 0, 0

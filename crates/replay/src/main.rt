@@ -1,0 +1,154 @@
+// Replays the cases of standard input: works each one out over words, over bytes and through a byte entry, compares the answers with those that
+// its row holds, and prints how many agree. cases.py makes the list, and says how it is laid out; README.md says where the answers come from.
+mod counts;
+mod figures;
+mod row;
+mod ways;
+
+use counts::counts;
+use figures::figures;
+use hex::number;
+use ways::by_bytes;
+use ways::by_entry;
+use ways::by_words;
+ghost use mathlib.Core.Path.{_≡_};
+ghost use Prim.Native.Nat.{_+_, _<_, _≤_};
+
+// How many rows were read, and how many of them agree, each way.
+struct Agreed {
+    rows: u64,
+    words: u64,
+    bytes: u64,
+    entries: u64,
+}
+
+fn none() -> Agreed
+    ensures { λ r. ⌜ (r .rows ≡ 0) × (r .words ≡ 0) × (r .bytes ≡ 0) × (r .entries ≡ 0) ⌝ }
+{
+    Agreed {
+        rows: 0,
+        words: 0,
+        bytes: 0,
+        entries: 0,
+    }
+}
+
+// Works a row out, counts it, and prints it where an answer disagrees.
+fn counted(a: Agreed, row: &[u8]) -> Agreed
+    requires { ⌜ (a .rows < 65536) × (a .words ≤ a .rows) × (a .bytes ≤ a .rows) × (a .entries ≤ a .rows) ⌝ }
+    ensures { λ r. ⌜ (r .rows ≡ a .rows + 1) × (r .words ≤ r .rows) × (r .bytes ≤ r .rows) × (r .entries ≤ r .rows) ⌝ }
+{
+    let rows = a.rows + 1;
+    let words = by_words(row);
+    let bytes = by_bytes(row);
+    let entries = by_entry(row);
+    if words + bytes + entries < 3 {
+        io::write_all(1, b"disagrees: ");
+        io::write_all(1, row);
+    }
+    Agreed {
+        rows,
+        words: a.words + words,
+        bytes: a.bytes + bytes,
+        entries: a.entries + entries,
+    }
+}
+
+// The next row, of twelve values or, a long one, of twenty-four.
+fn next_row(a: Agreed, long: bool) -> Agreed
+    requires { ⌜ (a .rows < 65536) × (a .words ≤ a .rows) × (a .bytes ≤ a .rows) × (a .entries ≤ a .rows) ⌝ }
+    ensures { λ r. ⌜ (r .rows ≡ a .rows + 1) × (r .words ≤ r .rows) × (r .bytes ≤ r .rows) × (r .entries ≤ r .rows) ⌝ }
+{
+    if long {
+        let mut row = [0u8; 485];
+        io::read_full(0, &mut row);
+        return counted(a, &row);
+    }
+    let mut row = [0u8; 281];
+    io::read_full(0, &mut row);
+    counted(a, &row)
+}
+
+fn next_rows(n: u64, long: bool) -> Agreed
+    requires { ⌜ n < 65536 ⌝ }
+    ensures { λ r. ⌜ (r .rows < 65536) × (r .words ≤ r .rows) × (r .bytes ≤ r .rows) × (r .entries ≤ r .rows) ⌝ }
+{
+    let mut a = none();
+    while a.rows < n {
+        a = next_row(a, long);
+    }
+    a
+}
+
+fn report(a: Agreed) {
+    io::write_all(1, b" words ");
+    io::print_decimal(1, a.words);
+    io::write_all(1, b", bytes ");
+    io::print_decimal(1, a.bytes);
+    io::write_all(1, b", entries ");
+    io::print_decimal(1, a.entries);
+    io::write_all(1, b" of ");
+    io::print_decimal(1, a.rows);
+    io::write_all(1, b" agree\n");
+}
+
+// Reads a section, its name and its number of rows first, and prints what agrees.
+fn section() -> Agreed
+    ensures { λ r. ⌜ (r .rows < 65536) × (r .words ≤ r .rows) × (r .bytes ≤ r .rows) × (r .entries ≤ r .rows) ⌝ }
+{
+    let mut name = [0u8; 44];
+    io::read_full(0, &mut name);
+    let mut count = [0u8; 8];
+    io::read_full(0, &mut count);
+    let a = next_rows(number(&count, 3, 4) % 65536, count[1] == b'l');
+    io::write_all(1, &name);
+    report(a);
+    a
+}
+
+fn sections(n: u64) -> Agreed
+    requires { ⌜ n < 256 ⌝ }
+{
+    let mut all = none();
+    let mut i: u64 = 0;
+    while i < n {
+        let a = section();
+        let rows = all.rows + a.rows;
+        let words = all.words + a.words;
+        let bytes = all.bytes + a.bytes;
+        let entries = all.entries + a.entries;
+        all = Agreed {
+            rows,
+            words,
+            bytes,
+            entries,
+        };
+        i += 1;
+    }
+    all
+}
+
+// Reads the rows of pence, their number first, and prints how many agree.
+fn report_figures() {
+    let mut head = [0u8; 5];
+    io::read_full(0, &mut head);
+    let n = number(&head, 0, 4) % 65536;
+    let agreed = figures(n);
+    io::write_all(1, b"pence of one encoding ...................... ");
+    io::print_decimal(1, agreed);
+    io::write_all(1, b" of ");
+    io::print_decimal(1, n);
+    io::write_all(1, b" agree\n");
+}
+
+fn main() {
+    let mut head = [0u8; 3];
+    io::read_full(0, &mut head);
+    let all = sections(number(&head, 0, 2) % 256);
+    io::write_all(1, b"all of these ...............................");
+    report(all);
+    io::write_all(1, b"refusals by the number of elements ......... ");
+    io::print_decimal(1, counts());
+    io::write_all(1, b" of 12 agree\n");
+    report_figures();
+}

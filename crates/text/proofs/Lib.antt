@@ -1,0 +1,11 @@
+pub mod FirstLine
+pub mod Steps
+pub mod Prefix
+pub mod Digits
+pub mod Places
+pub mod Filled
+pub mod Told
+pub mod Grown
+pub mod Spelt
+pub mod Figures
+pub mod FourLines

@@ -1,0 +1,33 @@
+-- `text::sum_text` meets its contract.
+use mathlib.Core.Path.{_≡_, ap, _∙_, subst}
+use borrow.Author.Needs.{needs}
+use Rattle.totals_spec.specs.Totals.{Answer}
+use Rattle.totals_spec.specs.Pence.{Pence}
+use Rattle.totals_spec.specs.Program.{answerText}
+use Rattle.reduction.specs.Answered.{answerOf}
+use Rattle.text.specs.Holds.{Holds}
+use Rattle.text.proofs.Figures.{read}
+use Rattle.text.proofs.FourLines.{answer-is}
+use Rattle.text.proofs.sum_text.Statement.{statement}
+use Rattle.text.proofs.sum_text.Tie as tie
+
+sum-requires : tie.Need-sum-requires
+sum-requires c κs = search needs
+
+pence-of-requires : tie.Need-pence-of-requires
+pence-of-requires c κs = search needs
+
+answer-lines-requires : tie.Need-answer-lines-requires
+answer-lines-requires c κs = search needs
+
+returns : tie.Need-returns
+returns c =
+    let a = c .before .before .before .sum in
+    let p = c .before .before .pence-of in
+    subst (λ (x : Answer). Holds (c .answer-lines .result) (answerText x)) (a .ensures)
+    (subst (Holds (c .answer-lines .result))
+    (answer-is (answerOf (a .result)) _ _ (read (p .result .figure) (search needs) ∙ ap (λ (x : Pence). x .figure) (p .ensures)) (ap (λ (x : Pence). x .refusal) (p .ensures)))
+    (c .answer-lines .ensures))
+
+pub sum-text-spec : {M : Type 1} → statement M
+sum-text-spec = tie.close (tie.spec sum-requires pence-of-requires answer-lines-requires returns)
