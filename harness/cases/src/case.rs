@@ -1,0 +1,78 @@
+//! One call of an entry: every number and byte that it is given.
+
+use std::fmt;
+
+/// The values of a list, at most this many.
+pub const LIMIT: usize = 1 << 20;
+
+#[derive(Clone, Copy, Debug, PartialEq, Eq)]
+pub enum Operation {
+    /// The number of the summand: 0 value, 1 magnitude, 2 square; above that a refusal.
+    Sum(u64),
+    Dot,
+}
+
+#[derive(Clone, Debug)]
+pub struct Case {
+    /// Kind, exponent bits, width.
+    pub format: [u64; 3],
+    /// Rounding, tininess, NaN propagation, default NaN's sign, flush to zero, denormals are zero, saturate, precision.
+    pub settings: [u64; 8],
+    pub operation: Operation,
+    /// The values, or the left list of a dot.
+    pub left: Vec<u64>,
+    /// The right list of a dot.
+    pub right: Vec<u64>,
+    /// How many bytes, 0 to 7, stand behind the values of the left and of the right list.
+    pub behind: [usize; 2],
+    /// The length of the answer buffer.
+    pub room: usize,
+    /// What the buffer holds before the call.
+    pub fill: u8,
+    /// Draws the order of the rearranged list.
+    pub order: u64,
+}
+
+impl Case {
+    /// A well-formed call on a list of no values.
+    pub fn new(format: [u64; 3], settings: [u64; 8], operation: Operation) -> Self {
+        Self { format, settings, operation, left: vec![], right: vec![], behind: [0; 2], room: 40, fill: 0xa5, order: 0 }
+    }
+
+    pub fn is_dot(&self) -> bool {
+        self.operation == Operation::Dot
+    }
+
+    /// Whether terms are products of two factors.
+    pub fn is_product(&self) -> bool {
+        matches!(self.operation, Operation::Dot | Operation::Sum(2))
+    }
+}
+
+fn list(values: &[u64]) -> String {
+    const SHOWN: usize = 64;
+    let mut text: Vec<String> = values.iter().take(SHOWN).map(|v| format!("{v:x}")).collect();
+    if values.len() > SHOWN {
+        text.push(format!("and {} more", values.len() - SHOWN));
+    }
+    format!("[{}]", text.join(" "))
+}
+
+impl fmt::Display for Case {
+    fn fmt(&self, out: &mut fmt::Formatter) -> fmt::Result {
+        let [kind, e, w] = self.format;
+        let names = ["rounding", "tininess", "nan", "default-nan", "flush", "daz", "saturate", "precision"];
+        write!(out, "kind {kind} E {e} W {w}")?;
+        for (name, value) in names.iter().zip(self.settings).filter(|(_, value)| *value != 0) {
+            write!(out, ", {name} {value}")?;
+        }
+        match self.operation {
+            Operation::Sum(summand) => write!(out, ", sum of summand {summand} over {}", list(&self.left))?,
+            Operation::Dot => write!(out, ", dot of {} and {}", list(&self.left), list(&self.right))?,
+        }
+        if self.behind != [0; 2] {
+            write!(out, ", bytes behind the lists {:?}", self.behind)?;
+        }
+        write!(out, ", answer buffer of {} filled from {:02x}, order {:x}", self.room, self.fill, self.order)
+    }
+}

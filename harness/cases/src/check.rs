@@ -1,0 +1,329 @@
+//! One case, looked at from every side: the refusal, the result, flags and passes, each byte of the buffers, and a rearranged list.
+
+use std::panic::{AssertUnwindSafe, catch_unwind};
+
+use fermuzhai::raw;
+
+use crate::case::{Case, Operation};
+use crate::refusals::{Expected, Side, expected, is_stray};
+use crate::rng::Rng;
+use crate::shape::Shape;
+
+/// What the original answers.
+#[derive(Clone, Copy, Debug, PartialEq, Eq)]
+pub struct Answer {
+    pub result: u64,
+    pub flags: u8,
+    pub passes: u64,
+}
+
+/// The original: the formats that it was compiled for, and its totals. It is asked about accepted cases only.
+pub struct Oracle<'a> {
+    pub formats: Vec<[u64; 3]>,
+    pub total: &'a (dyn Fn(&Case) -> Answer + Sync),
+}
+
+/// What a case without a difference showed.
+#[derive(Clone, Copy, Debug)]
+pub enum Seen {
+    Refused(u64),
+    Accepted { answer: Answer, rearranged: bool },
+}
+
+/// The two entries to compare, as functions of a case's numbers and bytes. Tests put others in their place.
+pub type Sum = fn([u64; 3], [u64; 8], u64, &[u8], &mut [u8]) -> u64;
+pub type Dot = fn([u64; 3], [u64; 8], &[u8], &[u8], &mut [u8]) -> u64;
+
+/// Buffers that serve one case after another.
+pub struct Bench {
+    sum: Sum,
+    dot: Dot,
+    left: Vec<u8>,
+    right: Vec<u8>,
+    answer: Vec<u8>,
+    first: Vec<u8>,
+}
+
+impl Default for Bench {
+    fn default() -> Self {
+        Self::with(raw::sum, raw::dot)
+    }
+}
+
+/// Every buffer starts so many bytes behind an aligned address.
+fn skew(case: &Case) -> usize {
+    usize::from(case.fill % 8)
+}
+
+/// Bytes behind the answer buffer that nobody is to touch.
+const GUARD: usize = 32;
+
+/// What byte `i` holds before the call. It differs from byte to byte, so that a shifted copy shows.
+fn fill(case: &Case, i: usize) -> u8 {
+    case.fill.wrapping_add((i as u8).wrapping_mul(37))
+}
+
+/// Writes the values' bytes, and behind them `behind` bytes more.
+fn lay_out(values: &[u64], skew: usize, behind: usize, bytes: &mut Vec<u8>) {
+    bytes.clear();
+    bytes.resize(skew, 0x5c);
+    bytes.extend(values.iter().flat_map(|value| value.to_le_bytes()));
+    bytes.resize(skew + 8 * values.len() + behind, 0x5c);
+}
+
+fn is_laid_out(values: &[u64], skew: usize, bytes: &[u8]) -> bool {
+    bytes[skew..].chunks_exact(8).zip(values).all(|(chunk, value)| chunk == value.to_le_bytes())
+}
+
+fn word(bytes: &[u8], at: usize) -> u64 {
+    u64::from_le_bytes(bytes[at..at + 8].try_into().expect("eight bytes"))
+}
+
+impl Bench {
+    pub fn with(sum: Sum, dot: Dot) -> Self {
+        Self { sum, dot, left: vec![], right: vec![], answer: vec![], first: vec![] }
+    }
+
+    /// Calls the entry with the case's bytes.
+    fn call(&mut self, case: &Case) -> u64 {
+        let skew = skew(case);
+        lay_out(&case.left, skew, case.behind[0], &mut self.left);
+        lay_out(&case.right, skew, case.behind[1], &mut self.right);
+        self.answer.clear();
+        self.answer.extend((0..skew + case.room + GUARD).map(|i| fill(case, i)));
+        let answer = &mut self.answer[skew..skew + case.room];
+        match case.operation {
+            Operation::Sum(summand) => (self.sum)(case.format, case.settings, summand, &self.left[skew..], answer),
+            Operation::Dot => (self.dot)(case.format, case.settings, &self.left[skew..], &self.right[skew..], answer),
+        }
+    }
+
+    /// The first 24 bytes of the answer buffer.
+    fn written(&self, case: &Case) -> &[u8] {
+        &self.answer[skew(case)..skew(case) + 24]
+    }
+
+    /// Nothing was written but the answer of an accepted call.
+    fn check_untouched(&self, case: &Case, accepted: bool) -> Result<(), String> {
+        let skew = skew(case);
+        if !is_laid_out(&case.left, skew, &self.left) || !is_laid_out(&case.right, skew, &self.right) {
+            return Err("the bytes of a list were changed".to_string());
+        }
+        let written = if accepted { skew..skew + 24 } else { 0..0 };
+        let touched = (0..self.answer.len()).find(|i| !written.contains(i) && self.answer[*i] != fill(case, *i));
+        match touched {
+            Some(i) => Err(format!("byte {} of the answer buffer was written", i as i64 - skew as i64)),
+            None => Ok(()),
+        }
+    }
+
+    /// Checks one case. An error says what differs.
+    pub fn check(&mut self, case: &Case, oracle: &Oracle) -> Result<Seen, String> {
+        let code = self.call(case);
+        let wanted = expected(case);
+        self.check_untouched(case, wanted == Expected::Accepted)?;
+        match wanted {
+            Expected::Accepted if code == 0 => self.check_accepted(case, oracle),
+            Expected::Refused(number) if code == number => Ok(Seen::Refused(number)),
+            Expected::Stray(side) if code % 256 == 7 => check_place(case, side, code / 256),
+            _ => Err(format!("expected {wanted:?}, but {code} was returned")),
+        }
+    }
+
+    fn check_accepted(&mut self, case: &Case, oracle: &Oracle) -> Result<Seen, String> {
+        let written = self.written(case);
+        if written[9..16] != [0; 7] {
+            return Err(format!("bytes 9 to 15 of the answer are {:?}", &written[9..16]));
+        }
+        let answer = Answer { result: word(written, 0), flags: written[8], passes: word(written, 16) };
+        let Ok(original) = catch_unwind(AssertUnwindSafe(|| (oracle.total)(case))) else {
+            return Err(format!("the original panics, where the answer is {answer:x?}"));
+        };
+        if original != answer {
+            return Err(format!("the original answers {original:x?}, the archive {answer:x?}"));
+        }
+        let rearranged = case.left.len() > 1 && !has_nan(case);
+        if rearranged {
+            self.check_order(case)?;
+        }
+        Ok(Seen::Accepted { answer, rearranged })
+    }
+
+    /// The rearranged list gives the same 24 bytes. The answer of the case itself is in the buffer.
+    fn check_order(&mut self, case: &Case) -> Result<(), String> {
+        self.first.clear();
+        self.first.extend_from_slice(&self.answer[skew(case)..skew(case) + 24]);
+        let other = rearranged(case);
+        let code = self.call(&other);
+        let written = self.written(&other);
+        if code != 0 || written != self.first {
+            return Err(format!("rearranged to {other}: returned {code}, {written:02x?} against {:02x?}", self.first));
+        }
+        Ok(())
+    }
+}
+
+/// Number 7's place is the index of an element of that list with a stray bit.
+fn check_place(case: &Case, side: Side, place: u64) -> Result<Seen, String> {
+    let list = if side == Side::Left { &case.left } else { &case.right };
+    match list.get(place as usize) {
+        Some(&value) if is_stray(value, case.format[2]) => Ok(Seen::Refused(7)),
+        _ => Err(format!("refusal 7 of the {side:?} list names place {place}")),
+    }
+}
+
+fn has_nan(case: &Case) -> bool {
+    let shape = Shape::of(case.format);
+    case.left.iter().chain(&case.right).any(|&value| shape.is_nan(value))
+}
+
+/// The same elements, or pairs of elements, in another order.
+fn rearranged(case: &Case) -> Case {
+    let mut order: Vec<usize> = (0..case.left.len()).collect();
+    Rng::new(case.order, 0, 0).shuffle(&mut order);
+    let take = |list: &[u64]| order.iter().map(|&i| list[i]).collect();
+    let mut other = Case::new(case.format, case.settings, case.operation);
+    other.left = take(&case.left);
+    if case.is_dot() {
+        other.right = take(&case.right);
+    }
+    other.fill = !case.fill;
+    other
+}
+
+#[cfg(test)]
+mod tests {
+    use fermuzhai::raw;
+
+    use super::{Answer, Bench, Oracle, word};
+    use crate::case::{Case, Operation};
+    use crate::lists;
+    use crate::refused::refused;
+    use crate::rng::Rng;
+    use crate::shrink::shrink;
+
+    const BINARY16: [u64; 3] = [0, 5, 16];
+
+    /// The archive itself in the place of the original.
+    fn archive(case: &Case) -> Answer {
+        let mut answer = [0; 24];
+        let bytes = |list: &[u64]| raw::bytes(list);
+        match case.operation {
+            Operation::Sum(summand) => raw::sum(case.format, case.settings, summand, &bytes(&case.left), &mut answer),
+            Operation::Dot => raw::dot(case.format, case.settings, &bytes(&case.left), &bytes(&case.right), &mut answer),
+        };
+        Answer { result: word(&answer, 0), flags: answer[8], passes: word(&answer, 16) }
+    }
+
+    fn oracle(total: &(dyn Fn(&Case) -> Answer + Sync)) -> Oracle<'_> {
+        Oracle { formats: vec![BINARY16], total }
+    }
+
+    /// Formats at the ends of every range.
+    const FORMATS: [[u64; 3]; 10] =
+        [[0, 2, 4], [0, 11, 64], [0, 28, 30], [0, 28, 64], [1, 2, 64], [1, 4, 8], [2, 2, 4], [2, 8, 32], [3, 2, 64], [3, 15, 17]];
+
+    fn drawn(format: [u64; 3], number: u64) -> Case {
+        let rng = &mut Rng::new(7, 7, number);
+        match number % 8 {
+            0 => lists::random(rng, format),
+            1 => lists::ties(rng, format),
+            2 => lists::ties_at_the_ends(rng, format),
+            3 => lists::chains(rng, format),
+            4 => lists::cancellations(rng, format),
+            5 => lists::specials(rng, format),
+            6 if format[1] > 15 => lists::wide(rng, format),
+            _ => refused(rng, format),
+        }
+    }
+
+    #[test]
+    fn the_archive_keeps_the_table_the_buffers_and_the_order() {
+        let mut bench = Bench::default();
+        for number in 0..20_000 {
+            let case = drawn(FORMATS[number as usize / 8 % FORMATS.len()], number);
+            if let Err(what) = bench.check(&case, &oracle(&archive)) {
+                panic!("case {number}, {case}: {what}");
+            }
+        }
+    }
+
+    #[test]
+    fn a_difference_is_found_and_shrunk() {
+        // wrong where the list holds 1 and rounds toward zero
+        let wrong = |case: &Case| {
+            let mut answer = archive(case);
+            if case.left.contains(&0x3c00) && case.settings[0] == 5 {
+                answer.flags ^= 16;
+            }
+            answer
+        };
+        let mut case = Case::new(BINARY16, [5, 1, 2, 1, 0, 0, 1, 3], Operation::Sum(1));
+        case.left = vec![1, 0x3c00, 0x7bff, 0x3c00, 0x8001];
+        let mut bench = Bench::default();
+        assert!(bench.check(&case, &oracle(&wrong)).is_err());
+        let smallest = shrink(case, &mut |case| bench.check(case, &oracle(&wrong)).is_err());
+        assert_eq!(smallest.left, [0x3c00]);
+        assert_eq!(smallest.settings, [5, 0, 0, 0, 0, 0, 0, 0]);
+        assert_eq!(smallest.operation, Operation::Sum(0));
+    }
+
+    #[test]
+    fn a_panic_of_the_original_is_a_difference() {
+        let case = Case::new(BINARY16, [0; 8], Operation::Dot);
+        assert!(Bench::default().check(&case, &oracle(&|_| panic!("on purpose"))).is_err());
+    }
+
+    type Bytes<'a> = &'a mut [u8];
+
+    /// Whether some drawn case shows that this is not the archive's sum.
+    fn is_caught(sum: super::Sum) -> bool {
+        let mut bench = Bench::with(sum, raw::dot);
+        (0..20_000).any(|number| bench.check(&drawn(BINARY16, number), &oracle(&archive)).is_err())
+    }
+
+    fn writes_one_byte_more(f: [u64; 3], c: [u64; 8], u: u64, values: &[u8], answer: Bytes) -> u64 {
+        let code = raw::sum(f, c, u, values, answer);
+        if let (0, Some(byte)) = (code, answer.get_mut(24)) {
+            *byte = 0;
+        }
+        code
+    }
+
+    fn clears_the_buffer_first(f: [u64; 3], c: [u64; 8], u: u64, values: &[u8], answer: Bytes) -> u64 {
+        answer.iter_mut().take(24).for_each(|byte| *byte = 0);
+        raw::sum(f, c, u, values, answer)
+    }
+
+    fn refuses_a_full_precision(f: [u64; 3], c: [u64; 8], u: u64, values: &[u8], answer: Bytes) -> u64 {
+        if c[7] == 11 && f == BINARY16 { 4 } else { raw::sum(f, c, u, values, answer) }
+    }
+
+    fn reads_settings_as_bytes(f: [u64; 3], c: [u64; 8], u: u64, values: &[u8], answer: Bytes) -> u64 {
+        raw::sum(f, c.map(|n| n & 0xff), u, values, answer)
+    }
+
+    fn names_the_place_after(f: [u64; 3], c: [u64; 8], u: u64, values: &[u8], answer: Bytes) -> u64 {
+        let code = raw::sum(f, c, u, values, answer);
+        if code % 256 == 7 { code + 256 } else { code }
+    }
+
+    fn answers_by_the_first_element(f: [u64; 3], c: [u64; 8], u: u64, values: &[u8], answer: Bytes) -> u64 {
+        let code = raw::sum(f, c, u, values, answer);
+        if code == 0 && values.len() == 24 && values[0] > values[8] {
+            answer[16] ^= 1;
+        }
+        code
+    }
+
+    #[test]
+    fn wrong_entries_are_caught() {
+        assert!(!is_caught(raw::sum));
+        assert!(is_caught(writes_one_byte_more));
+        assert!(is_caught(clears_the_buffer_first));
+        assert!(is_caught(refuses_a_full_precision));
+        assert!(is_caught(reads_settings_as_bytes));
+        assert!(is_caught(names_the_place_after));
+        assert!(is_caught(answers_by_the_first_element));
+    }
+}

@@ -1,0 +1,20 @@
+//! Cases for comparing libtotals.a with the original `Layout::reduce` and `Layout::dot`, and the comparison itself. The original is handed in as
+//! an [`Oracle`]: this crate has no part of it.
+
+mod case;
+mod check;
+mod draw;
+mod exhaustive;
+mod lists;
+mod refusals;
+mod refused;
+mod rng;
+mod run;
+mod shape;
+mod shrink;
+mod tally;
+mod terms;
+
+pub use case::{Case, Operation};
+pub use check::{Answer, Oracle};
+pub use run::{Options, run};

@@ -1,0 +1,68 @@
+//! Document 01's table of refusals, read row by row for the two byte entries.
+
+use crate::case::{Case, LIMIT, Operation};
+
+/// What the entry is to return.
+#[derive(Clone, Copy, Debug, PartialEq, Eq)]
+pub enum Expected {
+    Accepted,
+    /// Numbers 1 to 6: place 0.
+    Refused(u64),
+    /// Number 7: the place is the index of any element of this list with a set bit at position W or above.
+    Stray(Side),
+}
+
+#[derive(Clone, Copy, Debug, PartialEq, Eq)]
+pub enum Side {
+    Left,
+    Right,
+}
+
+/// 3: kind above 3, E outside 2..28, W below E + 2 or above 64.
+fn no_format([kind, e, w]: [u64; 3]) -> bool {
+    kind > 3 || !(2..=28).contains(&e) || w < e + 2 || w > 64
+}
+
+/// 4: a setting outside its range, or summand above 2. The format is one.
+fn out_of_range(case: &Case) -> bool {
+    let [_, e, w] = case.format;
+    let highest = [7, 1, 3, 1, 1, 1, 1, w - e];
+    let setting = case.settings.iter().zip(highest).any(|(&value, high)| value > high);
+    setting || matches!(case.operation, Operation::Sum(summand) if summand > 2)
+}
+
+/// Whether a value has a set bit at position W or above.
+pub fn is_stray(value: u64, width: u64) -> bool {
+    width < 64 && value >> width != 0
+}
+
+/// The first row whose condition holds, in the order of the numbers.
+pub fn expected(case: &Case) -> Expected {
+    let dot = case.is_dot();
+    let width = case.format[2];
+    if case.behind[0] % 8 != 0 || dot && case.behind[1] % 8 != 0 {
+        return Expected::Refused(1);
+    }
+    if case.room < 24 {
+        return Expected::Refused(2);
+    }
+    if no_format(case.format) {
+        return Expected::Refused(3);
+    }
+    if out_of_range(case) {
+        return Expected::Refused(4);
+    }
+    if dot && case.left.len() != case.right.len() {
+        return Expected::Refused(5);
+    }
+    if case.left.len() > LIMIT {
+        return Expected::Refused(6);
+    }
+    if case.left.iter().any(|&value| is_stray(value, width)) {
+        return Expected::Stray(Side::Left);
+    }
+    if dot && case.right.iter().any(|&value| is_stray(value, width)) {
+        return Expected::Stray(Side::Right);
+    }
+    Expected::Accepted
+}

@@ -1,0 +1,185 @@
+//! The run: every group over the threads, what was seen, and what differs.
+
+use std::sync::Mutex;
+use std::sync::atomic::{AtomicU64, Ordering};
+use std::time::Instant;
+
+use crate::case::Case;
+use crate::check::{Bench, Oracle};
+use crate::exhaustive::{SPACES, Space};
+use crate::lists;
+use crate::refused::refused;
+use crate::rng::Rng;
+use crate::shrink::shrink;
+use crate::tally::{BINARY64, Tally, report, report_group};
+
+pub struct Options {
+    pub seed: u64,
+    /// How many cases are drawn in all groups together, about.
+    pub cases: u64,
+    /// One of how many exhaustive cases is taken.
+    pub stride: u64,
+    pub threads: usize,
+}
+
+/// A run of so many drawn cases is to reach all that is listed in `Tally::missed`; a shorter one only says what it missed.
+const ENOUGH: u64 = 1_000_000;
+
+/// Differences that are shrunk and shown, at most, in each group.
+const SHOWN: usize = 5;
+
+/// The formats that a group draws from.
+#[derive(Clone, Copy)]
+enum Pool {
+    All,
+    /// Wide enough for a chain of passes.
+    Long,
+    /// So wide that the original walks many empty passes.
+    Wide,
+}
+
+struct Formats {
+    all: Vec<[u64; 3]>,
+    long: Vec<[u64; 3]>,
+    wide: Vec<[u64; 3]>,
+}
+
+impl Formats {
+    fn new(all: &[[u64; 3]]) -> Self {
+        let at_least = |e: u64| all.iter().copied().filter(|format| format[1] >= e).collect();
+        Self { all: all.to_vec(), long: at_least(9), wide: at_least(16) }
+    }
+
+    /// A format of the pool; binary64, whose chains have known limits, comes more often.
+    fn draw(&self, rng: &mut Rng, pool: Pool) -> [u64; 3] {
+        let formats = match pool {
+            Pool::Wide => return rng.pick(&self.wide),
+            Pool::Long => &self.long,
+            Pool::All => &self.all,
+        };
+        if rng.once_in(16) { BINARY64 } else { rng.pick(formats) }
+    }
+}
+
+struct Group {
+    name: &'static str,
+    pool: Pool,
+    draw: fn(&mut Rng, [u64; 3]) -> Case,
+    /// How many cases, of so many that are drawn in all.
+    count: fn(u64) -> u64,
+    /// Cases that a thread takes at a time.
+    portion: u64,
+}
+
+/// The groups in their order, which is part of what a case is drawn from. The cases of the last three take long.
+const GROUPS: [Group; 10] = [
+    Group { name: "random lists", pool: Pool::All, draw: lists::random, count: |all| all * 290 / 1000, portion: 4096 },
+    Group { name: "ties", pool: Pool::All, draw: lists::ties, count: |all| all * 200 / 1000, portion: 4096 },
+    Group { name: "ties at the ends", pool: Pool::All, draw: lists::ties_at_the_ends, count: |all| all * 120 / 1000, portion: 4096 },
+    Group { name: "chains of passes", pool: Pool::Long, draw: lists::chains, count: |all| all * 170 / 1000, portion: 4096 },
+    Group { name: "cancellations", pool: Pool::All, draw: lists::cancellations, count: |all| all * 80 / 1000, portion: 4096 },
+    Group { name: "specials", pool: Pool::All, draw: lists::specials, count: |all| all * 100 / 1000, portion: 4096 },
+    Group { name: "refusals", pool: Pool::All, draw: refused, count: |all| all * 40 / 1000, portion: 4096 },
+    Group { name: "many elements", pool: Pool::All, draw: lists::many, count: |all| all / 500, portion: 16 },
+    Group { name: "wide gaps", pool: Pool::Wide, draw: lists::wide, count: |all| all / 20_000, portion: 1 },
+    Group { name: "about 1,048,576 elements", pool: Pool::All, draw: lists::limit, count: |all| 8 + all / 500_000, portion: 1 },
+];
+
+/// One run's shared parts.
+struct Run<'a> {
+    options: &'a Options,
+    oracle: &'a Oracle<'a>,
+    formats: Formats,
+}
+
+impl Run<'_> {
+    /// Checks the cases 0 to `count` - 1 over all threads.
+    fn over_threads(&self, name: &str, count: u64, portion: u64, case: &(dyn Fn(u64) -> Case + Sync)) -> Tally {
+        let start = Instant::now();
+        let next = AtomicU64::new(0);
+        let found = Mutex::new(vec![]);
+        let work = || {
+            let mut bench = Bench::default();
+            let mut tally = Tally::default();
+            loop {
+                let from = next.fetch_add(portion, Ordering::Relaxed);
+                if from >= count {
+                    return tally;
+                }
+                for number in from..(from + portion).min(count) {
+                    self.one(&mut bench, &mut tally, number, case(number), &found);
+                }
+            }
+        };
+        let mut total = Tally::default();
+        std::thread::scope(|scope| {
+            let workers: Vec<_> = (0..self.options.threads).map(|_| scope.spawn(work)).collect();
+            for worker in workers {
+                total.merge(&worker.join().expect("a worker ends"));
+            }
+        });
+        report_group(name, &total, start.elapsed().as_secs_f64());
+        for text in found.into_inner().expect("no worker panics") {
+            println!("{text}");
+        }
+        total
+    }
+
+    fn one(&self, bench: &mut Bench, tally: &mut Tally, number: u64, case: Case, found: &Mutex<Vec<String>>) {
+        match bench.check(&case, self.oracle) {
+            Ok(seen) => tally.add(&case, &seen),
+            Err(what) => {
+                tally.cases += 1;
+                tally.differences += 1;
+                let mut found = found.lock().expect("no worker panics");
+                if found.len() < SHOWN {
+                    found.push(self.describe(bench, number, case, &what));
+                }
+            }
+        }
+    }
+
+    /// The difference at its smallest input.
+    fn describe(&self, bench: &mut Bench, number: u64, case: Case, what: &str) -> String {
+        let smallest = shrink(case, &mut |case| bench.check(case, self.oracle).is_err());
+        let now = bench.check(&smallest, self.oracle).err().unwrap_or_default();
+        format!("  DIFFERENCE in case {number}: {what}\n    smallest input: {smallest}\n    there: {now}")
+    }
+
+    fn space(&self, space: &Space) -> Tally {
+        let seed = self.options.seed;
+        let stride = self.options.stride;
+        let offset = Rng::new(seed, 99, space.size()).below(stride);
+        let count = (space.size() - offset).div_ceil(stride);
+        self.over_threads(space.name, count, 1 << 12, &|number| space.case(seed, offset + number * stride))
+    }
+
+    fn group(&self, place: u64, group: &Group) -> Tally {
+        let draw = |number| {
+            let mut rng = Rng::new(self.options.seed, place, number);
+            let format = self.formats.draw(&mut rng, group.pool);
+            (group.draw)(&mut rng, format)
+        };
+        self.over_threads(group.name, (group.count)(self.options.cases), group.portion, &draw)
+    }
+}
+
+/// Runs every group. Returns whether all agrees and all was reached that a run is to reach.
+pub fn run(options: &Options, oracle: &Oracle) -> bool {
+    let start = Instant::now();
+    println!("seed {}, {} formats, {} threads", options.seed, oracle.formats.len(), options.threads);
+    let run = Run { options, oracle, formats: Formats::new(&oracle.formats) };
+    let mut total = Tally::default();
+    for space in &SPACES {
+        total.merge(&run.space(space));
+    }
+    for (place, group) in GROUPS.iter().enumerate() {
+        total.merge(&run.group(place as u64 + 1, group));
+    }
+    report(&total, options.seed, start.elapsed().as_secs_f64());
+    let missed = total.missed(&oracle.formats);
+    for what in &missed {
+        println!("NOT REACHED: {what}");
+    }
+    total.differences == 0 && (missed.is_empty() || options.cases < ENOUGH)
+}

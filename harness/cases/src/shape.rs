@@ -1,0 +1,135 @@
+//! The encodings of a format, as the lists need them.
+//!
+//! Encodings without their sign are ordered as the magnitudes are, so a neighbour is one more or one less. Positions count from the lowest bit
+//! of the format's least number: its fraction bits are positions 0 to `fraction` - 1 of a subnormal.
+
+#[derive(Clone, Copy, Debug)]
+pub struct Shape {
+    pub format: [u64; 3],
+    /// Fraction bits.
+    pub fraction: u32,
+    /// Digits, p.
+    pub digits: u32,
+    /// The sign bit.
+    pub sign: u64,
+    /// The largest finite magnitude.
+    pub largest: u64,
+}
+
+fn low_bits(n: u32) -> u64 {
+    if n == 64 { u64::MAX } else { (1 << n) - 1 }
+}
+
+impl Shape {
+    pub fn of(format: [u64; 3]) -> Self {
+        let [kind, e, w] = format.map(|n| n as u32);
+        let fraction = w - e - 1;
+        let sign = 1 << (w - 1);
+        let largest = match kind {
+            // the highest exponent field is for the infinities and NaNs
+            0 => (low_bits(e) << fraction) - 1,
+            // all ones is the NaN
+            1 => sign - 2,
+            _ => sign - 1,
+        };
+        Self { format, fraction, digits: w - e, sign, largest }
+    }
+
+    pub fn kind(&self) -> u64 {
+        self.format[0]
+    }
+
+    pub fn exponent_bits(&self) -> u64 {
+        self.format[1]
+    }
+
+    pub fn least_normal(&self) -> u64 {
+        1 << self.fraction
+    }
+
+    /// The exponent field of a magnitude.
+    pub fn field(&self, magnitude: u64) -> i64 {
+        (magnitude >> self.fraction) as i64
+    }
+
+    pub fn highest_field(&self) -> i64 {
+        self.field(self.largest)
+    }
+
+    /// The position of the highest bit of the largest number.
+    pub fn highest_position(&self) -> i64 {
+        i64::from(self.fraction) + self.highest_field() - 1
+    }
+
+    /// The position of 1.
+    pub fn position_of_one(&self) -> i64 {
+        let half = 1i64 << (self.exponent_bits() - 1);
+        let bias = if self.kind() == 2 { half } else { half - 1 };
+        bias + i64::from(self.fraction) - 1
+    }
+
+    /// The magnitude of m × 2^k in least numbers, for m of 1 to p bits and k from 0 up, if the format has it.
+    pub fn encode(&self, m: u64, k: i64) -> Option<u64> {
+        let length = 64 - m.leading_zeros();
+        let shift = i64::from(self.digits - length).min(k);
+        let (m, k) = (m << shift, k - shift);
+        let field = if m >> self.fraction == 0 { 0 } else { k + 1 };
+        if field > self.highest_field() {
+            return None;
+        }
+        let magnitude = (field as u64) << self.fraction | m & low_bits(self.fraction);
+        (magnitude <= self.largest).then_some(magnitude)
+    }
+
+    pub fn is_nan(&self, value: u64) -> bool {
+        let magnitude = value & (self.sign - 1);
+        match self.kind() {
+            0 => magnitude > self.largest + 1,
+            1 => magnitude == self.sign - 1,
+            2 => value == self.sign,
+            _ => false,
+        }
+    }
+
+    /// A NaN or an infinity, or a zero where the format has neither. `choice` is any number.
+    pub fn special(&self, choice: u64) -> u64 {
+        let sign = if choice & 1 == 1 { self.sign } else { 0 };
+        let infinity = self.largest + 1;
+        match (self.kind(), choice >> 1 & 3) {
+            (0, 0 | 1) => sign | infinity,
+            (0, 2) => sign | infinity | 1 << (self.fraction - 1) | choice >> 8 & low_bits(self.fraction - 1),
+            // a signaling NaN has the highest fraction bit clear and another set, where there is another
+            (0, _) => sign | infinity | (choice >> 8 & low_bits(self.fraction - 1)).max(1),
+            (1, _) => sign | self.sign - 1,
+            (2, _) => self.sign,
+            // of this kind every encoding is finite; a zero does not lie far from any list's values
+            _ => sign,
+        }
+    }
+}
+
+#[cfg(test)]
+mod tests {
+    use super::Shape;
+
+    #[test]
+    fn binary64() {
+        let shape = Shape::of([0, 11, 64]);
+        assert_eq!(shape.largest, f64::MAX.to_bits());
+        assert_eq!(shape.encode(1, shape.position_of_one()), Some(1f64.to_bits()));
+        assert_eq!(shape.encode(3, shape.position_of_one() - 1), Some(1.5f64.to_bits()));
+        assert_eq!(shape.encode(5, 0), Some(5));
+        assert_eq!(shape.encode(1, 52), Some(f64::MIN_POSITIVE.to_bits()));
+        assert_eq!(shape.encode(1, shape.highest_position() + 1), None);
+        assert!(shape.is_nan(f64::NAN.to_bits()) && !shape.is_nan(f64::INFINITY.to_bits()));
+    }
+
+    #[test]
+    fn kinds_without_infinities() {
+        // E 4, W 8: largest 448 with its NaN beside it, and 240 where the NaN is the negative zero
+        assert_eq!(Shape::of([1, 4, 8]).largest, 0x7e);
+        assert_eq!(Shape::of([2, 4, 8]).largest, 0x7f);
+        assert_eq!(Shape::of([2, 4, 8]).encode(1, Shape::of([2, 4, 8]).position_of_one()), Some(0x40));
+        assert!(Shape::of([1, 4, 8]).is_nan(0xff) && Shape::of([2, 4, 8]).is_nan(0x80) && !Shape::of([3, 4, 8]).is_nan(0xff));
+    }
+}

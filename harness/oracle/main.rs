@@ -1,0 +1,47 @@
+//! Compares libtotals.a with the original source, both in this one program.
+//!
+//!     compare quick|long CASES SEED THREADS
+
+use std::process::ExitCode;
+
+use cases::{Answer, Case, Operation, Options, Oracle};
+use floaty::oracle::{self, Table};
+
+/// The original's total of an accepted case.
+fn total(table: &Table, case: &Case) -> Answer {
+    let total = table.get(case.format).expect("cases are drawn from the compiled formats");
+    let operation = match case.operation {
+        Operation::Sum(summand) => oracle::Operation::Sum(summand),
+        Operation::Dot => oracle::Operation::Dot,
+    };
+    let oracle::Answer { result, flags, passes } = total(operation, &case.left, &case.right, &case.settings);
+    Answer { result, flags, passes }
+}
+
+fn options(arguments: &[String]) -> Option<Options> {
+    let [mode, cases, seed, threads] = arguments else { return None };
+    // a quick run takes one of so many of the exhaustive cases
+    let stride = match mode.as_str() {
+        "quick" => 13,
+        "long" => 1,
+        _ => return None,
+    };
+    Some(Options { stride, cases: cases.parse().ok()?, seed: seed.parse().ok()?, threads: threads.parse().ok()? })
+}
+
+fn main() -> ExitCode {
+    let arguments: Vec<String> = std::env::args().skip(1).collect();
+    let Some(options) = options(&arguments) else {
+        eprintln!("compare quick|long CASES SEED THREADS");
+        return ExitCode::from(2);
+    };
+    let mut table = Table::new();
+    formats_ieee::fill(&mut table);
+    formats_noinf::fill(&mut table);
+    formats_fnuz::fill(&mut table);
+    formats_finite::fill(&mut table);
+    // a panic of the original is caught and reported as a difference
+    std::panic::set_hook(Box::new(|_| {}));
+    let oracle = Oracle { formats: table.formats(), total: &|case| total(&table, case) };
+    if cases::run(&options, &oracle) { ExitCode::SUCCESS } else { ExitCode::FAILURE }
+}

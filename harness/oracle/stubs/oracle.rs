@@ -1,0 +1,170 @@
+//! The calls into the copied source, one for each format, and the table of them.
+
+use core::cell::Cell;
+use core::num::NonZeroU32;
+
+use crate::binary::{Layout, Summand};
+use crate::env::{Env, Flags, NanPropagation, NanRule, Rounding, Tininess};
+use crate::format::{Encoding, EncodingKind, Ieee, Storage, Width};
+
+const ROUNDINGS: [Rounding; 8] = [
+    Rounding::TiesToEven,
+    Rounding::TiesToAway,
+    Rounding::TiesTowardZero,
+    Rounding::TowardPositive,
+    Rounding::TowardNegative,
+    Rounding::TowardZero,
+    Rounding::AwayFromZero,
+    Rounding::ToOdd,
+];
+
+const TININESSES: [Tininess; 2] = [Tininess::BeforeRounding, Tininess::AfterRounding];
+
+const PROPAGATIONS: [NanPropagation; 4] =
+    [NanPropagation::SignalingFirst, NanPropagation::FirstOperand, NanPropagation::LargerSignificand, NanPropagation::DefaultNan];
+
+const SUMMANDS: [Summand; 3] = [Summand::Value, Summand::Magnitude, Summand::Square];
+
+/// The environment of document 01's eight settings, which are all in their ranges.
+fn env(settings: &[u64; 8]) -> Env {
+    let [rounding, tininess, propagation, negative, flush, denormals, saturate, precision] = *settings;
+    let nan = NanRule::new(PROPAGATIONS[propagation as usize]).with_default_negative(negative == 1);
+    Env::IEEE
+        .with_rounding(ROUNDINGS[rounding as usize])
+        .with_tininess(TININESSES[tininess as usize])
+        .with_nan(nan)
+        .with_flush_to_zero(flush == 1)
+        .with_denormals_are_zero(denormals == 1)
+        .with_saturate(saturate == 1)
+        .with_precision(NonZeroU32::new(precision as u32))
+}
+
+/// What is asked for: a sum with the number of its summand, or a dot product.
+#[derive(Clone, Copy)]
+pub enum Operation {
+    Sum(u64),
+    Dot,
+}
+
+/// The source's answer, and the number of times that it walked the list after its first reading.
+#[derive(Clone, Copy)]
+pub struct Answer {
+    pub result: u64,
+    pub flags: u8,
+    pub passes: u64,
+}
+
+/// An iterator that counts its clones. The source clones the list once to read it, and once for each pass.
+struct Counted<'a, I> {
+    inner: I,
+    clones: &'a Cell<u64>,
+}
+
+impl<I: Clone> Clone for Counted<'_, I> {
+    fn clone(&self) -> Self {
+        self.clones.set(self.clones.get() + 1);
+        Self { inner: self.inner.clone(), clones: self.clones }
+    }
+}
+
+impl<I: Iterator> Iterator for Counted<'_, I> {
+    type Item = I::Item;
+
+    #[inline]
+    fn next(&mut self) -> Option<I::Item> {
+        self.inner.next()
+    }
+}
+
+/// The flags as document 01's numbers, one bit for each.
+fn flag_byte(flags: Flags) -> u8 {
+    let in_order = [
+        Flags::INVALID,
+        Flags::DIVIDE_BY_ZERO,
+        Flags::OVERFLOW,
+        Flags::UNDERFLOW,
+        Flags::INEXACT,
+        Flags::TINY,
+        Flags::ROUNDED_UP,
+        Flags::DENORMAL_INPUT,
+    ];
+    in_order.iter().enumerate().map(|(place, &flag)| u8::from(flags.contains(flag)) << place).sum()
+}
+
+/// The total of one format. `right` has the length of `left` in a dot, and is not read in a sum.
+fn total<const E: u32, Enc: Encoding, const W: usize>(operation: Operation, left: &[u64], right: &[u64], settings: &[u64; 8]) -> Answer
+where
+    Width<W>: Storage,
+{
+    let clones = Cell::new(0);
+    let env = env(settings);
+    let words = left.iter().map(|&word| [word]);
+    let ([result], flags) = match operation {
+        Operation::Sum(summand) => {
+            let values = Counted { inner: words, clones: &clones };
+            Layout::<E, Enc, W>::reduce(values, SUMMANDS[summand as usize], &env)
+        }
+        Operation::Dot => {
+            let inner = words.zip(right.iter().map(|&word| [word]));
+            let pairs = Counted { inner, clones: &clones };
+            Layout::<E, Enc, W>::dot(pairs, &env)
+        }
+    };
+    Answer { result, flags: flag_byte(flags), passes: clones.get() - 1 }
+}
+
+/// A format's total, as a plain function.
+pub type Total = fn(Operation, &[u64], &[u64], &[u64; 8]) -> Answer;
+
+const KINDS: usize = 4;
+const EXPONENTS: usize = 29;
+const WIDTHS: usize = 65;
+
+/// The totals of the formats that were compiled.
+pub struct Table {
+    totals: Vec<Option<Total>>,
+}
+
+impl Table {
+    #[must_use]
+    pub fn new() -> Self {
+        Self { totals: vec![None; KINDS * EXPONENTS * WIDTHS] }
+    }
+
+    fn place([kind, exponent_bits, width]: [u64; 3]) -> usize {
+        (kind as usize * EXPONENTS + exponent_bits as usize) * WIDTHS + width as usize
+    }
+
+    /// Adds a format.
+    pub fn put<const E: u32, Enc: Encoding, const W: usize>(&mut self)
+    where
+        Width<W>: Storage,
+    {
+        let kind = match Enc::KIND {
+            EncodingKind::Ieee => 0,
+            EncodingKind::NoInf => 1,
+            EncodingKind::Fnuz => 2,
+            EncodingKind::Finite => 3,
+            EncodingKind::X87 => unreachable!("X87 is not among the formats"),
+        };
+        self.totals[Self::place([kind, u64::from(E), W as u64])] = Some(total::<E, Enc, W>);
+    }
+
+    /// Adds binary64 here, so that what does not depend on the format is compiled in this crate, with optimizations, and shared by the formats' crates.
+    pub fn put_binary64(&mut self) {
+        self.put::<11, Ieee, 64>();
+    }
+
+    /// The total of a format with kind, exponent bits and width in document 01's ranges, if it was compiled.
+    #[must_use]
+    pub fn get(&self, format: [u64; 3]) -> Option<Total> {
+        self.totals[Self::place(format)]
+    }
+
+    /// Every format that was compiled.
+    #[must_use]
+    pub fn formats(&self) -> Vec<[u64; 3]> {
+        let all = (0..KINDS as u64).flat_map(|kind| (0..EXPONENTS as u64).flat_map(move |e| (0..WIDTHS as u64).map(move |w| [kind, e, w])));
+        all.filter(|&format| self.get(format).is_some()).collect()
+    }
+}
