@@ -72,3 +72,8 @@ pub fn square_sum<T: Float>(values: &[T]) -> Result<Record<T>, Refusal> {
 pub fn dot<T: Float>(left: &[T], right: &[T]) -> Result<Record<T>, Refusal> {
     Totals::new().dot(left, right)
 }
+
+/// The Rust that the manual shows, run as doctests.
+#[cfg(doctest)]
+#[doc = include_str!("../../../docs/MANUAL.md")]
+pub struct Manual;
