@@ -6,7 +6,7 @@ use native.Mathlib.Nat.{add-zero}
 use native.Mathlib.Numerals.{add-one}
 use native.Mathlib.Omega.{arith}
 use lib.ListN.{length, take, getD, set, replicate, length-append, length-replicate}
-use lib.Seq.{set-at, append-snoc, take-suc, take-at, length-take-le}
+use lib.Seq.{set-at, append-snoc, take-suc, length-take-le}
 use Rattle.io.specs.Counts.{Counts}
 use Rattle.text.specs.declared.write.Text.{Text}
 use Rattle.text.specs.Holds.{Holds, Puts}
@@ -52,6 +52,3 @@ held-counts {t} {l} h = (below, sym (length-take-le (t .length) (t .bytes) below
 
     below : t .length ≤ length (t .bytes)
     below = omega (arith, long, h .length-is, h .fits)
-
-pub held-part : {t : Text} {l : List ℕ} → Holds t l → take (t .length) (t .bytes) ≡ l
-held-part {t} {l} h = ap (take (t .length)) (h .bytes-are) ∙ take-at l (replicate (64 - length l) 0) (t .length) (sym (h .length-is))
