@@ -113,6 +113,21 @@ where
     Answer { result, flags: flag_byte(flags), passes: clones.get() - 1 }
 }
 
+/// The result of one format, its walks not counted, for the timings.
+#[inline(never)]
+pub fn plain<const E: u32, Enc: Encoding, const W: usize>(operation: Operation, left: &[[u64; 1]], right: &[[u64; 1]], settings: &[u64; 8]) -> u64
+where
+    Width<W>: Storage,
+{
+    let env = env(settings);
+    let words = left.iter().copied();
+    let ([result], _) = match operation {
+        Operation::Sum(summand) => Layout::<E, Enc, W>::reduce(words, SUMMANDS[summand as usize], &env),
+        Operation::Dot => Layout::<E, Enc, W>::dot(words.zip(right.iter().copied()), &env),
+    };
+    result
+}
+
 /// A format's total, as a plain function.
 pub type Total = fn(Operation, &[u64], &[u64], &[u64; 8]) -> Answer;
 

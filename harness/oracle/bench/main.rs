@@ -1,0 +1,134 @@
+//! Times libtotals.a beside the original, GNU MPFR, CPython and a plain loop, all called by this one program.
+//!
+//!     bench [DOCS]
+//!
+//! With the folder DOCS it also writes performance.txt, performance.svg and the tables of PERFORMANCE.md there.
+
+mod fsum;
+mod lists;
+mod measure;
+#[cfg(feature = "mpfr")]
+mod mpfr;
+mod plot;
+mod report;
+mod rivals;
+
+use std::process::ExitCode;
+use std::time::Duration;
+
+use floaty::oracle::Operation;
+
+use fsum::Python;
+use lists::{KINDS, Lists};
+use measure::{Rival, Who, measure};
+use report::{Growth, Report, Row};
+
+const MONTHS: usize = 480;
+const SEED: u64 = 1;
+
+/// So many lists of 480 elements are more than a processor learns the branches of.
+const MANY: u64 = 64;
+
+/// Everything is timed so often, and the least time counts.
+const SWEEPS: u32 = 4;
+const ROW: Duration = Duration::from_millis(300);
+const POINT: Duration = Duration::from_millis(60);
+
+/// Up to here the original and MPFR are timed too.
+const SHORT: usize = 10_000;
+const LONGEST: usize = 1 << 20;
+
+const OPERATIONS: [(&str, Operation); 3] = [("sum", Operation::Sum(0)), ("square sum", Operation::Sum(2)), ("dot", Operation::Dot)];
+
+/// Whether every exact sum is the same; says so where not.
+fn agree(what: &str, rivals: &[Rival]) -> bool {
+    let exact: Vec<(Who, u64)> = rivals.iter().filter_map(|rival| Some((rival.who, rival.exact?))).collect();
+    let same = exact.iter().all(|&(_, result)| result == exact[0].1);
+    if !same {
+        let results: Vec<String> = exact.iter().map(|(who, result)| format!("{} {result:016x}", who.name())).collect();
+        println!("bench: the results of {what} differ: {}", results.join(", "));
+    }
+    same
+}
+
+/// The row of a total, its times divided by `per`.
+fn row(what: String, rivals: &mut [Rival], lists: usize, per: usize, same: &mut bool) -> Row {
+    *same &= agree(&what, rivals);
+    let cells = measure(rivals, lists, ROW).into_iter().map(|(who, time)| (who, time / per as f64)).collect();
+    Row { what, cells }
+}
+
+fn months(python: &mut Option<Python>, same: &mut bool) -> Vec<Row> {
+    let mut rows = Vec::new();
+    for (kind, holds) in KINDS {
+        let lists = [Lists::of(kind, MONTHS, SEED)];
+        for (name, operation) in OPERATIONS {
+            let passes = rivals::passes(operation, &lists[0]);
+            let mut rivals = rivals::binary64(operation, &lists, python.as_mut());
+            rows.push(row(format!("{kind} ({holds}), {name}; passes: {passes}"), &mut rivals, 1, MONTHS, same));
+        }
+    }
+    rows
+}
+
+fn many(same: &mut bool) -> Vec<Row> {
+    let of_kind = |(kind, holds)| {
+        let lists: Vec<Lists> = (0..MANY).map(|more| Lists::of(kind, MONTHS, SEED + more)).collect();
+        let mut rivals = rivals::binary64(Operation::Sum(0), &lists, None);
+        row(format!("{kind} ({holds}), sum"), &mut rivals, lists.len(), MONTHS, same)
+    };
+    KINDS.into_iter().map(of_kind).collect()
+}
+
+fn calls(python: &mut Option<Python>, same: &mut bool) -> Vec<Row> {
+    let mut rows = Vec::new();
+    let one = [Lists::of('a', 1, SEED)];
+    for (name, operation) in OPERATIONS {
+        let mut rivals = rivals::binary64(operation, &one, python.as_mut());
+        rows.push(row(format!("one amount, {name}"), &mut rivals, 1, 1, same));
+    }
+    let gap = [Lists::gap()];
+    rows.push(row("the two-element gap, sum".to_string(), &mut rivals::gap(&gap), 1, 1, same));
+    rows
+}
+
+fn growth(same: &mut bool) -> Vec<Growth> {
+    let mut points = Vec::new();
+    for (kind, _) in KINDS {
+        let mut count = 1;
+        while count <= LONGEST {
+            let lists = [Lists::of(kind, count, SEED)];
+            let passes = rivals::passes(Operation::Sum(0), &lists[0]);
+            let mut rivals = rivals::sums(&lists, count <= SHORT);
+            *same &= agree(&format!("list {kind} of {count}"), &rivals);
+            for (who, time) in measure(&mut rivals, 1, POINT) {
+                points.push(Growth { kind, who, count, passes, time: time / count as f64 });
+            }
+            count *= 2;
+        }
+    }
+    points
+}
+
+fn main() -> ExitCode {
+    let docs = std::env::args().nth(1);
+    let mut python = Python::start();
+    if python.is_none() {
+        println!("bench: python3 does not start; the column of math.fsum is left out");
+    }
+    let mut same = true;
+    let mut sweep =
+        || Report { months: months(&mut python, &mut same), many: many(&mut same), calls: calls(&mut python, &mut same), growth: growth(&mut same) };
+    let mut report = sweep();
+    for _ in 1..SWEEPS {
+        report.lower(sweep());
+    }
+    println!("{}", report.tables());
+    if let Some(docs) = docs {
+        if let Err(error) = report.write(docs.as_ref()) {
+            println!("bench: {error}");
+            return ExitCode::FAILURE;
+        }
+    }
+    if same { ExitCode::SUCCESS } else { ExitCode::FAILURE }
+}
