@@ -16,9 +16,6 @@ use Rattle.totals_spec.specs.Limit.{lowBit}
 pub true-of : (b : Bool) → T b → b ≡ true
 true-of true t = refl
 
-pub false-of : (b : Bool) → T (not b) → b ≡ false
-false-of false t = refl
-
 pub T-of : {b : Bool} → b ≡ true → T b
 T-of e = subst T (sym e) tt
 

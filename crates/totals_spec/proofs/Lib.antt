@@ -31,7 +31,6 @@ pub mod Finite
 -- The promises: what `specs/Promises.antt` states. Read this one first.
 pub mod Promises
 -- More of a pass: how near S is to the exact sum, and that a boundary need not be taken off.
-pub mod Parts
 pub mod Vanish
 -- For the code's proofs: a window filled part by part, a list walked, values read from bytes, a chain walked, empty passes counted.
 pub mod Window

@@ -4,12 +4,12 @@ use mathlib.Core.Path.{_≡_, refl, sym, ap, ap₂, _∙_}
 use mathlib.Core.Bool.{Bool, true, false, _||_}
 use mathlib.Core.List.{List, [], _∷_, map, List·Permᴰ, List·Permᴰ·nil, List·Permᴰ·cons, List·Permᴰ·swap, List·Permᴰ·trans, Permᴰ·refl, Permᴰ·symm}
 use mathlib.Core.Option.{Option, none, some}
-use Prim.Native.Nat.{ℕ, suc, _+_, _<_, min, max}
+use Prim.Native.Nat.{ℕ, suc, _+_, _<_, max}
 use native.Mathlib.Nat.{add-left-comm, add-left-cancel, zero-add, not-suc-le-zero}
 use native.Mathlib.Omega.{arith}
 use lib.ListN.{length}
 use lib.Dec.{T}
-use Rattle.totals_spec.specs.Basics.{flag, total, greatest, least, any, keep, picked}
+use Rattle.totals_spec.specs.Basics.{flag, total, greatest, any, keep, picked}
 use Rattle.totals_spec.specs.Rearranged.{count, AsOften}
 
 -- one law for every gathering: g takes each element in by an operation for which the order of two does not matter
@@ -28,9 +28,6 @@ module _ {A B : Type 0} (op : B → B → B) (comm : (x y z : B) → op x (op y 
 max-left-comm : (x y z : ℕ) → max x (max y z) ≡ max y (max x z)
 max-left-comm x y z = omega arith
 
-min-left-comm : (x y z : ℕ) → min x (min y z) ≡ min y (min x z)
-min-left-comm x y z = omega arith
-
 or-left-comm : (x y z : Bool) → (x || (y || z)) ≡ (y || (x || z))
 or-left-comm true true z = refl
 or-left-comm true false z = refl
@@ -43,9 +40,6 @@ module _ {A : Type 0} where
 
   pub greatest-perm : (f : A → ℕ) {l₁ l₂ : List A} → List·Permᴰ l₁ l₂ → greatest f l₁ ≡ greatest f l₂
   greatest-perm f d = gathered max max-left-comm f (greatest f) (λ x l. refl) d
-
-  pub least-perm : (m : ℕ) (f : A → ℕ) {l₁ l₂ : List A} → List·Permᴰ l₁ l₂ → least m f l₁ ≡ least m f l₂
-  least-perm m f d = gathered min min-left-comm f (least m f) (λ x l. refl) d
 
   pub any-perm : (f : A → Bool) {l₁ l₂ : List A} → List·Permᴰ l₁ l₂ → any f l₁ ≡ any f l₂
   any-perm f d = gathered _||_ or-left-comm f (any f) (λ x l. refl) d

@@ -43,7 +43,3 @@ module _ {A B : Type 0} where
   pub picked-append : (f : A → Option B) (s t : List A) → picked f (s ++ t) ≡ picked f s ++ picked f t
   picked-append f [] t = refl
   picked-append f (x ∷ s) t = ap (keep (f x)) (picked-append f s t) ∙ sym (keep-append (f x) (picked f s) (picked f t))
-
-  -- what is picked of one more element
-  pub picked-take : (f : A → Option B) (l : List A) (i : ℕ) (d : A) → i < length l → picked f (take (suc i) l) ≡ picked f (take i l) ++ keep (f (getD l i d)) []
-  picked-take f l i d h = ap (picked f) (take-suc l i d h) ∙ picked-append f (take i l) (getD l i d ∷ [])

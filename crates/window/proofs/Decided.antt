@@ -1,7 +1,6 @@
 -- The step that the definitions' chain takes, by the tests that the code makes; and the code's step follows it.
 use mathlib.Core.Path.{_≡_, refl, sym, ap, ap₂, _∙_, subst}
 use mathlib.Core.Bool.{Bool, true, false, not, _&&_, Bool·beq, cond}
-use mathlib.Core.Logic.{_⊎_, inl, inr}
 use Prim.Native.Nat.{ℕ, zero, suc, _+_, _-_, _*_, _/_, _%_, _^_, _≤_, _<_, max}
 use native.Mathlib.Nat.{add-zero, pow-succ'}
 use native.Mathlib.Numerals.{add-one}
@@ -40,16 +39,6 @@ counted-near w n lost h = rw (le-ltb (lost + 63) w h) (same (eqb n 0))
 
 pub counted-far : (w n lost : ℕ) → n ≡ 0 → lost + 63 < w → counted w n lost ≡ (w - lost + 702) / 766
 counted-far w n lost e h = rw (eq-eqb n 0 e, lt-ltb (lost + 63) w h)
-
--- this pass alone, or the count of an empty pass far above the lost bit
-pub counted-cases : (w n lost : ℕ) → (counted w n lost ≡ 1) ⊎ ((n ≡ 0) × (lost + 63 < w) × (counted w n lost ≡ (w - lost + 702) / 766))
-counted-cases w n lost = go (eqb n 0) (eqb→eq n 0) (ltb (lost + 63) w) (ltb→lt (lost + 63) w)
-  where
-    go : (b : Bool) → (T b → n ≡ 0) → (t : Bool) → (T t → lost + 63 < w)
-        → (cond b (cond t ((w - lost + 702) / 766) 1) 1 ≡ 1) ⊎ ((n ≡ 0) × (lost + 63 < w) × (cond b (cond t ((w - lost + 702) / 766) 1) 1 ≡ (w - lost + 702) / 766))
-    go false e t k = inl refl
-    go true e false k = inl refl
-    go true e true k = inr (e tt, k tt, refl)
 
 -- at least this one, and not more than there is room for
 pub record Fits (w n lost k : ℕ) : Type 0 where
