@@ -1,20 +1,13 @@
 //! A career in many orders: every order has the same whole record.
 
-use fermuzhai::{Float, Format, Record, Refusal, Rounding, Settings, Summand, Totals, Value};
+mod common;
+
+use common::ROUNDINGS;
+use fermuzhai::{Float, Format, Record, Refusal, Settings, Summand, Totals, Value};
 
 const CAREER: &str = include_str!("../../../examples/career.txt");
 const EXPECTED: &str = include_str!("../../../examples/career.expected");
 const SHUFFLES: usize = 50;
-const ROUNDINGS: [Rounding; 8] = [
-    Rounding::TiesToEven,
-    Rounding::TiesToAway,
-    Rounding::TiesTowardZero,
-    Rounding::TowardPositive,
-    Rounding::TowardNegative,
-    Rounding::TowardZero,
-    Rounding::AwayFromZero,
-    Rounding::ToOdd,
-];
 
 fn career() -> Vec<f64> {
     CAREER

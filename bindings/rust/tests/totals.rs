@@ -2,6 +2,9 @@
 
 use std::num::NonZeroU8;
 
+mod common;
+
+use common::ROUNDINGS;
 use fermuzhai::{
     dot, magnitude_sum, raw, square_sum, sum, Flags, Format, Kind, NanPropagation, Refusal,
     Rounding, Settings, Summand, Tininess, Totals,
@@ -12,18 +15,8 @@ const KINDS: [Kind; 4] = [Kind::Ieee, Kind::NoInf, Kind::Fnuz, Kind::Finite];
 #[test]
 fn enums_have_the_numbers_of_document_01() {
     assert_eq!(KINDS.map(|kind| kind as u64), [0, 1, 2, 3]);
-    let roundings = [
-        Rounding::TiesToEven,
-        Rounding::TiesToAway,
-        Rounding::TiesTowardZero,
-        Rounding::TowardPositive,
-        Rounding::TowardNegative,
-        Rounding::TowardZero,
-        Rounding::AwayFromZero,
-        Rounding::ToOdd,
-    ];
     assert_eq!(
-        roundings.map(|rounding| rounding as u64),
+        ROUNDINGS.map(|rounding| rounding as u64),
         [0, 1, 2, 3, 4, 5, 6, 7]
     );
     assert_eq!(

@@ -1,0 +1,15 @@
+//! What several tests share.
+
+use fermuzhai::Rounding;
+
+/// In document 01's order.
+pub const ROUNDINGS: [Rounding; 8] = [
+    Rounding::TiesToEven,
+    Rounding::TiesToAway,
+    Rounding::TiesTowardZero,
+    Rounding::TowardPositive,
+    Rounding::TowardNegative,
+    Rounding::TowardZero,
+    Rounding::AwayFromZero,
+    Rounding::ToOdd,
+];
