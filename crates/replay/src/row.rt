@@ -5,10 +5,16 @@ use hex::number;
 use reduction::total::Answer;
 use values::put_word;
 ghost use mathlib.Core.Path.{_≡_};
-ghost use Prim.Native.Nat.{_<_, _≤_};
-ghost use lib.ListN.{length};
+ghost use mathlib.Core.Bool.{cond};
+ghost use Prim.Native.Nat.{_+_, _%_, _^_, _<_, _≤_};
+ghost use lib.Dec.{eqb};
+ghost use lib.IntN.{pos, negℤ};
+ghost use lib.ListN.{length, getD};
+ghost use Rattle.hex.specs.Digits.{numberAt};
 
-fn byte_at(s: &[u8], i: usize) -> u8 {
+fn byte_at(s: &[u8], i: usize) -> u8
+    ensures { λ r. ⌜ r ≡ getD (now (s .entry)) i 48 ⌝ }
+{
     if i < s.len() { s[i] } else { 48 }
 }
 
@@ -52,6 +58,7 @@ pub fn count_at(s: &[u8], at: usize, most: usize) -> usize
 // A sign, and n digits behind it.
 pub fn signed_at(s: &[u8], at: usize, n: usize) -> i64
     requires { ⌜ at < 512 ⌝ }
+    ensures { λ r. ⌜ r ≡ cond (eqb (getD (now (s .entry)) at 48) 45) (negℤ (pos (numberAt (now (s .entry)) (at + 1) n % 2 ^ 64 % 2 ^ 63))) (pos (numberAt (now (s .entry)) (at + 1) n % 2 ^ 64 % 2 ^ 63)) ⌝ }
 {
     let m = (number(s, at + 1, n) % 9223372036854775808) as i64;
     if byte_at(s, at) == b'-' { -m } else { m }

@@ -1,8 +1,12 @@
 -- `replay::row::signed_at` meets its contract.
+use mathlib.Core.Path.{sym, _∙_}
 use Prim.Native.Nat.{_%_, _<_}
 use native.Mathlib.Omega.{arith}
 use Rattle.totals.proofs.Figures.{negated, negated-fits}
+use mir.Syntax.{w64}
+use mir.ValLaws.{toZ-pos, toZ-ofZ}
 use borrow.Author.Needs.{needs}
+use borrow.Author.Tests.{eq-eqb, ne-eqb}
 use Rattle.replay.proofs.row.signed_at.Statement.{statement}
 use Rattle.replay.proofs.row.signed_at.Tie as tie
 
@@ -25,10 +29,16 @@ sub-result c =
     rw (negated m small) (negated-fits m small)
 
 returns : tie.Need-returns
-returns c = search needs
+returns c =
+    let m = c .before .before .number .result % 9223372036854775808 in
+    let small : m < 9223372036854775808 = omega arith in
+    rw (eq-eqb _ 45 (sym (c .before .byte-at .ensures) ∙ c .if1 .taken), ← (c .before .before .number .ensures), negated m small) (toZ-ofZ w64 _ (negated-fits m small))
 
 returns-2 : tie.Need-returns-2
-returns-2 c = search needs
+returns-2 c =
+    let m = c .before .before .number .result % 9223372036854775808 in
+    let small : m < 9223372036854775808 = omega arith in
+    rw (ne-eqb _ 45 (λ e. c .if1 .left (c .before .byte-at .ensures ∙ e)), ← (c .before .before .number .ensures)) (toZ-pos w64 m small)
 
 pub signed-at-spec : {M : Type 1} → statement M
 signed-at-spec =
