@@ -3,23 +3,31 @@ use mathlib.Core.Path.{_≡_, refl, sym, ap, _∙_}
 use mathlib.Core.Bool.{Bool, true, false}
 use mathlib.Core.List.{List}
 use Prim.Native.Nat.{ℕ, _+_, _-_, _*_, _^_, _<_, _≤_}
-use native.Mathlib.Nat.{sub-add-cancel, zero-add, zero-mul, one-mul}
+use native.Mathlib.Nat.{sub-add-cancel, zero-add, zero-mul, one-mul, mul-assoc}
 use native.Mathlib.Omega.{arith}
+use borrow.Author.Tests.{eqb-true, eqb-false}
+use lib.Dec.{eqb}
 use lib.ListN.{getD, set}
 use lib.Seq.{getD-set-other}
 use lib.Pow.{pow-pos, pow-add}
 use Rattle.limbs.specs.declared.word.Sum.{Sum}
-use Rattle.limbs.specs.Value.{Words, value, moved}
+use Rattle.limbs.specs.Value.{Words, value, moved, term}
 use Rattle.limbs.proofs.Words.{words-set, inside, value-lt}
 use Rattle.limbs.proofs.Step.{put, put-last, added, far, none, minus-is}
 use Rattle.limbs_term.specs.declared.Placed.{Placed}
-use Rattle.limbs_term.specs.Placed.{sum, Makes}
+use Rattle.limbs_term.specs.Placed.{flip, sum, Makes}
 
 -- ---- numbers
 
 -- X and t make Q times B, of which s times B went over the end: k times B is left to take off
 left-over : (v v₀ X B Q s k t : ℕ) → v + s * B ≡ v₀ + X → X + t ≡ Q * B → k + s ≡ Q → v + t ≡ v₀ + k * B
 left-over v v₀ X B Q s k t e f g = omega (arith, ap (λ (n : ℕ). n * B) g)
+
+no-more : (c w : ℕ) → c ≡ 0 → w ≡ 0 → c + w ≡ 0
+no-more c w e f = omega arith
+
+whole-word : (c w : ℕ) → c ≡ 1 → w ≡ 18446744073709551615 → c + w ≡ 2 ^ 64
+whole-word c w e f = omega arith
 
 -- ---- the first two words, and the third
 
@@ -48,6 +56,33 @@ module _ (l : List ℕ) (w : Words 12 l) (p : Placed) (h : p .at < 11) (x y : Su
           (ap (λ (n : ℕ). value (set (set l (p .at) (x .word)) (p .at + 1) (y .word)) + (y .carry + p .w2) * 2 ^ (64 * (n + 2))) (sym e) ∙ two)
           (f .1 ∙ ap (λ (n : ℕ). 2 ^ (64 * (n + 3))) e ∙ pow-add 2 64 768) (sub-add-cancel (omega arith)))
 
+  -- a term of one word: where the carry out of two words is the carry in, nothing is left to do
+  even-two : (neg : Bool) (t : ℕ) → Makes neg p t → p .w2 ≡ flip neg 0 → y .carry ≡ p .carry
+      → value (set (set l (p .at) (x .word)) (p .at + 1) (y .word)) ≡ moved neg (value l) t
+  even-two false t f g e =
+      added 0 _ _ two-words (none 12 (p .at + 2) (y .carry + p .w2) (no-more _ _ (e ∙ f .0) g)) (two ∙ ap (λ (n : ℕ). value l + n) (f .1))
+  even-two true t f g e =
+      minus-is (2 ^ 768) _ (value l) t 0 (pow-pos 768) (value-lt two-words)
+      (left-over _ (value l) (sum p) (2 ^ (64 * (p .at + 3))) 1 1 0 t carried (f .1 ∙ sym (one-mul _)) refl
+      ∙ ap (λ (n : ℕ). value l + n) (zero-mul (2 ^ (64 * (p .at + 3))) ∙ sym (zero-mul (2 ^ 768))))
+    where
+      whole : y .carry + p .w2 ≡ 2 ^ 64
+      whole = whole-word _ _ (e ∙ f .0) g
+
+      carried : value (set (set l (p .at) (x .word)) (p .at + 1) (y .word)) + 1 * 2 ^ (64 * (p .at + 3)) ≡ value l + sum p
+      carried =
+          ap (λ (n : ℕ). value (set (set l (p .at) (x .word)) (p .at + 1) (y .word)) + n)
+          (one-mul _ ∙ ap (λ (n : ℕ). 2 ^ n) (omega arith) ∙ pow-add 2 64 (64 * (p .at + 2)) ∙ sym (ap (λ (n : ℕ). n * 2 ^ (64 * (p .at + 2))) whole)) ∙ two
+
+  pub single : (neg : Bool) (t : ℕ) → Makes neg p t → p .w2 ≡ flip neg 0 → y .carry ≤ 1 → p .w2 < 2 ^ 64 → (p .at < 10 → y .carry ≡ p .carry)
+      → Words 12 (set (set l (p .at) (x .word)) (p .at + 1) (y .word)) × (value (set (set l (p .at) (x .word)) (p .at + 1) (y .word)) ≡ moved neg (value l) t)
+  single neg t f g c s e = go (eqb (p .at) 10) refl
+    where
+      go : (b : Bool) → eqb (p .at) 10 ≡ b
+          → Words 12 (set (set l (p .at) (x .word)) (p .at + 1) (y .word)) × (value (set (set l (p .at) (x .word)) (p .at + 1) (y .word)) ≡ moved neg (value l) t)
+      go true b = at-end neg t (eqb-true _ _ b) f c s
+      go false b = let k : p .at ≡ 10 → ⊥ = eqb-false _ _ b in (two-words, even-two neg t f g (e (omega arith)))
+
   module _ (k : p .at ≡ 10 → ⊥) (z : Sum) (fz : z .word < 2 ^ 64)
       (ez : z .word + z .carry * 2 ^ 64 ≡ getD l (p .at + 2) 0 + p .w2 + y .carry) where
     three-words : Words 12 (set (set (set l (p .at) (x .word)) (p .at + 1) (y .word)) (p .at + 2) (z .word))
@@ -73,3 +108,16 @@ module _ (l : List ℕ) (w : Words 12 l) (p : Placed) (h : p .at < 11) (x y : Su
             minus-is (2 ^ 768) _ (value l) t 0 (pow-pos 768) (value-lt three-words)
             (left-over _ (value l) (sum p) (2 ^ (64 * (p .at + 3))) 1 (z .carry) 0 t three (f .1 ∙ sym (one-mul _)) (zero-add _ ∙ e ∙ f .0)
             ∙ ap (λ (n : ℕ). value l + n) (zero-mul (2 ^ (64 * (p .at + 3))) ∙ sym (zero-mul (2 ^ 768))))
+
+-- ---- past the window's end
+
+-- a term that starts there is a multiple of 2 ^ 768
+pub past-end : (neg : Bool) {l : List ℕ} (low high up : ℕ) → Words 12 l → 768 ≤ up → value l ≡ moved neg (value l) (term low high up)
+past-end neg {l} low high up w h = go neg
+  where
+    several : (high * 2 ^ 64 + low) * 2 ^ (up - 768) * 2 ^ 768 ≡ term low high up
+    several = mul-assoc (high * 2 ^ 64 + low) (2 ^ (up - 768)) (2 ^ 768) ∙ ap (λ (n : ℕ). (high * 2 ^ 64 + low) * n) (sym (pow-add 2 (up - 768) 768) ∙ ap (λ (n : ℕ). 2 ^ n) (sub-add-cancel h))
+
+    go : (neg : Bool) → value l ≡ moved neg (value l) (term low high up)
+    go false = added ((high * 2 ^ 64 + low) * 2 ^ (up - 768)) _ _ w several refl
+    go true = minus-is (2 ^ 768) (value l) (value l) (term low high up) ((high * 2 ^ 64 + low) * 2 ^ (up - 768)) (pow-pos 768) (value-lt w) (ap (λ (n : ℕ). value l + n) (sym several))

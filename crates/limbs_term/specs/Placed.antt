@@ -23,3 +23,5 @@ pub record Places (negative : Bool) (low high shift : ℕ) (p : Placed) : Type 0
   pub word : p .at ≡ shift / 64
   pub small : p .carry ≤ 1
   pub exact : Makes negative p (term low high shift)
+  -- a term of one word has no third
+  pub third : high ≡ 0 → p .w2 ≡ flip negative 0

@@ -6,7 +6,8 @@ use limbs_window::add;
 use limbs_window::shl;
 use limbs_window::sub;
 ghost use mathlib.Core.Path.{_≡_};
-ghost use mathlib.Core.Bool.{cond};
+ghost use mathlib.Core.Bool.{cond, false};
+ghost use Prim.Native.Nat.{_<_};
 ghost use Rattle.limbs.specs.Value.{Words, value, term, moved};
 ghost use Rattle.limbs_term.specs.Placed.{Places, flip};
 
@@ -63,7 +64,7 @@ fn move_term(total: [u64; 12], low: u64, high: u64, shift: usize, negative: bool
 }
 
 // The same in a lent window.
-fn add_anywhere(r: &mut [u64; 12], low: u64, high: u64, up: usize, negative: bool)
+fn add_long(r: &mut [u64; 12], low: u64, high: u64, up: usize, negative: bool)
     ensures { λ _. ⌜ Words 12 (now (r .exit)) ⌝ }
     ensures { λ _. ⌜ value (now (r .exit)) ≡ moved negative (value (now (r .entry))) (term low high up) ⌝ }
 {
@@ -71,8 +72,20 @@ fn add_anywhere(r: &mut [u64; 12], low: u64, high: u64, up: usize, negative: boo
     *r = v;
 }
 
+// Past the window's end a term is a multiple of 2^768, which changes nothing. In the later passes over terms that cancel, most lie there.
+fn add_anywhere(r: &mut [u64; 12], low: u64, high: u64, up: usize, negative: bool)
+    requires { ⌜ Words 12 (now r) ⌝ }
+    ensures { λ _. ⌜ Words 12 (now (r .exit)) ⌝ }
+    ensures { λ _. ⌜ value (now (r .exit)) ≡ moved negative (value (now (r .entry))) (term low high up) ⌝ }
+{
+    if up >= 768 {
+        return;
+    }
+    add_long(r, low, high, up, negative);
+}
+
 // A part of a term added to a lent window or taken off it, in place, so that the window stays where it is over a whole list. The long way is taken
-// from the word 11 on, and where a carry runs on past the third word: both are rare. At the word 10 two words are added, and the third lies past the
+// at the word 11, and where a carry runs on past the third word: both are rare. At the word 10 two words are added, and the third lies past the
 // window's end: the terms of a first pass stand just there.
 pub fn add_part(r: &mut [u64; 12], low: u64, high: u64, up: usize, negative: bool)
     requires { ⌜ Words 12 (now r) ⌝ }
@@ -100,4 +113,36 @@ pub fn add_part(r: &mut [u64; 12], low: u64, high: u64, up: usize, negative: boo
     r[at] = x.word;
     r[at + 1] = y.word;
     r[at + 2] = z.word;
+}
+
+// Whether the carry out of two words, the first of them the word `at`, goes on into the window's next word: where it is not the carry into them.
+fn runs_on(at: usize, carry: u64, out: u64) -> bool
+    ensures { λ r. ⌜ (r ≡ false → at < 10 → out ≡ carry) ⌝ }
+{
+    if at >= 10 {
+        return false;
+    }
+    out != carry
+}
+
+// The same for a term of one word: it reaches two words of the window at most.
+pub fn add_single(r: &mut [u64; 12], low: u64, up: usize, negative: bool)
+    requires { ⌜ Words 12 (now r) ⌝ }
+    ensures { λ _. ⌜ Words 12 (now (r .exit)) ⌝ }
+    ensures { λ _. ⌜ value (now (r .exit)) ≡ moved negative (value (now (r .entry))) (term low 0 up) ⌝ }
+{
+    let q = place(low, 0, up, negative);
+    let at = q.at;
+    if at >= 11 {
+        add_anywhere(r, low, 0, up, negative);
+        return;
+    }
+    let x = add_word(r[at], q.w0, q.carry);
+    let y = add_word(r[at + 1], q.w1, x.carry);
+    if runs_on(at, q.carry, y.carry) {
+        add_anywhere(r, low, 0, up, negative);
+        return;
+    }
+    r[at] = x.word;
+    r[at + 1] = y.word;
 }

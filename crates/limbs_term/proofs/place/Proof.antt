@@ -1,7 +1,9 @@
 -- `limbs_term::place` meets its contract.
+use mathlib.Core.Path.{ap, _∙_}
 use lib.Pow.{pow-pos}
 use borrow.Author.Needs.{needs}
-use Rattle.limbs_term.proofs.Term.{term-words, placed-as, one-if-small}
+use Rattle.limbs_term.proofs.Term.{term-words, placed-as, one-if-small, no-third}
+use Rattle.limbs_term.specs.Placed.{flip}
 use Rattle.limbs_term.proofs.place.Statement.{statement}
 use Rattle.limbs_term.proofs.place.Tie as tie
 
@@ -38,6 +40,7 @@ returns c =
       exact =
           placed-as (a .negative) (p .result .word) (s .result .word) (t .result .word) (t .result .carry) _ _ _ (c .one-if .result) _ (c .before .before .before .flipped .ensures) (c .before .before .flipped2 .ensures)
           (c .before .flipped3 .ensures) (c .one-if .ensures) (search needs) (search needs) (search needs) (term-words (a .low) (a .high) _ _ _ (s .result .carry) (p .ensures) (s .ensures .0) (t .ensures .0));
+      third = λ z. c .before .flipped3 .ensures ∙ ap (flip (a .negative)) (no-third (p .result .bit) (a .high) (t .result .word) (t .result .carry) (s .result .carry) (p .ensures .small) z (s .ensures .1) (t .ensures .0));
     }
 
 pub place-spec : {M : Type 1} → statement M
