@@ -1,21 +1,22 @@
 -- Encodings by cases: numbers by their exponent field, kinds and NaN rules by their number.
 use mathlib.Core.Path.{_≡_, refl, sym, ap, _∙_}
 use mathlib.Core.Bool.{Bool, true, false, not, _&&_, cond, and-false}
-use Prim.Native.Nat.{ℕ, zero, suc, _+_, _-_, _*_, _^_, _<_, _≤_}
-use native.Mathlib.Nat.{lt-of-lt-of-le}
+use Prim.Native.Nat.{ℕ, zero, suc, _+_, _-_, _*_, _/_, _%_, _^_, _<_, _≤_}
+use native.Mathlib.Nat.{lt-of-lt-of-le, mod-lt}
 use native.Mathlib.Omega.{arith}
-use lib.Dec.{eqb}
-use lib.Pow.{pow-mono, pow-add}
+use lib.Dec.{eqb, ltb}
+use lib.Pow.{pow-mono, pow-add, pow-pos}
 use lib.Arith.{digits-lt}
 use native.Mathlib.Nat.{pow-suc}
-use borrow.Author.Tests.{ne-eqb, eq-eqb}
+use borrow.Author.Tests.{ne-eqb, eq-eqb, eqb-false, ltb-true, ltb-false}
 use Rattle.totals_spec.specs.Basics.{isSet}
 use Rattle.totals_spec.specs.Format as spec
 use Rattle.totals_spec.specs.Settings as env
-use Rattle.totals_spec.specs.Decode.{Unpacked, zeroOf, finite, nan, number, decodeFields, isFinite}
+use Rattle.totals_spec.specs.Decode.{Unpacked, zeroOf, finite, nan, number, decodeFields, isFinite, decode, isSubnormal, signBit, fieldOf, fractionOf}
+use Rattle.totals_spec.specs.Bounds.{FormatBounds}
 use Rattle.totals_spec.specs.Encode.{zeroBits, nanBits, assembled}
 use Rattle.totals_spec.specs.Nan.{staysNan, quiet, defaultNanOf}
-use Rattle.binary.specs.Joined.{nanPattern, topOf, selectedBy}
+use Rattle.binary.specs.Joined.{nanPattern, topOf, Plain, selectedBy}
 
 -- ---- numbers: t fraction bits, the sign s, the exponent field x, the fraction m
 
@@ -99,14 +100,52 @@ pub positive : (x : ℕ) → (x ≡ 0 → ⊥) → 0 < x
 positive zero h = absurd (h refl)
 positive (suc x) h = omega arith
 
+pub not-sub : (v : Unpacked) (x : ℕ) → (x ≡ 0 → ⊥) → (isFinite v && eqb x 0) ≡ false
+not-sub v x h = ap (λ e. isFinite v && e) (ne-eqb x 0 h) ∙ and-false (isFinite v)
+
+-- ---- one test for both: k is the exponent field less 1, where 0 wraps
+
+next-up : (M k x : ℕ) → M ≤ 2 ^ 28 → k < M - 1 - 1 → (k + 1) % 2 ^ 64 ≡ x → x ≡ k + 1
+next-up M k x m h e = omega arith
+
+all-ones : (M k x : ℕ) → k < 2 ^ 64 → M - 1 - 1 ≤ k → (k + 1) % 2 ^ 64 ≡ x → x < M → (x ≡ 0 → ⊥) → x ≡ M - 1
+all-ones M k x n h e l z = omega (arith, positive x z)
+
+module _ (f : spec.Format) (v : FormatBounds f) (b k : ℕ) (n : k < 2 ^ 64) (e : (k + 1) % 2 ^ 64 ≡ fieldOf f b) where
+  within : k < 2 ^ (f .E) - 1 - 1 → Plain true f b
+  unfolding decode isSubnormal
+  within h = (
+    decode-plain (f .kind) f (signBit f b) (fieldOf f b) (fractionOf f b) some below,
+    not-sub (decode f b) _ some,
+    positive _ some,
+    rw (ne-eqb _ _ some, ne-eqb _ _ below),
+  )
+    where
+      up : fieldOf f b ≡ k + 1
+      up = next-up (2 ^ (f .E)) k (fieldOf f b) (pow-mono (v .e-le)) h e
+
+      some : fieldOf f b ≡ 0 → ⊥
+      some z = omega (arith, up, z)
+
+      below : fieldOf f b ≡ 2 ^ (f .E) - 1 → ⊥
+      below z = omega (arith, up, z, h)
+
+  outside : 2 ^ (f .E) - 1 - 1 ≤ k → Plain false f b
+  outside h = go (eqb (fieldOf f b) 0) refl
+    where
+      go : (z : Bool) → eqb (fieldOf f b) 0 ≡ z → Plain false f b
+      go true z = rw z
+      go false z = rw (z, eq-eqb _ _ (all-ones (2 ^ (f .E)) k (fieldOf f b) n h e (mod-lt (b / 2 ^ spec.fractionBits f) (pow-pos (f .E))) (eqb-false _ _ z)))
+
+  pub one-test : (r : Bool) → ltb k (2 ^ (f .E) - 1 - 1) ≡ r → Plain r f b
+  one-test true t = within (ltb-true _ _ t)
+  one-test false t = outside (ltb-false _ _ t)
+
 -- ---- operands: denormals-are-zero, the decoded value v, and whether it is subnormal
 
 pub set-is : (n : ℕ) → not (eqb n 0) ≡ isSet n
 set-is zero = refl
 set-is (suc n) = ap not (ne-eqb (suc n) 0 (λ h. omega (arith, h)))
-
-pub not-sub : (v : Unpacked) (x : ℕ) → (x ≡ 0 → ⊥) → (isFinite v && eqb x 0) ≡ false
-not-sub v x h = ap (λ e. isFinite v && e) (ne-eqb x 0 h) ∙ and-false (isFinite v)
 
 module _ (daz : ℕ) (sub : Bool) (z v : Unpacked) where
   pub operand-other : sub ≡ false → v ≡ cond (isSet daz && sub) z v

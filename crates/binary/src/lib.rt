@@ -129,19 +129,13 @@ pub fn decode(f: Format, b: u64) -> Unpacked
     decode_finite(fraction_bits(f), negative, field, fraction)
 }
 
-// Whether the exponent field alone says, in every kind, that an encoding is a normal number: it is neither 0 nor all ones.
+// Whether the exponent field alone says, in every kind, that an encoding is a normal number: it is neither 0 nor all ones. One test tells, since 0 less 1
+// wraps to the greatest word.
 pub fn is_plain(f: Format, b: u64) -> bool
     requires { ⌜ FormatBounds (formatOf f) ⌝ }
     ensures { λ r. ⌜ Plain r (formatOf f) b ⌝ }
 {
-    let field = field_of(f, b);
-    if field == 0 {
-        return false;
-    }
-    if field == field_max(f) {
-        return false;
-    }
-    true
+    std::num::wrapping_sub_u64(field_of(f, b), 1) < field_max(f) - 1
 }
 
 // Whether an encoding, decoded as v, is a subnormal number.
