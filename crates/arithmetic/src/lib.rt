@@ -82,6 +82,7 @@ fn summand_sign(u: u64, negative: bool) -> bool
 fn summand_term(u: u64, negative: bool, k: u64, m: u64) -> Term
     requires { ⌜ k < 268435456 ⌝ }
     ensures { λ r. ⌜ StandsFor r (terms.itemOf (env.summandOf u) (dec.finite negative k m)) ⌝ }
+    ensures { λ r. ⌜ (u < 2 → (r .high ≡ 0) × (r .low ≡ m)) ⌝ }
 {
     if u >= 2 {
         return product(false, k, m, k, m);
@@ -120,10 +121,11 @@ pub fn looked_term(f: Format, c: Settings, u: u64, b: u64) -> Term
     summand_term(u, negative, shift, significand)
 }
 
-// The term of a normal number.
+// The term of a normal number. Where it is not squared it has one word, of p digits.
 pub fn plain_term(f: Format, u: u64, b: u64) -> Term
     requires { ⌜ FormatBounds (formatOf f) × (0 < dec.fieldOf (formatOf f) b) ⌝ }
     ensures { λ r. ⌜ StandsFor r (terms.itemOf (env.summandOf u) (plainNumber (formatOf f) b)) ⌝ }
+    ensures { λ r. ⌜ (u < 2 → (r .high ≡ 0) × (bitLength (r .low) ≡ spec.digits (formatOf f))) ⌝ }
 {
     summand_term(
         u,

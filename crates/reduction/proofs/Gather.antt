@@ -100,6 +100,9 @@ shift-small t terms.invalidItem h = h .1
 shift-small t (terms.infinite s) h = h .1
 shift-small t (terms.zeroItem s) h = h .1
 
+pub nothing-lost : (lost x : ℕ) → 0 ≡ x → lost ≡ max lost x
+nothing-lost lost x e = sym (max-zero lost) ∙ ap (max lost) e
+
 -- ---- the gathering of a list of items, and of one more
 
 held-more : (ts : List terms.Term) (w v lost v′ lost′ : ℕ) (t : Term) (i : terms.Item) → StandsFor t i → Held ts w v lost

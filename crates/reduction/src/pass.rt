@@ -7,16 +7,18 @@ use arithmetic::plain_product;
 use arithmetic::plain_term;
 use binary::is_plain;
 use format::Format;
+use format::digits;
 use format::env::Settings;
 use limbs::pair;
 use limbs_term::add_part;
+use limbs_term::add_single;
 use limbs_window::sub;
 use window::Pass;
 use window::larger;
 use window::window_part;
 ghost use mathlib.Core.Path.{_≡_};
-ghost use Prim.Native.Nat.{_/_, _^_, _<_, max};
-ghost use Rattle.limbs.specs.Value.{Words, value, minus, moved};
+ghost use Prim.Native.Nat.{_/_, _^_, _<_, _≤_, max};
+ghost use Rattle.limbs.specs.Value.{Words, value, bitLength, minus, moved};
 ghost use Rattle.totals_spec.specs.Settings as env;
 ghost use Rattle.totals_spec.specs.Terms as terms;
 ghost use Rattle.totals_spec.specs.Chain as chain;
@@ -74,6 +76,25 @@ fn add_term(r: &mut [u64; 12], t: Term, w: u64, lost: u64) -> u64
     add_across(r, t, w, lost)
 }
 
+// The same for a term of one word and p digits, as a normal number is.
+fn add_normal(r: &mut [u64; 12], t: Term, p: u64, w: u64, lost: u64) -> u64
+    requires { ⌜ Words 12 (now r) × (t .shift < 4611686018427387904) ⌝ }
+    requires { ⌜ (t .high ≡ 0) × (bitLength (t .low) ≡ p) × (0 < p) × (p ≤ 64) ⌝ }
+    ensures { λ _. ⌜ Words 12 (now (r .exit)) ⌝ }
+    ensures { λ _. ⌜ value (now (r .exit)) ≡ moved (t .negative) (value (now (r .entry))) (magnitude t / 2 ^ w) ⌝ }
+    ensures { λ s. ⌜ s ≡ max lost (chain.lostEnd w (magnitude t)) ⌝ }
+{
+    if t.shift >= w {
+        add_single(r, t.low, (t.shift - w) as usize, t.negative);
+        return lost;
+    }
+    let end = t.shift + p;
+    if end <= w {
+        return larger(lost, end);
+    }
+    add_across(r, t, w, lost)
+}
+
 // One more element of a list.
 pub fn add_element(
     r: &mut [u64; 12],
@@ -88,10 +109,14 @@ pub fn add_element(
     ensures { λ _. ⌜ Words 12 (now (r .exit)) ⌝ }
     ensures { λ s. ⌜ Adds w (terms.item (formatOf f) (settingsOf c) (env.summandOf u) x) (value (now (r .entry))) lost (value (now (r .exit))) s ⌝ }
 {
-    if is_plain(f, x) {
-        return add_term(r, plain_term(f, u, x), w, lost);
+    if !is_plain(f, x) {
+        return add_term(r, looked_term(f, c, u, x), w, lost);
     }
-    add_term(r, looked_term(f, c, u, x), w, lost)
+    let t = plain_term(f, u, x);
+    if u < 2 {
+        return add_normal(r, t, digits(f), w, lost);
+    }
+    add_term(r, t, w, lost)
 }
 
 // One more pair of a dot.

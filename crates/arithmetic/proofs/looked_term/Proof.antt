@@ -37,7 +37,7 @@ returns-2 : tie.Need-returns-2
 unfolding terms.item
 returns-2 c =
     let a = c .before .before .before .before .before .args in
-    subst (λ (x : dec.Unpacked). StandsFor (c .summand-term .result) (terms.itemOf (env.summandOf (a .u)) x)) (sym (ap unpackedOf (c .before .before .v .given .1)) ∙ c .before .before .before .before .operand .ensures .0) (c .summand-term .ensures)
+    subst (λ (x : dec.Unpacked). StandsFor (c .summand-term .result) (terms.itemOf (env.summandOf (a .u)) x)) (sym (ap unpackedOf (c .before .before .v .given .1)) ∙ c .before .before .before .before .operand .ensures .0) (c .summand-term .ensures .0)
 
 pub looked-term-spec : {M : Type 1} → statement M
 looked-term-spec =

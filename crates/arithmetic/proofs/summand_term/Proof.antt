@@ -1,5 +1,5 @@
 -- `arithmetic::summand_term` meets its contract.
-use mathlib.Core.Path.{sym, subst}
+use mathlib.Core.Path.{refl, sym, subst}
 use native.Mathlib.Omega.{arith}
 use Rattle.totals_spec.specs.Settings as env
 use Rattle.totals_spec.specs.Decode as dec
@@ -15,8 +15,10 @@ product-requires c κs = search needs
 
 returns : tie.Need-returns
 returns c =
-    let a = c .before .before .args in
-    subst (λ (s : env.Summand). StandsFor (c .product .result) (terms.itemOf s (dec.finite (a .negative) (a .k) (a .m)))) (sym (square-of (a .u) (c .before .if1 .taken))) (c .product .ensures)
+    let a = c .before .before .args in (
+      subst (λ (s : env.Summand). StandsFor (c .product .result) (terms.itemOf s (dec.finite (a .negative) (a .k) (a .m)))) (sym (square-of (a .u) (c .before .if1 .taken))) (c .product .ensures),
+      λ h. absurd (omega (arith, c .before .if1 .taken, h)),
+    )
 
 summand-sign-requires : tie.Need-summand-sign-requires
 summand-sign-requires c κs = search needs
@@ -27,7 +29,7 @@ add-t6 c = search needs
 returns-2 : tie.Need-returns-2
 returns-2 c =
     let a = c .before .before .args in
-    single-of (a .u) (a .negative) (c .summand-sign .result) (a .k) (a .m) (omega arith) (omega arith) (c .summand-sign .ensures)
+    (single-of (a .u) (a .negative) (c .summand-sign .result) (a .k) (a .m) (omega arith) (omega arith) (c .summand-sign .ensures), λ _. (refl, refl))
 
 pub summand-term-spec : {M : Type 1} → statement M
 summand-term-spec =

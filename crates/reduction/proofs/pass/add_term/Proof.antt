@@ -1,19 +1,15 @@
 -- `reduction::pass::add_term` meets its contract.
 use mathlib.Core.Path.{_≡_, sym, ap, _∙_}
 use Prim.Native.Nat.{ℕ, _+_, _*_, _^_, _≤_, max}
-use native.Mathlib.Nat.{max-zero}
 use native.Mathlib.Omega.{arith}
 use lib.Ieee.{size}
 use borrow.Author.Needs.{needs}
 use Rattle.limbs.specs.Value.{value, moved}
 use Rattle.arithmetic.specs.Joined.{magnitude}
 use Rattle.window.proofs.Parted.{above-part, above-lost, below-part, below-none, below-lost}
-use Rattle.reduction.proofs.Gather.{unmoved}
+use Rattle.reduction.proofs.Gather.{unmoved, nothing-lost}
 use Rattle.reduction.proofs.pass.add_term.Statement.{statement}
 use Rattle.reduction.proofs.pass.add_term.Tie as tie
-
-nothing-lost : (lost x : ℕ) → 0 ≡ x → lost ≡ max lost x
-nothing-lost lost x e = sym (max-zero lost) ∙ ap (max lost) e
 
 add-part-requires : tie.Need-add-part-requires
 add-part-requires c κs = search needs
