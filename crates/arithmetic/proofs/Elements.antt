@@ -3,8 +3,8 @@ use mathlib.Core.Path.{_≡_, refl, sym, ap, _∙_, subst}
 use mathlib.Core.Logic.{_⊎_, inl, inr}
 use mathlib.Core.Bool.{Bool, true, false, _&&_, cond, true≢false}
 use mathlib.Core.List.{[], _∷_}
-use Prim.Native.Nat.{ℕ, zero, suc, _+_, _-_, _*_, _/_, _^_, _≤_, _<_}
-use native.Mathlib.Nat.{mod-lt, lt-of-lt-of-le, zero-mul, zero-add, pow-suc}
+use Prim.Native.Nat.{ℕ, zero, suc, _+_, _-_, _*_, _/_, _^_, _≤_, _<_, max}
+use native.Mathlib.Nat.{mod-lt, lt-of-lt-of-le, zero-mul, zero-add, pow-suc, zero-max, max-zero, suc-max-suc}
 use native.Mathlib.Omega.{arith}
 use lib.Ieee.{size}
 use lib.Pow.{pow-pos, pow-mono}
@@ -26,7 +26,7 @@ use Rattle.format.specs.Joined.{unpackedOf}
 use Rattle.arithmetic.specs.declared.Term.{Term}
 use Rattle.arithmetic.specs.declared.Item.the-variants as item
 use Rattle.binary.specs.Joined.{Plain}
-use Rattle.arithmetic.specs.Joined.{magnitude, StandsFor, Bounded, itemOf, plainNumber, PlainTop}
+use Rattle.arithmetic.specs.Joined.{magnitude, StandsFor, Bounded, itemOf, plainNumber, aboveBase, fieldTop, fieldsTop, PlainField}
 
 -- ---- an operand: its exponent is below 2^28, its significand above 0
 
@@ -160,14 +160,43 @@ plain-size f x h =
     size-is (2 ^ spec.fractionBits f + dec.fractionOf f x) (spec.fractionBits f) (omega (arith, mod-lt x (pow-pos (spec.fractionBits f)), pow-suc 2 (spec.fractionBits f))) (omega arith)
     ∙ omega (arith, h .w-ge)
 
--- ---- the position of a normal number, by the summand
+-- ---- the position of a normal number, by its field
 
-module _ (f : spec.Format) (u x r : ℕ) (h : FormatBounds f) (p : Plain true f x) where
-  plain-top : item.Top r ≡ itemOf (terms.itemOf (env.summandOf u) (plainNumber f x)) → PlainTop r f (env.summandOf u) x
-  plain-top e z c = (p .1, plain-nan f x p, sym (e ∙ ap itemOf (plain-item f c (env.summandOf u) x p)))
+pub above-some : (base n : ℕ) → 0 < n → aboveBase base n ≡ n + base
+above-some base zero h = absurd (omega arith)
+above-some base (suc k) h = refl
 
-  pub plain-single : u < 2 → r ≡ dec.fieldOf f x - 1 + spec.digits f + 1023 → PlainTop r f (env.summandOf u) x
-  plain-single l e = plain-top (single-item u _ _ _ r l (omega (arith, plain-size f x h)))
+above-max : (base a b : ℕ) → aboveBase base (max a b) ≡ max (aboveBase base a) (aboveBase base b)
+above-max base zero b = simp zero-max
+above-max base (suc a) zero = simp max-zero
+above-max base (suc a) (suc b) = rw suc-max-suc (omega arith)
 
-  pub plain-square : 2 ≤ u → r ≡ dec.fieldOf f x - 1 + (dec.fieldOf f x - 1) + 2 * spec.digits f + 1023 → PlainTop r f (env.summandOf u) x
-  plain-square l e = plain-top (square-item u _ _ _ r l (omega (arith, plain-size f x h)))
+pub field-none : (f : spec.Format) (u : env.Summand) → fieldTop f u 0 ≡ 0
+field-none f env.value = refl
+field-none f env.magnitude = refl
+field-none f env.square = refl
+
+-- the greatest field has the greatest position
+pub fields-max : (f : spec.Format) (a b : ℕ) → fieldsTop f (max a b) ≡ max (fieldsTop f a) (fieldsTop f b)
+fields-max f a b = above-max (2 * spec.digits f + 1021) a b
+
+pub field-max : (f : spec.Format) (u : env.Summand) (a b : ℕ) → fieldTop f u (max a b) ≡ max (fieldTop f u a) (fieldTop f u b)
+field-max f env.value a b = above-max (spec.digits f + 1022) a b
+field-max f env.magnitude a b = above-max (spec.digits f + 1022) a b
+field-max f env.square a b = let e : max a b + max a b ≡ max (a + a) (b + b) = omega arith in rw e (fields-max f (a + a) (b + b))
+
+-- where the element is not squared
+pub single-top : (f : spec.Format) (u n : ℕ) → u < 2 → fieldTop f (env.summandOf u) n ≡ aboveBase (spec.digits f + 1022) n
+single-top f zero n h = refl
+single-top f (suc zero) n h = refl
+single-top f (suc (suc u)) n h = absurd (two-le u h)
+
+module _ (f : spec.Format) (x r : ℕ) (h : FormatBounds f) (p : Plain true f x) (e : r ≡ dec.fieldOf f x) where
+  position : (u : env.Summand) → 0 < r → itemOf (terms.itemOf u (plainNumber f x)) ≡ item.Top (fieldTop f u r)
+  unfolding terms.single terms.product
+  position env.value z = ap item.Top (omega (arith, plain-size f x h, above-some (spec.digits f + 1022) r z))
+  position env.magnitude z = ap item.Top (omega (arith, plain-size f x h, above-some (spec.digits f + 1022) r z))
+  position env.square z = ap item.Top (omega (arith, plain-size f x h, above-some (2 * spec.digits f + 1021) (r + r) (omega arith)))
+
+  pub plain-field : PlainField r f x
+  plain-field z u c = (p .1, plain-nan f x p, ap itemOf (sym (plain-item f c u x p)) ∙ position u z)

@@ -2,7 +2,7 @@
 use mathlib.Core.Path.{_≡_, refl, sym, ap, _∙_, subst}
 use mathlib.Core.Bool.{Bool, true, false, true≢false}
 use mathlib.Core.List.{List, [], _∷_}
-use Prim.Native.Nat.{ℕ, zero, suc, _+_, _-_, _*_, _<_}
+use Prim.Native.Nat.{ℕ, zero, suc, _+_, _*_, _<_}
 use native.Mathlib.Nat.{le-of-suc-le-suc, suc-inj, suc-ne-zero}
 use native.Mathlib.Omega.{arith}
 use lib.ListN.{length, getD}
@@ -15,8 +15,8 @@ use Rattle.totals_spec.specs.Bounds.{FormatBounds}
 use Rattle.binary.specs.Joined.{Plain}
 use Rattle.arithmetic.specs.declared.Term.{Term}
 use Rattle.arithmetic.specs.declared.Item.the-variants as item
-use Rattle.arithmetic.specs.Joined.{magnitude, StandsFor, BothPlain, itemOf, plainProduct, PlainPairTop}
-use Rattle.arithmetic.proofs.Elements.{plain-operand, plain-nan, plain-size}
+use Rattle.arithmetic.specs.Joined.{magnitude, StandsFor, BothPlain, itemOf, plainProduct, PlainFields}
+use Rattle.arithmetic.proofs.Elements.{plain-operand, plain-nan, plain-size, above-some}
 
 -- ---- pairs of two lists
 
@@ -42,12 +42,16 @@ pub plain-pair : (f : spec.Format) (c : env.Settings) (x y : ℕ) → BothPlain 
 unfolding terms.pairItem
 plain-pair f c x y h = sym (rw (plain-operand f x (h .0) c, plain-operand f y (h .1) c))
 
--- the position of a product of normal numbers
-pub plain-pair-top : (f : spec.Format) (x y r : ℕ) → FormatBounds f → BothPlain true f x y
-    → r ≡ dec.fieldOf f x - 1 + (dec.fieldOf f y - 1) + 2 * spec.digits f + 1023 → PlainPairTop r f x y
+-- the position of a product of normal numbers, by the sum of their fields
+pub plain-fields : (f : spec.Format) (x y r : ℕ) → FormatBounds f → BothPlain true f x y → r ≡ dec.fieldOf f x + dec.fieldOf f y → PlainFields r f x y
 unfolding terms.product
-plain-pair-top f x y r h p e z c =
-    (p .0 .1, p .1 .1, plain-nan f x (p .0), plain-nan f y (p .1), ap itemOf (sym (plain-pair f c x y p)) ∙ ap item.Top (omega (arith, plain-size f x h, plain-size f y h)))
+plain-fields f x y r h p e z c = (
+  p .0 .1,
+  p .1 .1,
+  plain-nan f x (p .0),
+  plain-nan f y (p .1),
+  ap itemOf (sym (plain-pair f c x y p)) ∙ ap item.Top (omega (arith, p .0 .2, p .1 .2, plain-size f x h, plain-size f y h, above-some (2 * spec.digits f + 1021) r z)),
+)
 
 -- ---- a pair of which one is no finite number is no term
 

@@ -1,7 +1,7 @@
 -- The code's terms and items as those of totals_spec.
 use mathlib.Core.Path.{_≡_}
 use mathlib.Core.Bool.{Bool, true, false}
-use Prim.Native.Nat.{ℕ, _+_, _-_, _*_, _^_, _<_}
+use Prim.Native.Nat.{ℕ, zero, suc, _+_, _-_, _*_, _^_, _<_}
 use Rattle.totals_spec.specs.Format as spec
 use Rattle.totals_spec.specs.Settings as env
 use Rattle.totals_spec.specs.Decode as dec
@@ -52,11 +52,30 @@ plainProduct f x y =
     terms.product (terms.unlike (dec.signBit f x) (dec.signBit f y)) (dec.fieldOf f x - 1) (2 ^ spec.fractionBits f + dec.fractionOf f x)
     (dec.fieldOf f y - 1) (2 ^ spec.fractionBits f + dec.fractionOf f y)
 
--- a position r above 0 says that the element (the pair) is a term there, neither subnormal nor a NaN; 0 says nothing
-abbrev pub PlainTop : ℕ → spec.Format → env.Summand → ℕ → Type 0
-PlainTop r f u b = 0 < r → (c : env.Settings) → (dec.isSubnormal f b ≡ false) × (dec.isNan (dec.decode f b) ≡ false) × (itemOf (terms.item f c u b) ≡ item.Top r)
+-- ---- the position that counts for T, by the exponent fields of normal numbers. The exponent is the field less 1, and the significand has p digits
 
-abbrev pub PlainPairTop : ℕ → spec.Format → ℕ → ℕ → Type 0
-PlainPairTop r f x y =
+-- n places above a base; 0 for the field 0, which no normal number has
+abbrev pub aboveBase : ℕ → ℕ → ℕ
+aboveBase base zero = 0
+aboveBase base (suc k) = suc k + base
+
+-- of a product, by the sum of the two fields
+abbrev pub fieldsTop : spec.Format → ℕ → ℕ
+fieldsTop f n = aboveBase (2 * spec.digits f + 1021) n
+
+-- of an element, by its field
+abbrev pub fieldTop : spec.Format → env.Summand → ℕ → ℕ
+fieldTop f env.value n = aboveBase (spec.digits f + 1022) n
+fieldTop f env.magnitude n = aboveBase (spec.digits f + 1022) n
+fieldTop f env.square n = fieldsTop f (n + n)
+
+-- r above 0 says that the element (the pair) is a term at the position of the field r, neither subnormal nor a NaN; 0 says nothing
+abbrev pub PlainField : ℕ → spec.Format → ℕ → Type 0
+PlainField r f b =
+    0 < r → (u : env.Summand) (c : env.Settings) → (dec.isSubnormal f b ≡ false) × (dec.isNan (dec.decode f b) ≡ false)
+    × (itemOf (terms.item f c u b) ≡ item.Top (fieldTop f u r))
+
+abbrev pub PlainFields : ℕ → spec.Format → ℕ → ℕ → Type 0
+PlainFields r f x y =
     0 < r → (c : env.Settings) → (dec.isSubnormal f x ≡ false) × (dec.isSubnormal f y ≡ false) × (dec.isNan (dec.decode f x) ≡ false) × (dec.isNan (dec.decode f y) ≡ false)
-    × (itemOf (terms.pairItem f c (x, y)) ≡ item.Top r)
+    × (itemOf (terms.pairItem f c (x, y)) ≡ item.Top (fieldsTop f r))

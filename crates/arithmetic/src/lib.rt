@@ -23,7 +23,7 @@ ghost use Rattle.totals_spec.specs.Terms as terms;
 ghost use Rattle.totals_spec.specs.Decode as dec;
 ghost use Rattle.totals_spec.specs.Totals as totals;
 ghost use Rattle.format.specs.Joined.{formatOf, settingsOf, unpackedOf};
-ghost use Rattle.arithmetic.specs.Joined.{itemOf, StandsFor, Bounded, PlainTop, PlainPairTop, plainNumber, plainProduct, BothPlain};
+ghost use Rattle.arithmetic.specs.Joined.{itemOf, StandsFor, Bounded, plainNumber, plainProduct, BothPlain, PlainField, PlainFields, fieldTop, fieldsTop};
 
 // (high * 2^64 + low) * 2^shift units; low and high are 0 for what is no term.
 pub struct Term {
@@ -206,31 +206,51 @@ fn top_of_product(k: u64, m: u64, j: u64, n: u64) -> u64
     k + j + (word::bit_length(m) as u64) + (word::bit_length(n) as u64) + 1023
 }
 
-// The position that counts for T where the element is plainly a normal number, and 0 where it takes a closer look.
-pub fn plain_top(f: Format, u: u64, b: u64) -> u64
+// The exponent field of an element that is plainly a normal number, and 0 for one that takes a closer look.
+pub fn plain_field(f: Format, b: u64) -> u64
     requires { ⌜ FormatBounds (formatOf f) ⌝ }
-    ensures { λ r. ⌜ PlainTop r (formatOf f) (env.summandOf u) b ⌝ }
+    ensures { λ r. ⌜ (r < 268435456) × PlainField r (formatOf f) b ⌝ }
 {
     if !is_plain(f, b) {
         return 0;
     }
-    let k = field_of(f, b) - 1;
-    if u >= 2 {
-        k + k + 2 * digits(f) + 1023
-    } else {
-        k + digits(f) + 1023
-    }
+    field_of(f, b)
 }
 
-// The same of a pair.
-pub fn plain_pair_top(f: Format, x: u64, y: u64) -> u64
+// The same of a pair: the sum of the two fields.
+pub fn plain_fields(f: Format, x: u64, y: u64) -> u64
     requires { ⌜ FormatBounds (formatOf f) ⌝ }
-    ensures { λ r. ⌜ PlainPairTop r (formatOf f) x y ⌝ }
+    ensures { λ r. ⌜ (r < 536870912) × PlainFields r (formatOf f) x y ⌝ }
 {
     if !both_plain(f, x, y) {
         return 0;
     }
-    (field_of(f, x) - 1) + (field_of(f, y) - 1) + 2 * digits(f) + 1023
+    field_of(f, x) + field_of(f, y)
+}
+
+// The position that counts for T of plainly normal pairs, from the greatest sum of fields; 0 where there are none.
+pub fn plain_pair_top(f: Format, fields: u64) -> u64
+    requires { ⌜ FormatBounds (formatOf f) × (fields < 536870912) ⌝ }
+    ensures { λ r. ⌜ r ≡ fieldsTop (formatOf f) fields ⌝ }
+{
+    if fields == 0 {
+        return 0;
+    }
+    fields + 2 * digits(f) + 1021
+}
+
+// The same of elements, from the greatest field, by the summand: a square is a pair of an element with itself.
+pub fn plain_top(f: Format, u: u64, field: u64) -> u64
+    requires { ⌜ FormatBounds (formatOf f) × (field < 268435456) ⌝ }
+    ensures { λ r. ⌜ r ≡ fieldTop (formatOf f) (env.summandOf u) field ⌝ }
+{
+    if u >= 2 {
+        return plain_pair_top(f, field + field);
+    }
+    if field == 0 {
+        return 0;
+    }
+    field + digits(f) + 1022
 }
 
 // What an operand is in a sum, by the summand.

@@ -17,7 +17,8 @@ use Rattle.totals_spec.proofs.Good.{AllGood, good-terms, good-pairs}
 use Rattle.totals_spec.proofs.Tops.{top-high}
 use Rattle.totals_spec.proofs.Order.{item-nan, pair-nan, pairs-length}
 use Rattle.binary.specs.Joined.{nanOf}
-use Rattle.arithmetic.specs.Joined.{itemOf, PlainTop, PlainPairTop}
+use Rattle.arithmetic.specs.Joined.{itemOf, PlainField, PlainFields, fieldTop, fieldsTop}
+use Rattle.arithmetic.proofs.Elements.{field-none, field-max, fields-max}
 use Rattle.arithmetic.proofs.Pairs.{pairs-at}
 use Rattle.scan.specs.declared.Scan.{Scan}
 use Rattle.scan.specs.Joined.{topOfItem, taken, raised, seen, ifNan, Reads, ScannedPairs, Takes, TakesPair}
@@ -75,6 +76,9 @@ module _ (f : spec.Format) (c : env.Settings) (u : env.Summand) where
     signaling = λ b. dec.isSignaling (dec.decode f b);
     operands = λ b. dec.decode f b ∷ [];
     item = terms.item f c u;
+    position = fieldTop f u;
+    position-none = field-none f u;
+    position-max = field-max f u;
     all = map (dec.decode f);
     all-more = λ l b. map-append (dec.decode f) l (b ∷ []);
     adds = λ b. record {
@@ -90,10 +94,10 @@ module _ (f : spec.Format) (c : env.Settings) (u : env.Summand) where
       let k = reads-as (c .nanPropagation) (dec.isSubnormal f b) (dec.operand f c b) (dec.decode f b) s t (operand-held f c b) h in
       over-taken f c list l b s r (t .nan) (e ∙ ap (taken (itemOf (terms.item f c u b))) (k .rest)) (k .nan) apart
 
-  -- what `plain_top` says
-  pub list-plainly : (b p : ℕ) → 0 < p → PlainTop p f u b → Plainly f c list b p
-  list-plainly b p z h =
-      let a = h z c in
+  -- what `plain_field` says
+  pub list-plainly : (b n : ℕ) → 0 < n → PlainField n f b → Plainly f c list b n
+  list-plainly b n z h =
+      let a = h z u c in
       record { subnormal = a .0; signaling = none-signaling (dec.decode f b) (a .1); nan = or-false (dec.isNan (dec.decode f b)) ∙ a .1; item = a .2 }
 
 -- ---- the pairs of a dot
@@ -112,6 +116,9 @@ module _ (f : spec.Format) (c : env.Settings) where
     signaling = λ x. dec.isSignaling (dec.decode f (x .0)) || dec.isSignaling (dec.decode f (x .1));
     operands = λ x. dec.decode f (x .0) ∷ dec.decode f (x .1) ∷ [];
     item = terms.pairItem f c;
+    position = fieldsTop f;
+    position-none = refl;
+    position-max = fields-max f;
     all = totals.operands f;
     all-more = operands-more f;
     adds = λ x. record {
@@ -131,9 +138,9 @@ module _ (f : spec.Format) (c : env.Settings) where
       (e ∙ ap (taken (itemOf (terms.pairItem f c (x, y)))) (twice-rest (c .nanPropagation) (dec.isSubnormal f x) (dec.isSubnormal f y) (dec.decode f x) (dec.decode f y) s t q a b))
       (twice-nan (c .nanPropagation) (dec.isSubnormal f x) (dec.isSubnormal f y) (dec.decode f x) (dec.decode f y) s t q a b) apart
 
-  -- what `plain_pair_top` says
-  pub pair-plainly : (x y p : ℕ) → 0 < p → PlainPairTop p f x y → Plainly f c dot (x, y) p
-  pair-plainly x y p z h =
+  -- what `plain_fields` says
+  pub pair-plainly : (x y n : ℕ) → 0 < n → PlainFields n f x y → Plainly f c dot (x, y) n
+  pair-plainly x y n z h =
       let a = h z c in
       record {
         subnormal = neither (dec.isSubnormal f x) (dec.isSubnormal f y) (a .0) (a .1);
@@ -144,20 +151,21 @@ module _ (f : spec.Format) (c : env.Settings) where
 
   -- ---- the walk over two lists of one length: its invariant is about their pairs
 
-  module _ (xs ys : List ℕ) (n : length ys ≡ length xs) where
-    pub pairs-done : (i : ℕ) (s r : Scan) (t : ℕ) → i ≡ length xs → r ≡ raised t s → ScannedPairs f c (take i (totals.pairs xs ys)) (raised t s) → ScannedPairs f c (totals.pairs xs ys) r
-    pairs-done i s r t e = walk-done f c dot (totals.pairs xs ys) i s r t (e ∙ sym (pairs-length xs ys (sym n)))
+  module _ (xs ys : List ℕ) (j : length ys ≡ length xs) where
+    pub pairs-done : (i : ℕ) (s r : Scan) (m t : ℕ) → i ≡ length xs → r ≡ raised t s → t ≡ fieldsTop f m → ScannedPairs f c (take i (totals.pairs xs ys)) (raised (fieldsTop f m) s)
+        → ScannedPairs f c (totals.pairs xs ys) r
+    pairs-done i s r m t e = walk-done f c dot (totals.pairs xs ys) i s r m t (e ∙ sym (pairs-length xs ys (sym j)))
 
     -- a turn, at the elements x and y of index i
-    module _ (i x y : ℕ) (s : Scan) (t : ℕ) (h : i < length xs) (d : x ≡ getD xs i 0) (e : y ≡ getD ys i 0) (g : ScannedPairs f c (take i (totals.pairs xs ys)) (raised t s)) where
+    module _ (i x y : ℕ) (s : Scan) (m : ℕ) (h : i < length xs) (d : x ≡ getD xs i 0) (e : y ≡ getD ys i 0) (g : ScannedPairs f c (take i (totals.pairs xs ys)) (raised (fieldsTop f m) s)) where
       inside : i < length (totals.pairs xs ys)
-      inside = rw (pairs-length xs ys (sym n)) h
+      inside = rw (pairs-length xs ys (sym j)) h
 
       here : (x, y) ≡ getD (totals.pairs xs ys) i (0, 0)
-      here = ap₂ (λ a b. (a, b)) d e ∙ sym (pairs-at xs ys i n h)
+      here = ap₂ (λ a b. (a, b)) d e ∙ sym (pairs-at xs ys i j h)
 
-      pub pairs-taken : (r : Scan) → TakesPair f c (x, y) s r → ScannedPairs f c (take (i + 1) (totals.pairs xs ys)) (raised t r)
-      pairs-taken = walk-taken f c dot (totals.pairs xs ys) i (0, 0) (x, y) s t inside here g
+      pub pairs-taken : (r : Scan) → TakesPair f c (x, y) s r → ScannedPairs f c (take (i + 1) (totals.pairs xs ys)) (raised (fieldsTop f m) r)
+      pairs-taken = walk-taken f c dot (totals.pairs xs ys) i (0, 0) (x, y) s m inside here g
 
-      pub pairs-plain : (p t′ : ℕ) → 0 < p → PlainPairTop p f x y → t′ ≡ max t p → ScannedPairs f c (take (i + 1) (totals.pairs xs ys)) (raised t′ s)
-      pairs-plain p t′ z a = walk-plain f c dot (totals.pairs xs ys) i (0, 0) (x, y) s t inside here g p t′ (pair-plainly x y p z a)
+      pub pairs-plain : (n m′ : ℕ) → 0 < n → PlainFields n f x y → m′ ≡ max m n → ScannedPairs f c (take (i + 1) (totals.pairs xs ys)) (raised (fieldsTop f m′) s)
+      pairs-plain n m′ z a = walk-plain f c dot (totals.pairs xs ys) i (0, 0) (x, y) s m inside here g n m′ (pair-plainly x y n z a)

@@ -142,12 +142,15 @@ raised-more t p s = λ j. record {
 
 -- ---- a list of elements
 
--- how a list is read: the flags, the operands and the item of each element
+-- how a list is read: the flags, the operands and the item of each element, and the position of a plainly normal one by its field
 pub record Reading (f : spec.Format) (A : Type 0) : Type 0 where
   pub subnormal : A → Bool
   pub signaling : A → Bool
   pub operands : A → List dec.Unpacked
   pub item : A → terms.Item
+  pub position : ℕ → ℕ
+  pub position-none : position 0 ≡ 0
+  pub position-max : (m n : ℕ) → position (max m n) ≡ max (position m) (position n)
   pub all : List A → List dec.Unpacked
   pub all-more : (l : List A) (x : A) → all (l ++ (x ∷ [])) ≡ all l ++ operands x
   pub adds : (x : A) → Adds f (operands x) (item x)
@@ -168,33 +171,34 @@ module _ {A : Type 0} (f : spec.Format) (c : env.Settings) (q : Reading f A) whe
   over-taken l x s r n e h t g =
       subst (Over (l ++ (x ∷ []))) (sym (ap (raised t) e ∙ taken-raised (itemOf (q .item x)) t (seen (q .subnormal x) (q .signaling x) n s))) (more l x (raised t s) n g h)
 
-  -- an element that is plainly normal, with its position p
-  pub record Plainly (x : A) (p : ℕ) : Type 0 where
+  -- an element that is plainly normal, with its field n
+  pub record Plainly (x : A) (n : ℕ) : Type 0 where
     pub subnormal : q .subnormal x ≡ false
     pub signaling : q .signaling x ≡ false
     pub nan : any dec.isNan (q .operands x) ≡ false
-    pub item : itemOf (q .item x) ≡ item.Top p
+    pub item : itemOf (q .item x) ≡ item.Top (q .position n)
 
-  over-plain : (l : List A) (x : A) (p : ℕ) (s : Scan) (t : ℕ) → Plainly x p → Over l (raised t s) → Over (l ++ (x ∷ [])) (raised (max t p) s)
-  over-plain l x p s t h g =
-      subst (Over (l ++ (x ∷ []))) (sym (raised-more t p s ∙ rw (h .subnormal, h .signaling, h .item)))
-      (more l x (raised t s) (s .nan) g (sym (chosen-none (ruleOf c) (nanOf (s .nan)) (q .operands x) (h .nan) ∙ held-if (s .nan))))
+  over-plain : (l : List A) (x : A) (m n : ℕ) (s : Scan) → Plainly x n → Over l (raised (q .position m) s) → Over (l ++ (x ∷ [])) (raised (q .position (max m n)) s)
+  over-plain l x m n s h g =
+      subst (Over (l ++ (x ∷ [])))
+      (sym (ap (λ (t : ℕ). raised t s) (q .position-max m n) ∙ raised-more (q .position m) (q .position n) s ∙ rw (h .subnormal, h .signaling, h .item)))
+      (more l x (raised (q .position m) s) (s .nan) g (sym (chosen-none (ruleOf c) (nanOf (s .nan)) (q .operands x) (h .nan) ∙ held-if (s .nan))))
 
-  -- ---- a walk: the scan s and the position t kept apart are, together, the scan of the first i elements
+  -- ---- a walk: the scan s and the position of the field m kept apart are, together, the scan of the first i elements
 
-  pub walk-start : (l : List A) (s : Scan) → Over [] s → Over (take 0 l) (raised 0 s)
-  walk-start l s = subst (Over []) (raised-none s)
+  pub walk-start : (l : List A) (s : Scan) → Over [] s → Over (take 0 l) (raised (q .position 0) s)
+  walk-start l s g = rw (q .position-none) (subst (Over []) (raised-none s) g)
 
-  pub walk-done : (l : List A) (i : ℕ) (s r : Scan) (t : ℕ) → i ≡ length l → r ≡ raised t s → Over (take i l) (raised t s) → Over l r
-  walk-done l i s r t e h g = rw h (subst (λ k. Over k (raised t s)) (ap (λ (n : ℕ). take n l) e ∙ take-length l) g)
+  pub walk-done : (l : List A) (i : ℕ) (s r : Scan) (m t : ℕ) → i ≡ length l → r ≡ raised t s → t ≡ q .position m → Over (take i l) (raised (q .position m) s) → Over l r
+  walk-done l i s r m t e h k g = rw (h, k) (subst (λ y. Over y (raised (q .position m) s)) (ap (λ (n : ℕ). take n l) e ∙ take-length l) g)
 
   -- a turn, at the element x of index i
-  module _ (l : List A) (i : ℕ) (d x : A) (s : Scan) (t : ℕ) (h : i < length l) (e : x ≡ getD l i d) (g : Over (take i l) (raised t s)) where
+  module _ (l : List A) (i : ℕ) (d x : A) (s : Scan) (m : ℕ) (h : i < length l) (e : x ≡ getD l i d) (g : Over (take i l) (raised (q .position m) s)) where
     next : (r : Scan) → Over (take i l ++ (x ∷ [])) r → Over (take (i + 1) l) r
     next r = subst (λ k. Over k r) (ap (λ y. take i l ++ (y ∷ [])) e ∙ sym (take-suc l i d h) ∙ ap (λ (n : ℕ). take n l) (sym (add-one i)))
 
-    pub walk-taken : (r : Scan) → ((k : List A) (t : ℕ) → Over k (raised t s) → Over (k ++ (x ∷ [])) (raised t r)) → Over (take (i + 1) l) (raised t r)
-    walk-taken r m = next (raised t r) (m (take i l) t g)
+    pub walk-taken : (r : Scan) → ((k : List A) (t : ℕ) → Over k (raised t s) → Over (k ++ (x ∷ [])) (raised t r)) → Over (take (i + 1) l) (raised (q .position m) r)
+    walk-taken r a = next (raised (q .position m) r) (a (take i l) (q .position m) g)
 
-    pub walk-plain : (p t′ : ℕ) → Plainly x p → t′ ≡ max t p → Over (take (i + 1) l) (raised t′ s)
-    walk-plain p t′ a m = next (raised t′ s) (subst (λ (y : ℕ). Over (take i l ++ (x ∷ [])) (raised y s)) (sym m) (over-plain (take i l) x p s t a g))
+    pub walk-plain : (n m′ : ℕ) → Plainly x n → m′ ≡ max m n → Over (take (i + 1) l) (raised (q .position m′) s)
+    walk-plain n m′ a b = rw b (next (raised (q .position (max m n)) s) (over-plain (take i l) x m n s a g))

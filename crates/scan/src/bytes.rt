@@ -2,6 +2,8 @@
 use crate::Scan;
 use crate::take;
 use crate::take_pair;
+use arithmetic::plain_field;
+use arithmetic::plain_fields;
 use arithmetic::plain_pair_top;
 use arithmetic::plain_top;
 use format::Format;
@@ -22,20 +24,20 @@ pub fn scan_list(f: Format, c: Settings, u: u64, values: &[u8]) -> Scan
     ensures { λ r. ⌜ Scanned (formatOf f) (settingsOf c) (env.summandOf u) (bytes.valuesIn (now (values .entry))) r ⌝ }
 {
     let mut s = Scan::new();
-    let mut top: u64 = 0;
+    let mut greatest: u64 = 0;
     let n = values.len() / 8;
     let mut i: usize = 0;
     while i < n {
         let x = word_at(values, i);
         i += 1;
-        let at = plain_top(f, u, x);
-        if at == 0 {
+        let field = plain_field(f, x);
+        if field == 0 {
             s = take(f, c, u, s, x);
-        } else if top < at {
-            top = at;
+        } else if greatest < field {
+            greatest = field;
         }
     }
-    s.noted_top(top)
+    s.noted_top(plain_top(f, u, greatest))
 }
 
 pub fn scan_pairs(f: Format, c: Settings, left: &[u8], right: &[u8]) -> Scan
@@ -44,19 +46,19 @@ pub fn scan_pairs(f: Format, c: Settings, left: &[u8], right: &[u8]) -> Scan
     ensures { λ r. ⌜ ScannedPairs (formatOf f) (settingsOf c) (totals.pairs (bytes.valuesIn (now (left .entry))) (bytes.valuesIn (now (right .entry)))) r ⌝ }
 {
     let mut s = Scan::new();
-    let mut top: u64 = 0;
+    let mut greatest: u64 = 0;
     let n = left.len() / 8;
     let mut i: usize = 0;
     while i < n {
         let x = word_at(left, i);
         let y = word_at(right, i);
         i += 1;
-        let at = plain_pair_top(f, x, y);
-        if at == 0 {
+        let fields = plain_fields(f, x, y);
+        if fields == 0 {
             s = take_pair(f, c, s, x, y);
-        } else if top < at {
-            top = at;
+        } else if greatest < fields {
+            greatest = fields;
         }
     }
-    s.noted_top(top)
+    s.noted_top(plain_pair_top(f, greatest))
 }

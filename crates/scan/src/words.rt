@@ -1,7 +1,9 @@
-// The scan of lent lists. A plainly normal element only raises a position that is kept apart from the scan.
+// The scan of lent lists. Of plainly normal elements only the greatest exponent field counts: it is kept apart from the scan, and gives a position at the end.
 use crate::Scan;
 use crate::take;
 use crate::take_pair;
+use arithmetic::plain_field;
+use arithmetic::plain_fields;
 use arithmetic::plain_pair_top;
 use arithmetic::plain_top;
 use format::Format;
@@ -19,19 +21,19 @@ pub fn scan_list(f: Format, c: Settings, u: u64, values: &[u64]) -> Scan
     ensures { λ r. ⌜ Scanned (formatOf f) (settingsOf c) (env.summandOf u) (now (values .entry)) r ⌝ }
 {
     let mut s = Scan::new();
-    let mut top: u64 = 0;
+    let mut greatest: u64 = 0;
     let mut i: usize = 0;
     while i < values.len() {
         let x = values[i];
         i += 1;
-        let at = plain_top(f, u, x);
-        if at == 0 {
+        let field = plain_field(f, x);
+        if field == 0 {
             s = take(f, c, u, s, x);
-        } else if top < at {
-            top = at;
+        } else if greatest < field {
+            greatest = field;
         }
     }
-    s.noted_top(top)
+    s.noted_top(plain_top(f, u, greatest))
 }
 
 pub fn scan_pairs(f: Format, c: Settings, left: &[u64], right: &[u64]) -> Scan
@@ -40,18 +42,18 @@ pub fn scan_pairs(f: Format, c: Settings, left: &[u64], right: &[u64]) -> Scan
     ensures { λ r. ⌜ ScannedPairs (formatOf f) (settingsOf c) (totals.pairs (now (left .entry)) (now (right .entry))) r ⌝ }
 {
     let mut s = Scan::new();
-    let mut top: u64 = 0;
+    let mut greatest: u64 = 0;
     let mut i: usize = 0;
     while i < left.len() {
         let x = left[i];
         let y = right[i];
         i += 1;
-        let at = plain_pair_top(f, x, y);
-        if at == 0 {
+        let fields = plain_fields(f, x, y);
+        if fields == 0 {
             s = take_pair(f, c, s, x, y);
-        } else if top < at {
-            top = at;
+        } else if greatest < fields {
+            greatest = fields;
         }
     }
-    s.noted_top(top)
+    s.noted_top(plain_pair_top(f, greatest))
 }

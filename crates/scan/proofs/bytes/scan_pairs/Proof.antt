@@ -1,4 +1,4 @@
--- `scan::bytes::scan_pairs` meets its contract. The invariant: the scan, raised to the position kept apart, is that of the first i pairs.
+-- `scan::bytes::scan_pairs` meets its contract. The invariant: the scan, raised to the position of the fields kept apart, is that of the first i pairs.
 use mathlib.Core.Path.{_≡_, sym, _∙_}
 use Prim.Native.Nat.{_≤_, _-_, _/_, _<_, max}
 use native.Mathlib.Numerals.{add-one-le}
@@ -9,6 +9,7 @@ use Rattle.totals_spec.specs.Totals.{pairs}
 use Rattle.totals_spec.specs.Bytes.{valuesIn}
 use Rattle.totals_spec.proofs.Values.{values-length}
 use Rattle.format.specs.Joined.{formatOf, settingsOf}
+use Rattle.arithmetic.specs.Joined.{fieldsTop}
 use Rattle.scan.specs.Joined.{raised, ScannedPairs}
 use Rattle.scan.proofs.Step.{walk-start}
 use Rattle.scan.proofs.Lists.{dot, pairs-taken, pairs-plain, pairs-done}
@@ -16,10 +17,10 @@ use Rattle.scan.proofs.bytes.scan_pairs.Statement.{statement}
 use Rattle.scan.proofs.bytes.scan_pairs.Tie as tie
 
 abbrev Inv-loop : tie.InvT-loop
-Inv-loop f c left right s₀ top₀ n i₀ s top i = (i ≤ n) × (n ≡ length left / 8) × ScannedPairs (formatOf f) (settingsOf c) (take i (pairs (valuesIn left) (valuesIn right))) (raised top s)
+Inv-loop f c left right s₀ greatest₀ n i₀ s greatest i = (i ≤ n) × (n ≡ length left / 8) × (greatest < 536870912) × ScannedPairs (formatOf f) (settingsOf c) (take i (pairs (valuesIn left) (valuesIn right))) (raised (fieldsTop (formatOf f) greatest) s)
 
 abbrev μ-loop : tie.MeasureT-loop
-μ-loop f c left right s₀ top₀ n i₀ s top i = n - i
+μ-loop f c left right s₀ greatest₀ n i₀ s greatest i = n - i
 
 new-requires : tie.Need-new-requires Inv-loop μ-loop
 new-requires c κs = search needs
@@ -27,7 +28,7 @@ new-requires c κs = search needs
 loop-holds : tie.Need-loop-holds Inv-loop μ-loop
 loop-holds c =
     let a = c .before .before .before .args in
-    (search needs, search needs, walk-start (formatOf (a .f)) (settingsOf (a .c)) (dot (formatOf (a .f)) (settingsOf (a .c))) (pairs (valuesIn (a .left .now)) (valuesIn (a .right .now))) (c .new .result) (c .new .ensures .1 (formatOf (a .f)) (settingsOf (a .c))))
+    (search needs, search needs, search needs, walk-start (formatOf (a .f)) (settingsOf (a .c)) (dot (formatOf (a .f)) (settingsOf (a .c))) (pairs (valuesIn (a .left .now)) (valuesIn (a .right .now))) (c .new .result) (c .new .ensures .1 (formatOf (a .f)) (settingsOf (a .c))))
 
 word-at-requires : tie.Need-word-at-requires Inv-loop μ-loop
 word-at-requires c κs = search needs
@@ -38,8 +39,8 @@ word-at-requires-2 c κs = omega (arith, c .before .before .loop .inv .1, c .bef
 add-i : tie.Need-add-i Inv-loop μ-loop
 add-i c = search needs
 
-plain-pair-top-requires : tie.Need-plain-pair-top-requires Inv-loop μ-loop
-plain-pair-top-requires c κs = search needs
+plain-fields-requires : tie.Need-plain-fields-requires Inv-loop μ-loop
+plain-fields-requires c κs = search needs
 
 take-pair-requires : tie.Need-take-pair-requires Inv-loop μ-loop
 take-pair-requires c κs = search needs
@@ -52,7 +53,7 @@ loop-again c =
     let a = c .before .before .before .before .before .before .before .before .before .before .args in
     let p = c .before .before .before .before .before .before .loop in
     let h = c .before .before .before .before .before .loop-test .taken in
-    (add-one-le h, p .inv .1, pairs-taken (formatOf (a .f)) (settingsOf (a .c)) (valuesIn (a .left .now)) (valuesIn (a .right .now)) (values-length (a .right .now) ∙ c .before .before .before .before .before .before .before .before .before .before .pre .1 ∙ sym (values-length (a .left .now))) (p .i) _ _ (p .s) (p .top) (omega (arith, values-length (a .left .now), p .inv .1)) (c .before .before .before .before .word-at .ensures) (c .before .before .before .word-at2 .ensures) (p .inv .2) (c .take-pair .result) (c .take-pair .ensures))
+    (add-one-le h, p .inv .1, p .inv .2, pairs-taken (formatOf (a .f)) (settingsOf (a .c)) (valuesIn (a .left .now)) (valuesIn (a .right .now)) (values-length (a .right .now) ∙ c .before .before .before .before .before .before .before .before .before .before .pre .1 ∙ sym (values-length (a .left .now))) (p .i) _ _ (p .s) (p .greatest) (omega (arith, values-length (a .left .now), p .inv .1)) (c .before .before .before .before .word-at .ensures) (c .before .before .before .word-at2 .ensures) (p .inv .3) (c .take-pair .result) (c .take-pair .ensures))
 
 loop-less-2 : tie.Need-loop-less-2 Inv-loop μ-loop
 loop-less-2 c = search needs
@@ -62,10 +63,10 @@ loop-again-2 c =
     let a = c .before .before .before .before .before .before .before .before .before .before .args in
     let p = c .before .before .before .before .before .before .loop in
     let h = c .before .before .before .before .before .loop-test .taken in
-    let at = c .before .before .plain-pair-top .result in
-    let z : 0 < at = omega arith in
-    let m : at ≡ max (p .top) at = omega arith in
-    (add-one-le h, p .inv .1, pairs-plain (formatOf (a .f)) (settingsOf (a .c)) (valuesIn (a .left .now)) (valuesIn (a .right .now)) (values-length (a .right .now) ∙ c .before .before .before .before .before .before .before .before .before .before .pre .1 ∙ sym (values-length (a .left .now))) (p .i) _ _ (p .s) (p .top) (omega (arith, values-length (a .left .now), p .inv .1)) (c .before .before .before .before .word-at .ensures) (c .before .before .before .word-at2 .ensures) (p .inv .2) at at z (c .before .before .plain-pair-top .ensures) m)
+    let fields = c .before .before .plain-fields .result in
+    let z : 0 < fields = omega arith in
+    let m : fields ≡ max (p .greatest) fields = omega arith in
+    (add-one-le h, p .inv .1, c .before .before .plain-fields .ensures .0, pairs-plain (formatOf (a .f)) (settingsOf (a .c)) (valuesIn (a .left .now)) (valuesIn (a .right .now)) (values-length (a .right .now) ∙ c .before .before .before .before .before .before .before .before .before .before .pre .1 ∙ sym (values-length (a .left .now))) (p .i) _ _ (p .s) (p .greatest) (omega (arith, values-length (a .left .now), p .inv .1)) (c .before .before .before .before .word-at .ensures) (c .before .before .before .word-at2 .ensures) (p .inv .3) fields fields z (c .before .before .plain-fields .ensures .1) m)
 
 loop-less-3 : tie.Need-loop-less-3 Inv-loop μ-loop
 loop-less-3 c = search needs
@@ -75,19 +76,22 @@ loop-again-3 c =
     let a = c .before .before .before .before .before .before .before .before .before .before .args in
     let p = c .before .before .before .before .before .before .loop in
     let h = c .before .before .before .before .before .loop-test .taken in
-    let at = c .before .before .plain-pair-top .result in
-    let z : 0 < at = omega arith in
-    let m : p .top ≡ max (p .top) at = omega arith in
-    (add-one-le h, p .inv .1, pairs-plain (formatOf (a .f)) (settingsOf (a .c)) (valuesIn (a .left .now)) (valuesIn (a .right .now)) (values-length (a .right .now) ∙ c .before .before .before .before .before .before .before .before .before .before .pre .1 ∙ sym (values-length (a .left .now))) (p .i) _ _ (p .s) (p .top) (omega (arith, values-length (a .left .now), p .inv .1)) (c .before .before .before .before .word-at .ensures) (c .before .before .before .word-at2 .ensures) (p .inv .2) at (p .top) z (c .before .before .plain-pair-top .ensures) m)
+    let fields = c .before .before .plain-fields .result in
+    let z : 0 < fields = omega arith in
+    let m : p .greatest ≡ max (p .greatest) fields = omega arith in
+    (add-one-le h, p .inv .1, p .inv .2, pairs-plain (formatOf (a .f)) (settingsOf (a .c)) (valuesIn (a .left .now)) (valuesIn (a .right .now)) (values-length (a .right .now) ∙ c .before .before .before .before .before .before .before .before .before .before .pre .1 ∙ sym (values-length (a .left .now))) (p .i) _ _ (p .s) (p .greatest) (omega (arith, values-length (a .left .now), p .inv .1)) (c .before .before .before .before .word-at .ensures) (c .before .before .before .word-at2 .ensures) (p .inv .3) fields (p .greatest) z (c .before .before .plain-fields .ensures .1) m)
+
+plain-pair-top-requires : tie.Need-plain-pair-top-requires Inv-loop μ-loop
+plain-pair-top-requires c κs = search needs
 
 noted-top-requires : tie.Need-noted-top-requires Inv-loop μ-loop
 noted-top-requires c κs = search needs
 
 returns : tie.Need-returns Inv-loop μ-loop
 returns c =
-    let a = c .before .before .before .before .before .before .args in
-    let p = c .before .before .loop in
-    pairs-done (formatOf (a .f)) (settingsOf (a .c)) (valuesIn (a .left .now)) (valuesIn (a .right .now)) (values-length (a .right .now) ∙ c .before .before .before .before .before .before .pre .1 ∙ sym (values-length (a .left .now))) (p .i) (p .s) (c .noted-top .result) (p .top) (omega (arith, values-length (a .left .now), p .inv .1)) (c .noted-top .ensures) (p .inv .2)
+    let a = c .before .before .before .before .before .before .before .args in
+    let p = c .before .before .before .loop in
+    pairs-done (formatOf (a .f)) (settingsOf (a .c)) (valuesIn (a .left .now)) (valuesIn (a .right .now)) (values-length (a .right .now) ∙ c .before .before .before .before .before .before .before .pre .1 ∙ sym (values-length (a .left .now))) (p .i) (p .s) (c .noted-top .result) (p .greatest) _ (omega (arith, values-length (a .left .now), p .inv .1)) (c .noted-top .ensures) (c .before .plain-pair-top .ensures) (p .inv .3)
 
 pub scan-pairs-spec : {M : Type 1} → statement M
 scan-pairs-spec =
@@ -100,7 +104,7 @@ scan-pairs-spec =
     word-at-requires
     word-at-requires-2
     add-i
-    plain-pair-top-requires
+    plain-fields-requires
     take-pair-requires
     loop-less
     loop-again
@@ -108,5 +112,6 @@ scan-pairs-spec =
     loop-again-2
     loop-less-3
     loop-again-3
+    plain-pair-top-requires
     noted-top-requires
     returns)

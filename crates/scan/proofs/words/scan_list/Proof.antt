@@ -1,4 +1,4 @@
--- `scan::words::scan_list` meets its contract. The invariant: the scan, raised to the position kept apart, is that of the first i elements.
+-- `scan::words::scan_list` meets its contract. The invariant: the scan, raised to the position of the field kept apart, is that of the first i elements.
 use mathlib.Core.Path.{_≡_, refl}
 use Prim.Native.Nat.{_≤_, _-_, _<_, max}
 use native.Mathlib.Numerals.{add-one-le}
@@ -7,6 +7,7 @@ use borrow.Author.Needs.{needs}
 use lib.ListN.{length, take, getD}
 use Rattle.totals_spec.specs.Settings.{summandOf}
 use Rattle.format.specs.Joined.{formatOf, settingsOf}
+use Rattle.arithmetic.specs.Joined.{fieldTop}
 use Rattle.scan.specs.Joined.{raised, Scanned}
 use Rattle.scan.proofs.Step.{walk-start, walk-taken, walk-plain, walk-done}
 use Rattle.scan.proofs.Lists.{list, list-plainly}
@@ -14,10 +15,10 @@ use Rattle.scan.proofs.words.scan_list.Statement.{statement}
 use Rattle.scan.proofs.words.scan_list.Tie as tie
 
 abbrev Inv-loop : tie.InvT-loop
-Inv-loop f c u values s₀ top₀ i₀ s top i = (i ≤ length values) × Scanned (formatOf f) (settingsOf c) (summandOf u) (take i values) (raised top s)
+Inv-loop f c u values s₀ greatest₀ i₀ s greatest i = (i ≤ length values) × (greatest < 268435456) × Scanned (formatOf f) (settingsOf c) (summandOf u) (take i values) (raised (fieldTop (formatOf f) (summandOf u) greatest) s)
 
 abbrev μ-loop : tie.MeasureT-loop
-μ-loop f c u values s₀ top₀ i₀ s top i = length values - i
+μ-loop f c u values s₀ greatest₀ i₀ s greatest i = length values - i
 
 new-requires : tie.Need-new-requires Inv-loop μ-loop
 new-requires c κs = search needs
@@ -25,7 +26,7 @@ new-requires c κs = search needs
 loop-holds : tie.Need-loop-holds Inv-loop μ-loop
 loop-holds c =
     let a = c .before .before .args in
-    (search needs, walk-start (formatOf (a .f)) (settingsOf (a .c)) (list (formatOf (a .f)) (settingsOf (a .c)) (summandOf (a .u))) (a .values .now) (c .new .result) (c .new .ensures .0 (formatOf (a .f)) (settingsOf (a .c)) (summandOf (a .u))))
+    (search needs, search needs, walk-start (formatOf (a .f)) (settingsOf (a .c)) (list (formatOf (a .f)) (settingsOf (a .c)) (summandOf (a .u))) (a .values .now) (c .new .result) (c .new .ensures .0 (formatOf (a .f)) (settingsOf (a .c)) (summandOf (a .u))))
 
 mul-x : tie.Need-mul-x Inv-loop μ-loop
 mul-x c = search needs
@@ -36,8 +37,8 @@ shared-slice-read-x c = search needs
 add-i : tie.Need-add-i Inv-loop μ-loop
 add-i c = search needs
 
-plain-top-requires : tie.Need-plain-top-requires Inv-loop μ-loop
-plain-top-requires c κs = search needs
+plain-field-requires : tie.Need-plain-field-requires Inv-loop μ-loop
+plain-field-requires c κs = search needs
 
 take-requires : tie.Need-take-requires Inv-loop μ-loop
 take-requires c κs = search needs
@@ -49,7 +50,7 @@ loop-again : tie.Need-loop-again Inv-loop μ-loop
 loop-again c =
     let a = c .before .before .before .before .before .before .before .before .args in
     let p = c .before .before .before .before .before .loop in
-    (add-one-le (c .before .before .before .before .loop-test .taken), walk-taken (formatOf (a .f)) (settingsOf (a .c)) (list (formatOf (a .f)) (settingsOf (a .c)) (summandOf (a .u))) (a .values .now) (p .i) 0 (getD (a .values .now) (p .i) 0) (p .s) (p .top) (c .before .before .before .before .loop-test .taken) refl (p .inv .1) (c .take .result) (c .take .ensures))
+    (add-one-le (c .before .before .before .before .loop-test .taken), p .inv .1, walk-taken (formatOf (a .f)) (settingsOf (a .c)) (list (formatOf (a .f)) (settingsOf (a .c)) (summandOf (a .u))) (a .values .now) (p .i) 0 (getD (a .values .now) (p .i) 0) (p .s) (p .greatest) (c .before .before .before .before .loop-test .taken) refl (p .inv .2) (c .take .result) (c .take .ensures))
 
 loop-less-2 : tie.Need-loop-less-2 Inv-loop μ-loop
 loop-less-2 c = search needs
@@ -58,10 +59,10 @@ loop-again-2 : tie.Need-loop-again-2 Inv-loop μ-loop
 loop-again-2 c =
     let a = c .before .before .before .before .before .before .before .before .args in
     let p = c .before .before .before .before .before .loop in
-    let at = c .before .before .plain-top .result in
-    let z : 0 < at = omega arith in
-    let m : at ≡ max (p .top) at = omega arith in
-    (add-one-le (c .before .before .before .before .loop-test .taken), walk-plain (formatOf (a .f)) (settingsOf (a .c)) (list (formatOf (a .f)) (settingsOf (a .c)) (summandOf (a .u))) (a .values .now) (p .i) 0 (getD (a .values .now) (p .i) 0) (p .s) (p .top) (c .before .before .before .before .loop-test .taken) refl (p .inv .1) at at (list-plainly (formatOf (a .f)) (settingsOf (a .c)) (summandOf (a .u)) _ at z (c .before .before .plain-top .ensures)) m)
+    let field = c .before .before .plain-field .result in
+    let z : 0 < field = omega arith in
+    let m : field ≡ max (p .greatest) field = omega arith in
+    (add-one-le (c .before .before .before .before .loop-test .taken), c .before .before .plain-field .ensures .0, walk-plain (formatOf (a .f)) (settingsOf (a .c)) (list (formatOf (a .f)) (settingsOf (a .c)) (summandOf (a .u))) (a .values .now) (p .i) 0 (getD (a .values .now) (p .i) 0) (p .s) (p .greatest) (c .before .before .before .before .loop-test .taken) refl (p .inv .2) field field (list-plainly (formatOf (a .f)) (settingsOf (a .c)) (summandOf (a .u)) _ field z (c .before .before .plain-field .ensures .1)) m)
 
 loop-less-3 : tie.Need-loop-less-3 Inv-loop μ-loop
 loop-less-3 c = search needs
@@ -70,19 +71,22 @@ loop-again-3 : tie.Need-loop-again-3 Inv-loop μ-loop
 loop-again-3 c =
     let a = c .before .before .before .before .before .before .before .before .args in
     let p = c .before .before .before .before .before .loop in
-    let at = c .before .before .plain-top .result in
-    let z : 0 < at = omega arith in
-    let m : p .top ≡ max (p .top) at = omega arith in
-    (add-one-le (c .before .before .before .before .loop-test .taken), walk-plain (formatOf (a .f)) (settingsOf (a .c)) (list (formatOf (a .f)) (settingsOf (a .c)) (summandOf (a .u))) (a .values .now) (p .i) 0 (getD (a .values .now) (p .i) 0) (p .s) (p .top) (c .before .before .before .before .loop-test .taken) refl (p .inv .1) at (p .top) (list-plainly (formatOf (a .f)) (settingsOf (a .c)) (summandOf (a .u)) _ at z (c .before .before .plain-top .ensures)) m)
+    let field = c .before .before .plain-field .result in
+    let z : 0 < field = omega arith in
+    let m : p .greatest ≡ max (p .greatest) field = omega arith in
+    (add-one-le (c .before .before .before .before .loop-test .taken), p .inv .1, walk-plain (formatOf (a .f)) (settingsOf (a .c)) (list (formatOf (a .f)) (settingsOf (a .c)) (summandOf (a .u))) (a .values .now) (p .i) 0 (getD (a .values .now) (p .i) 0) (p .s) (p .greatest) (c .before .before .before .before .loop-test .taken) refl (p .inv .2) field (p .greatest) (list-plainly (formatOf (a .f)) (settingsOf (a .c)) (summandOf (a .u)) _ field z (c .before .before .plain-field .ensures .1)) m)
+
+plain-top-requires : tie.Need-plain-top-requires Inv-loop μ-loop
+plain-top-requires c κs = search needs
 
 noted-top-requires : tie.Need-noted-top-requires Inv-loop μ-loop
 noted-top-requires c κs = search needs
 
 returns : tie.Need-returns Inv-loop μ-loop
 returns c =
-    let a = c .before .before .before .before .before .args in
-    let p = c .before .before .loop in
-    walk-done (formatOf (a .f)) (settingsOf (a .c)) (list (formatOf (a .f)) (settingsOf (a .c)) (summandOf (a .u))) (a .values .now) (p .i) (p .s) (c .noted-top .result) (p .top) (omega arith) (c .noted-top .ensures) (p .inv .1)
+    let a = c .before .before .before .before .before .before .args in
+    let p = c .before .before .before .loop in
+    walk-done (formatOf (a .f)) (settingsOf (a .c)) (list (formatOf (a .f)) (settingsOf (a .c)) (summandOf (a .u))) (a .values .now) (p .i) (p .s) (c .noted-top .result) (p .greatest) _ (omega arith) (c .noted-top .ensures) (c .before .plain-top .ensures) (p .inv .2)
 
 pub scan-list-spec : {M : Type 1} → statement M
 scan-list-spec =
@@ -95,7 +99,7 @@ scan-list-spec =
     mul-x
     shared-slice-read-x
     add-i
-    plain-top-requires
+    plain-field-requires
     take-requires
     loop-less
     loop-again
@@ -103,5 +107,6 @@ scan-list-spec =
     loop-again-2
     loop-less-3
     loop-again-3
+    plain-top-requires
     noted-top-requires
     returns)

@@ -1,4 +1,4 @@
--- `scan::words::scan_pairs` meets its contract. The invariant: the scan, raised to the position kept apart, is that of the first i pairs.
+-- `scan::words::scan_pairs` meets its contract. The invariant: the scan, raised to the position of the fields kept apart, is that of the first i pairs.
 use mathlib.Core.Path.{_≡_, refl}
 use Prim.Native.Nat.{_≤_, _-_, _<_, max}
 use native.Mathlib.Numerals.{add-one-le}
@@ -7,6 +7,7 @@ use borrow.Author.Needs.{needs}
 use lib.ListN.{length, take}
 use Rattle.totals_spec.specs.Totals.{pairs}
 use Rattle.format.specs.Joined.{formatOf, settingsOf}
+use Rattle.arithmetic.specs.Joined.{fieldsTop}
 use Rattle.scan.specs.Joined.{raised, ScannedPairs}
 use Rattle.scan.proofs.Step.{walk-start}
 use Rattle.scan.proofs.Lists.{dot, pairs-taken, pairs-plain, pairs-done}
@@ -14,10 +15,10 @@ use Rattle.scan.proofs.words.scan_pairs.Statement.{statement}
 use Rattle.scan.proofs.words.scan_pairs.Tie as tie
 
 abbrev Inv-loop : tie.InvT-loop
-Inv-loop f c left right s₀ top₀ i₀ s top i = (i ≤ length left) × ScannedPairs (formatOf f) (settingsOf c) (take i (pairs left right)) (raised top s)
+Inv-loop f c left right s₀ greatest₀ i₀ s greatest i = (i ≤ length left) × (greatest < 536870912) × ScannedPairs (formatOf f) (settingsOf c) (take i (pairs left right)) (raised (fieldsTop (formatOf f) greatest) s)
 
 abbrev μ-loop : tie.MeasureT-loop
-μ-loop f c left right s₀ top₀ i₀ s top i = length left - i
+μ-loop f c left right s₀ greatest₀ i₀ s greatest i = length left - i
 
 new-requires : tie.Need-new-requires Inv-loop μ-loop
 new-requires c κs = search needs
@@ -25,7 +26,7 @@ new-requires c κs = search needs
 loop-holds : tie.Need-loop-holds Inv-loop μ-loop
 loop-holds c =
     let a = c .before .before .before .args in
-    (search needs, walk-start (formatOf (a .f)) (settingsOf (a .c)) (dot (formatOf (a .f)) (settingsOf (a .c))) (pairs (a .left .now) (a .right .now)) (c .new .result) (c .new .ensures .1 (formatOf (a .f)) (settingsOf (a .c))))
+    (search needs, search needs, walk-start (formatOf (a .f)) (settingsOf (a .c)) (dot (formatOf (a .f)) (settingsOf (a .c))) (pairs (a .left .now) (a .right .now)) (c .new .result) (c .new .ensures .1 (formatOf (a .f)) (settingsOf (a .c))))
 
 mul-x : tie.Need-mul-x Inv-loop μ-loop
 mul-x c = search needs
@@ -42,8 +43,8 @@ shared-slice-read-y c = search needs
 add-i : tie.Need-add-i Inv-loop μ-loop
 add-i c = search needs
 
-plain-pair-top-requires : tie.Need-plain-pair-top-requires Inv-loop μ-loop
-plain-pair-top-requires c κs = search needs
+plain-fields-requires : tie.Need-plain-fields-requires Inv-loop μ-loop
+plain-fields-requires c κs = search needs
 
 take-pair-requires : tie.Need-take-pair-requires Inv-loop μ-loop
 take-pair-requires c κs = search needs
@@ -56,7 +57,7 @@ loop-again c =
     let a = c .before .before .before .before .before .before .before .before .before .before .args in
     let p = c .before .before .before .before .before .before .loop in
     let h = c .before .before .before .before .before .loop-test .taken in
-    (add-one-le h, pairs-taken (formatOf (a .f)) (settingsOf (a .c)) (a .left .now) (a .right .now) (c .before .before .before .before .before .before .before .before .before .before .pre .1) (p .i) _ _ (p .s) (p .top) h refl refl (p .inv .1) (c .take-pair .result) (c .take-pair .ensures))
+    (add-one-le h, p .inv .1, pairs-taken (formatOf (a .f)) (settingsOf (a .c)) (a .left .now) (a .right .now) (c .before .before .before .before .before .before .before .before .before .before .pre .1) (p .i) _ _ (p .s) (p .greatest) h refl refl (p .inv .2) (c .take-pair .result) (c .take-pair .ensures))
 
 loop-less-2 : tie.Need-loop-less-2 Inv-loop μ-loop
 loop-less-2 c = search needs
@@ -66,10 +67,10 @@ loop-again-2 c =
     let a = c .before .before .before .before .before .before .before .before .before .before .args in
     let p = c .before .before .before .before .before .before .loop in
     let h = c .before .before .before .before .before .loop-test .taken in
-    let at = c .before .before .plain-pair-top .result in
-    let z : 0 < at = omega arith in
-    let m : at ≡ max (p .top) at = omega arith in
-    (add-one-le h, pairs-plain (formatOf (a .f)) (settingsOf (a .c)) (a .left .now) (a .right .now) (c .before .before .before .before .before .before .before .before .before .before .pre .1) (p .i) _ _ (p .s) (p .top) h refl refl (p .inv .1) at at z (c .before .before .plain-pair-top .ensures) m)
+    let fields = c .before .before .plain-fields .result in
+    let z : 0 < fields = omega arith in
+    let m : fields ≡ max (p .greatest) fields = omega arith in
+    (add-one-le h, c .before .before .plain-fields .ensures .0, pairs-plain (formatOf (a .f)) (settingsOf (a .c)) (a .left .now) (a .right .now) (c .before .before .before .before .before .before .before .before .before .before .pre .1) (p .i) _ _ (p .s) (p .greatest) h refl refl (p .inv .2) fields fields z (c .before .before .plain-fields .ensures .1) m)
 
 loop-less-3 : tie.Need-loop-less-3 Inv-loop μ-loop
 loop-less-3 c = search needs
@@ -79,19 +80,22 @@ loop-again-3 c =
     let a = c .before .before .before .before .before .before .before .before .before .before .args in
     let p = c .before .before .before .before .before .before .loop in
     let h = c .before .before .before .before .before .loop-test .taken in
-    let at = c .before .before .plain-pair-top .result in
-    let z : 0 < at = omega arith in
-    let m : p .top ≡ max (p .top) at = omega arith in
-    (add-one-le h, pairs-plain (formatOf (a .f)) (settingsOf (a .c)) (a .left .now) (a .right .now) (c .before .before .before .before .before .before .before .before .before .before .pre .1) (p .i) _ _ (p .s) (p .top) h refl refl (p .inv .1) at (p .top) z (c .before .before .plain-pair-top .ensures) m)
+    let fields = c .before .before .plain-fields .result in
+    let z : 0 < fields = omega arith in
+    let m : p .greatest ≡ max (p .greatest) fields = omega arith in
+    (add-one-le h, p .inv .1, pairs-plain (formatOf (a .f)) (settingsOf (a .c)) (a .left .now) (a .right .now) (c .before .before .before .before .before .before .before .before .before .before .pre .1) (p .i) _ _ (p .s) (p .greatest) h refl refl (p .inv .2) fields (p .greatest) z (c .before .before .plain-fields .ensures .1) m)
+
+plain-pair-top-requires : tie.Need-plain-pair-top-requires Inv-loop μ-loop
+plain-pair-top-requires c κs = search needs
 
 noted-top-requires : tie.Need-noted-top-requires Inv-loop μ-loop
 noted-top-requires c κs = search needs
 
 returns : tie.Need-returns Inv-loop μ-loop
 returns c =
-    let a = c .before .before .before .before .before .before .args in
-    let p = c .before .before .loop in
-    pairs-done (formatOf (a .f)) (settingsOf (a .c)) (a .left .now) (a .right .now) (c .before .before .before .before .before .before .pre .1) (p .i) (p .s) (c .noted-top .result) (p .top) (omega arith) (c .noted-top .ensures) (p .inv .1)
+    let a = c .before .before .before .before .before .before .before .args in
+    let p = c .before .before .before .loop in
+    pairs-done (formatOf (a .f)) (settingsOf (a .c)) (a .left .now) (a .right .now) (c .before .before .before .before .before .before .before .pre .1) (p .i) (p .s) (c .noted-top .result) (p .greatest) _ (omega arith) (c .noted-top .ensures) (c .before .plain-pair-top .ensures) (p .inv .2)
 
 pub scan-pairs-spec : {M : Type 1} → statement M
 scan-pairs-spec =
@@ -106,7 +110,7 @@ scan-pairs-spec =
     mul-y
     shared-slice-read-y
     add-i
-    plain-pair-top-requires
+    plain-fields-requires
     take-pair-requires
     loop-less
     loop-again
@@ -114,5 +118,6 @@ scan-pairs-spec =
     loop-again-2
     loop-less-3
     loop-again-3
+    plain-pair-top-requires
     noted-top-requires
     returns)
