@@ -14,7 +14,7 @@ pub past-end : (s : List ℕ) (i : ℕ) → length s ≤ i → digitAt s i ≡ 0
 past-end s i h = ap (λ (b : ℕ). digitOr 0 (hexDigit b)) (List·getD-eq-default s 48 h)
 
 -- within the slice it is all one which byte would stand past the end
-same-byte : (s : List ℕ) (i : ℕ) → i < length s → getD s i 48 ≡ getD s i 0
+pub same-byte : (s : List ℕ) (i : ℕ) → i < length s → getD s i 48 ≡ getD s i 0
 same-byte s i h = cc (drop-cons s i 48 h, drop-cons s i 0 h)
 
 pub no-digit-at : (s : List ℕ) (i : ℕ) → i < length s → digitOf (getD s i 0) ≡ 16 → digitAt s i ≡ 0

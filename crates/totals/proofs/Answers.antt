@@ -15,9 +15,10 @@ use Rattle.totals_spec.specs.Totals.{Answer, limit, refuseIf, refused, answered
 use Rattle.totals_spec.proofs.Bits.{eqb-false}
 use Rattle.totals_spec.proofs.Valid.{format-bounds}
 use Rattle.totals_spec.proofs.Passes.{valid-of}
-use Rattle.totals.specs.Refusal.{sumNumbers, dotNumbers, strayAt, FoundIn}
-use Rattle.totals.specs.declared.refusal.Found.{Found}
-use Rattle.totals.specs.declared.refusal.Found.the-variants.{At, Nothing}
+use Rattle.totals.specs.Refusal.{sumNumbers, dotNumbers}
+use Rattle.totals.specs.Stray.{strayAt, FoundIn}
+use Rattle.totals.specs.declared.stray.Found.{Found}
+use Rattle.totals.specs.declared.stray.Found.the-variants.{At, Nothing}
 
 -- ---- a row of tests, none of which has number 0 or 7, before another one
 

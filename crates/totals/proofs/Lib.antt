@@ -1,4 +1,4 @@
-pub mod Stray
+pub mod Search
 pub mod Written
 mod Answers
 pub mod Figures

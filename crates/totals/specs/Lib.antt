@@ -1,3 +1,4 @@
 pub mod Refusal
+pub mod Stray
 pub mod Entered
 pub mod PenceRecord

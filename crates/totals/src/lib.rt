@@ -2,12 +2,13 @@
 pub mod entry;
 pub mod pence;
 pub mod refusal;
+mod stray;
 
-use crate::refusal::Found;
 use crate::refusal::dot_refusal;
-use crate::refusal::find_stray;
-use crate::refusal::find_stray_bytes;
 use crate::refusal::sum_refusal;
+use crate::stray::Found;
+use crate::stray::find_stray;
+use crate::stray::find_stray_bytes;
 use format::Format;
 use format::env::Settings;
 use reduction::bytes;

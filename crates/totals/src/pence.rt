@@ -1,5 +1,5 @@
 // The pence figure of one encoding: its value times 100, to the nearest whole number, ties away from zero.
-use crate::refusal::greatest;
+use crate::stray::greatest;
 use binary::decode;
 use format::Format;
 use format::depth;

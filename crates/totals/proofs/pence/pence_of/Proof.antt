@@ -6,7 +6,7 @@ use Rattle.totals_spec.proofs.Bits.{T-of}
 use Rattle.totals_spec.proofs.Valid.{format-bounds}
 use Rattle.format.specs.Joined.{formatOf}
 use Rattle.totals.proofs.Answers.{width-bounds}
-use Rattle.totals.proofs.Stray.{stray-is, stray-not}
+use Rattle.totals.proofs.Search.{stray-is, stray-not}
 use Rattle.totals.proofs.Figures.{bad-format, stray-bit, no-stray-bit, decode-bounded}
 use borrow.Author.Needs.{needs}
 use Rattle.totals.proofs.pence.pence_of.Statement.{statement}

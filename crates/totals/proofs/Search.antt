@@ -14,7 +14,7 @@ use Rattle.totals_spec.specs.Basics.{any}
 use Rattle.totals_spec.specs.Totals.{firstIndex}
 use Rattle.totals_spec.proofs.Bits.{leb-true, leb-false}
 use Rattle.totals_spec.proofs.Walk.{any-take}
-use Rattle.totals.specs.Refusal.{strayAt}
+use Rattle.totals.specs.Stray.{strayAt}
 
 or-false : (a b : Bool) → a ≡ false → b ≡ false → (a || b) ≡ false
 or-false a b p q = rw (p, q)

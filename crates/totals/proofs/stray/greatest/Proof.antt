@@ -1,8 +1,8 @@
--- `totals::refusal::greatest` meets its contract.
-use Rattle.totals.proofs.Stray.{ones-shifted}
+-- `totals::stray::greatest` meets its contract.
+use Rattle.totals.proofs.Search.{ones-shifted}
 use borrow.Author.Needs.{needs}
-use Rattle.totals.proofs.refusal.greatest.Statement.{statement}
-use Rattle.totals.proofs.refusal.greatest.Tie as tie
+use Rattle.totals.proofs.stray.greatest.Statement.{statement}
+use Rattle.totals.proofs.stray.greatest.Tie as tie
 
 sub-result : tie.Need-sub-result
 sub-result c = search needs
