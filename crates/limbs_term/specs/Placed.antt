@@ -1,7 +1,7 @@
 -- What the words are that are added for a term.
 use mathlib.Core.Path.{_≡_}
 use mathlib.Core.Bool.{Bool, true, false}
-use Prim.Native.Nat.{ℕ, _+_, _-_, _*_, _/_, _^_, _≤_}
+use Prim.Native.Nat.{ℕ, _+_, _-_, _*_, _/_, _^_, _<_, _≤_}
 use Rattle.limbs.specs.Value.{term}
 use Rattle.limbs_term.specs.declared.Placed.{Placed}
 
@@ -23,5 +23,6 @@ pub record Places (negative : Bool) (low high shift : ℕ) (p : Placed) : Type 0
   pub word : p .at ≡ shift / 64
   pub small : p .carry ≤ 1
   pub exact : Makes negative p (term low high shift)
+  pub fits : p .w2 < 2 ^ 64
   -- a term of one word has no third
   pub third : high ≡ 0 → p .w2 ≡ flip negative 0

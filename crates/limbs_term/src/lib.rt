@@ -7,7 +7,7 @@ use limbs_window::shl;
 use limbs_window::sub;
 ghost use mathlib.Core.Path.{_≡_};
 ghost use mathlib.Core.Bool.{cond, false};
-ghost use Prim.Native.Nat.{_<_};
+ghost use Prim.Native.Nat.{_<_, _≤_};
 ghost use Rattle.limbs.specs.Value.{Words, value, term, moved};
 ghost use Rattle.limbs_term.specs.Placed.{Places, flip};
 
@@ -84,15 +84,12 @@ fn add_anywhere(r: &mut [u64; 12], low: u64, high: u64, up: usize, negative: boo
     add_long(r, low, high, up, negative);
 }
 
-// A part of a term added to a lent window or taken off it, in place, so that the window stays where it is over a whole list. The long way is taken
-// at the word 11, and where a carry runs on past the third word: both are rare. At the word 10 two words are added, and the third lies past the
-// window's end: the terms of a first pass stand just there.
-pub fn add_part(r: &mut [u64; 12], low: u64, high: u64, up: usize, negative: bool)
-    requires { ⌜ Words 12 (now r) ⌝ }
+// A term whose words start at the word 10 or above. At the word 10 two of them are added, and the third lies past the window's end.
+fn add_at_end(r: &mut [u64; 12], q: Placed, low: u64, high: u64, up: usize, negative: bool)
+    requires { ⌜ Words 12 (now r) × Places negative low high up q × (10 ≤ q .at) ⌝ }
     ensures { λ _. ⌜ Words 12 (now (r .exit)) ⌝ }
     ensures { λ _. ⌜ value (now (r .exit)) ≡ moved negative (value (now (r .entry))) (term low high up) ⌝ }
 {
-    let q = place(low, high, up, negative);
     let at = q.at;
     if at >= 11 {
         add_anywhere(r, low, high, up, negative);
@@ -100,11 +97,25 @@ pub fn add_part(r: &mut [u64; 12], low: u64, high: u64, up: usize, negative: boo
     }
     let x = add_word(r[at], q.w0, q.carry);
     let y = add_word(r[at + 1], q.w1, x.carry);
-    if at == 10 {
-        r[at] = x.word;
-        r[at + 1] = y.word;
+    r[at] = x.word;
+    r[at + 1] = y.word;
+}
+
+// A part of a term added to a lent window or taken off it, in place, so that the window stays where it is over a whole list. The long way is taken
+// at the word 11, and where a carry runs on past the third word: both are rare.
+pub fn add_part(r: &mut [u64; 12], low: u64, high: u64, up: usize, negative: bool)
+    requires { ⌜ Words 12 (now r) ⌝ }
+    ensures { λ _. ⌜ Words 12 (now (r .exit)) ⌝ }
+    ensures { λ _. ⌜ value (now (r .exit)) ≡ moved negative (value (now (r .entry))) (term low high up) ⌝ }
+{
+    let q = place(low, high, up, negative);
+    let at = q.at;
+    if at >= 10 {
+        add_at_end(r, q, low, high, up, negative);
         return;
     }
+    let x = add_word(r[at], q.w0, q.carry);
+    let y = add_word(r[at + 1], q.w1, x.carry);
     let z = add_word(r[at + 2], q.w2, y.carry);
     if z.carry != q.carry {
         add_anywhere(r, low, high, up, negative);

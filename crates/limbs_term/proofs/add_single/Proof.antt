@@ -66,7 +66,7 @@ returns-3 c =
     let p = c .before .before .before .before .before .before .before .place in
     let s = c .before .before .before .before .before .before .before .before in
     single (s .args .r .now) (s .pre) (p .result) (c .before .before .before .before .before .before .if1 .left) (x .result) (y .result) (search needs) (search needs) (x .ensures .0) (y .ensures .0)
-    (s .args .negative) _ (p .ensures .exact) (p .ensures .third refl) (y .ensures .1) (search needs) (c .before .runs-on .ensures (c .if2 .left))
+    (s .args .negative) _ (p .ensures .exact) (p .ensures .third refl) (y .ensures .1) (p .ensures .fits) (c .before .runs-on .ensures (c .if2 .left))
 
 pub add-single-spec : {M : Type 1} → statement M
 add-single-spec =

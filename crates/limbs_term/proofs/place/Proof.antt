@@ -40,6 +40,7 @@ returns c =
       exact =
           placed-as (a .negative) (p .result .word) (s .result .word) (t .result .word) (t .result .carry) _ _ _ (c .one-if .result) _ (c .before .before .before .flipped .ensures) (c .before .before .flipped2 .ensures)
           (c .before .flipped3 .ensures) (c .one-if .ensures) (search needs) (search needs) (search needs) (term-words (a .low) (a .high) _ _ _ (s .result .carry) (p .ensures) (s .ensures .0) (t .ensures .0));
+      fits = search needs;
       third = λ z. c .before .flipped3 .ensures ∙ ap (flip (a .negative)) (no-third (p .result .bit) (a .high) (t .result .word) (t .result .carry) (s .result .carry) (p .ensures .small) z (s .ensures .1) (t .ensures .0));
     }
 
