@@ -29,6 +29,9 @@ const SEED: u64 = 1;
 /// So many lists of 480 elements are more than a processor learns the branches of.
 const MANY: u64 = 64;
 
+/// And so many elements, in lists of any length.
+const FRESH: usize = 1 << 17;
+
 /// Everything is timed so often, and the least time counts.
 const SWEEPS: u32 = 4;
 const ROW: Duration = Duration::from_millis(300);
@@ -97,11 +100,11 @@ fn growth(same: &mut bool) -> Vec<Growth> {
     for (kind, _) in KINDS {
         let mut count = 1;
         while count <= LONGEST {
-            let lists = [Lists::of(kind, count, SEED)];
-            let passes = rivals::passes(Operation::Sum(0), &lists[0]);
+            let lists: Vec<Lists> = (0..(FRESH / count).max(1)).map(|more| Lists::of(kind, count, SEED + more as u64)).collect();
+            let passes = lists.iter().map(|lists| rivals::passes(Operation::Sum(0), lists) as f64).sum::<f64>() / lists.len() as f64;
             let mut rivals = rivals::sums(&lists, count <= SHORT);
-            *same &= agree(&format!("list {kind} of {count}"), &rivals);
-            for (who, time) in measure(&mut rivals, 1, POINT) {
+            *same &= agree(&format!("the lists {kind} of {count}"), &rivals);
+            for (who, time) in measure(&mut rivals, lists.len(), POINT) {
                 points.push(Growth { kind, who, count, passes, time: time / count as f64 });
             }
             count *= 2;

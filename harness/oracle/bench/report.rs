@@ -19,7 +19,8 @@ pub struct Growth {
     pub kind: char,
     pub who: Who,
     pub count: usize,
-    pub passes: u64,
+    /// On the average of the lists.
+    pub passes: f64,
     pub time: f64,
 }
 
@@ -55,6 +56,11 @@ fn number(value: f64) -> String {
         v if v < 99.95 => format!("{v:.1}"),
         v => grouped(&format!("{v:.0}")),
     }
+}
+
+/// A whole number, or one digit after the point.
+fn passes(mean: f64) -> String {
+    if mean.fract() == 0.0 { format!("{mean}") } else { format!("{mean:.1}") }
 }
 
 /// Each row's nanoseconds, and in brackets how many times ours they are.
@@ -112,8 +118,8 @@ impl Report {
         counts.sort_unstable();
         counts.dedup();
         for count in counts {
-            let passes = KINDS.map(|(kind, _)| self.point(kind, Who::Ours, count).map_or(0, |point| point.passes).to_string());
-            let _ = write!(text, "| {} | {} |", grouped(&count.to_string()), passes.join(", "));
+            let means = KINDS.map(|(kind, _)| self.point(kind, Who::Ours, count).map_or(String::new(), |point| passes(point.passes)));
+            let _ = write!(text, "| {} | {} |", grouped(&count.to_string()), means.join(", "));
             for &(who, kind) in &columns {
                 let _ = match self.point(kind, who, count) {
                     Some(point) => write!(text, " {} |", number(point.time)),
@@ -129,7 +135,7 @@ impl Report {
         format!(
             "One list of 480 elements again and again. Nanoseconds per element; in brackets, how many times Fermuzhai's.\n\n{}\n\
              64 such lists in turn. Nanoseconds per element.\n\n{}\nNanoseconds per call.\n\n{}\n\
-             Sums of 1 to 1,048,576 elements. Nanoseconds per element.\n\n{}",
+             Sums of 1 to 1,048,576 elements, many lists in turn up to 65,536. Nanoseconds per element; passes on the average of the lists.\n\n{}",
             table("list, total", &self.months),
             table("lists, total", &self.many),
             table("call", &self.calls),
