@@ -1,14 +1,13 @@
 -- Overflow: numbers above the largest, the largest number, and what an overflow gives.
 use mathlib.Core.Path.{_≡_, refl, sym, ap, ap₂, _∙_, subst}
-use mathlib.Core.Bool.{Bool, true, false, not, _&&_, and-false, true≢false}
+use mathlib.Core.Bool.{Bool, true, false, _&&_, and-false, true≢false}
 use Prim.Native.Nat.{ℕ, zero, suc, _+_, _-_, _*_, _^_, _≤_, _<_}
 use native.Mathlib.Nat.{le-trans, le-of-lt, lt-of-lt-of-le, not-le-of-lt, lt-of-not-le, sub-self, mul-one, one-mul, mul-le-mul-right}
 use native.Mathlib.Omega.{arith}
 use lib.Dec.{leb, eqb}
 use lib.Pow.{pow-pos, pow-mono}
 use lib.Ieee.{size}
-use borrow.Author.Tests.{eq-eqb}
-use Rattle.totals_spec.proofs.Bits.{leb-true, leb-false, eqb-false}
+use borrow.Author.Tests.{eq-eqb, le-leb, lt-leb, ne-eqb}
 use Rattle.totals_spec.specs.Bounds.{FormatBounds}
 use Rattle.totals_spec.specs.Format.{Format, Kind, ieee, noInf, fnuz, finiteOnly, rangeOf, kindOf, digits, emaxAt, exponentRange}
 use Rattle.totals_spec.specs.Settings.{Settings, roundingOf}
@@ -73,10 +72,10 @@ module _ (f : Format) (q g k l : ℕ) (q0 : 1 ≤ q) (p0 : 1 ≤ digits f) (sz :
 
   pub over-above : emaxAt f g < l + (q - 1) → overflows f q g (k * 2 ^ l) ≡ true
   unfolding overflows
-  over-above h = rw (leb-true (le-trans (pow-mono h) y-ge))
+  over-above h = rw (le-leb _ _ (le-trans (pow-mono h) y-ge))
 
   inside : l + (q - 1) ≤ emaxAt f g → leb (2 ^ suc (emaxAt f g)) (k * 2 ^ l) ≡ false
-  inside h = leb-false (y-lt (suc (emaxAt f g)) (omega arith))
+  inside h = lt-leb _ _ (y-lt (suc (emaxAt f g)) (omega arith))
 
   pub over-kind : l + (q - 1) ≤ emaxAt f g → isNoInf (kindOf (f .kind)) ≡ false → overflows f q g (k * 2 ^ l) ≡ false
   unfolding overflows
@@ -84,11 +83,11 @@ module _ (f : Format) (q g k l : ℕ) (q0 : 1 ≤ q) (p0 : 1 ≤ digits f) (sz :
 
   pub over-digits : l + (q - 1) ≤ emaxAt f g → isNoInf (kindOf (f .kind)) ≡ true → (q ≡ digits f → ⊥) → overflows f q g (k * 2 ^ l) ≡ false
   unfolding overflows
-  over-digits h n d = rw (inside h, n, eqb-false q (digits f) d)
+  over-digits h n d = rw (inside h, n, ne-eqb q (digits f) d)
 
   pub over-lower : l + (q - 1) < emaxAt f g → isNoInf (kindOf (f .kind)) ≡ true → q ≡ digits f → overflows f q g (k * 2 ^ l) ≡ false
   unfolding overflows
-  over-lower h n d = rw (inside (le-of-lt h), n, eq-eqb q (digits f) d, eqb-false (k * 2 ^ l) (allOnes f g p0) off)
+  over-lower h n d = rw (inside (le-of-lt h), n, eq-eqb q (digits f) d, ne-eqb (k * 2 ^ l) (allOnes f g p0) off)
     where
       off : k * 2 ^ l ≡ allOnes f g p0 → ⊥
       off e = not-le-of-lt (y-lt (emaxAt f g) (omega arith)) (subst (λ (x : ℕ). 2 ^ emaxAt f g ≤ x) (sym e) (ones-ge f g p0))

@@ -8,8 +8,7 @@ use lib.Dec.{ltb, leb, eqb}
 use lib.Pow.{pow-pos, pow-mono, pow-lt, shl-shr, shr-lt, shr-mono}
 use lib.Ieee.{size}
 use lib.Ieee.Digits.{size-lt, size-reaches, size-le}
-use borrow.Author.Tests.{eq-eqb}
-use Rattle.totals_spec.proofs.Bits.{ltb-true, ltb-false, leb-false, eqb-false}
+use borrow.Author.Tests.{eq-eqb, lt-ltb, le-ltb, lt-leb, ne-eqb}
 use Rattle.totals_spec.proofs.Same.{ltb-size}
 use Rattle.totals_spec.specs.Basics.{flag, isSet}
 use Rattle.totals_spec.specs.Bounds.{FormatBounds}
@@ -52,10 +51,10 @@ module _ (f : Format) (c : Settings) (g : ℕ) (s : Bool) (x q n k l : ℕ) (q0 
   tiny-not h = rw (sz, ← y) (go (isSet (c .tininess)))
     where
       after : ltb (k * 2 ^ l) (2 ^ eminAt f g) ≡ false
-      after = ltb-false (size-reaches (k * 2 ^ l) (eminAt f g) (rw long (omega arith)))
+      after = le-ltb _ _ (size-reaches (k * 2 ^ l) (eminAt f g) (rw long (omega arith)))
 
       before : ltb x (2 ^ eminAt f g) ≡ false
-      before = ltb-false (size-reaches x (eminAt f g) (rw sz h))
+      before = le-ltb _ _ (size-reaches x (eminAt f g) (rw sz h))
 
       go : (b : Bool) → cond b (ltb (k * 2 ^ l) (2 ^ eminAt f g)) (ltb x (2 ^ eminAt f g)) ≡ false
       go true = after
@@ -69,7 +68,7 @@ module _ (f : Format) (c : Settings) (g : ℕ) (s : Bool) (x q n k l : ℕ) (q0 
       after = sym (ltb-size (k * 2 ^ l) (eminAt f g) ∙ ap (λ (z : ℕ). leb z (eminAt f g)) long)
 
       before : true ≡ ltb x (2 ^ eminAt f g)
-      before = sym (ltb-true (lt-of-lt-of-le (size-lt x) (pow-mono (subst (λ (z : ℕ). z ≤ eminAt f g) (sym sz) h))))
+      before = sym (lt-ltb _ _ (lt-of-lt-of-le (size-lt x) (pow-mono (subst (λ (z : ℕ). z ≤ eminAt f g) (sym sz) h))))
 
       go : (b : Bool) → cond b (leb (l + q) (eminAt f g)) true ≡ cond b (ltb (k * 2 ^ l) (2 ^ eminAt f g)) (ltb x (2 ^ eminAt f g))
       go true = after
@@ -103,7 +102,7 @@ pub number-normal : (f : Format) (g : ℕ) (s : Bool) (k q l : ℕ) → 1 ≤ q 
 unfolding numberOf
 number-normal f g s k q l q0 qp sz h =
     rw
-    (eqb-false (k * 2 ^ l) 0 some, exact-kept k l g (omega arith), long, shift, exact-kept k (l - g) (l + q - (g + digits f)) (omega arith), rest)
+    (ne-eqb (k * 2 ^ l) 0 some, exact-kept k l g (omega arith), long, shift, exact-kept k (l - g) (l + q - (g + digits f)) (omega arith), rest)
   where
     pos : 1 * 2 ^ l ≤ k * 2 ^ l
     pos = mul-le-mul-right (2 ^ l) (digits-pos k q q0 sz)
@@ -126,7 +125,7 @@ over-small : (f : Format) (q g y : ℕ) → FormatBounds f → y ≤ 2 ^ eminAt 
 unfolding overflows
 over-small f q g y b h =
     rw
-    (leb-false (lt-of-le-of-lt h (pow-lt {i = eminAt f g} {j = suc (emaxAt f g)} (omega arith))), eqb-false y (allOnes f g p0) off)
+    (lt-leb _ _ (lt-of-le-of-lt h (pow-lt {i = eminAt f g} {j = suc (emaxAt f g)} (omega arith))), ne-eqb y (allOnes f g p0) off)
     (last (isNoInf (kindOf (f .kind))) (eqb q (digits f)))
   where
     p0 : 1 ≤ digits f
@@ -150,12 +149,12 @@ unfolding numberOf
 number-small f g s zero q q0 qp h = rw (eq-eqb (0 * 2 ^ (g + (digits f - q))) 0 (omega arith))
 number-small f g s (suc k) q q0 qp h =
     rw (
-      eqb-false (suc k * 2 ^ (g + (digits f - q))) 0 some,
+      ne-eqb (suc k * 2 ^ (g + (digits f - q))) 0 some,
       exact-kept (suc k) (g + (digits f - q)) g (omega arith),
       there,
       short,
       div-one (suc k * 2 ^ (digits f - q)),
-      eqb-false (suc k) 0 (λ (z : suc k ≡ 0). omega (arith, z)),
+      ne-eqb (suc k) 0 (λ (z : suc k ≡ 0). omega (arith, z)),
     )
   where
     some : suc k * 2 ^ (g + (digits f - q)) ≡ 0 → ⊥

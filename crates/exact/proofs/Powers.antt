@@ -8,8 +8,8 @@ use lib.Dec.{T, eqb, eqb→eq}
 use lib.Pow.{pow-add, pow-pos, pow-mono, shl-lt, shl-shr}
 use lib.Ieee.{size}
 use lib.Ieee.Digits.{size-lt, size-reaches}
-use borrow.Author.Tests.{eq-eqb}
-use Rattle.totals_spec.proofs.Bits.{size-is, size-pos, size-top, eqb-false, pow-split}
+use borrow.Author.Tests.{eq-eqb, ne-eqb}
+use Rattle.totals_spec.proofs.Bits.{size-is, size-pos, size-top, pow-split}
 
 pub pow-next : (q : ℕ) → 1 ≤ q → 2 ^ q ≡ 2 * 2 ^ (q - 1)
 pow-next q h = pow-split (q - 1) q (omega arith) ∙ ap (λ (k : ℕ). 2 ^ k * 2 ^ (q - 1)) one
@@ -31,7 +31,7 @@ eqb-scaled a b n = go (eqb a b) (eqb→eq a b) no
 
     go : (r : Bool) → (T r → a ≡ b) → (T (not r) → a ≡ b → ⊥) → r ≡ eqb (a * 2 ^ n) (b * 2 ^ n)
     go true h g = sym (eq-eqb (a * 2 ^ n) (b * 2 ^ n) (ap (λ (x : ℕ). x * 2 ^ n) (h tt)))
-    go false h g = sym (eqb-false (a * 2 ^ n) (b * 2 ^ n) (λ (e : a * 2 ^ n ≡ b * 2 ^ n). g tt (back e)))
+    go false h g = sym (ne-eqb (a * 2 ^ n) (b * 2 ^ n) (λ (e : a * 2 ^ n ≡ b * 2 ^ n). g tt (back e)))
 
 -- ---- v × 2^a and less than 2^a more
 

@@ -11,8 +11,8 @@ use lib.Arith.{digits-div, digits-mod}
 use lib.Pow.{pow-add, pow-pos, pow-mono, shr-shr, shl-shr, shr-lt, mod-pow-add}
 use lib.Ieee.{size}
 use lib.Ieee.Digits.{size-lt}
-use borrow.Author.Tests.{eq-eqb}
-use Rattle.totals_spec.proofs.Bits.{size-pos, ltb-true, ltb-false, eqb-false, pow-split, multiple-mod}
+use borrow.Author.Tests.{eq-eqb, lt-ltb, le-ltb, ne-eqb}
+use Rattle.totals_spec.proofs.Bits.{size-pos, pow-split, multiple-mod}
 use Rattle.totals_spec.specs.Round.{nothing, compared, dropped}
 use Rattle.limbs.specs.Value.{value}
 use Rattle.exact.specs.Joined.{droppedBy, StandsAt}
@@ -24,21 +24,21 @@ compared-by : (b h t : ℕ) → b < 2 → t < h → compared (b * h + t) (2 * h)
 compared-by zero h zero k l = rw (eq-eqb (0 * h + 0) 0 (omega arith))
 compared-by zero h (suc t) k l =
     rw (
-      eqb-false (0 * h + suc t) 0 (λ e. omega (arith, e)),
-      ltb-true {m = (0 * h + suc t) + (0 * h + suc t)} {n = 2 * h} (omega arith),
-      eqb-false (suc t) 0 (λ e. omega (arith, e)),
+      ne-eqb (0 * h + suc t) 0 (λ e. omega (arith, e)),
+      lt-ltb ((0 * h + suc t) + (0 * h + suc t)) (2 * h) (omega arith),
+      ne-eqb (suc t) 0 (λ e. omega (arith, e)),
     )
 compared-by (suc zero) h zero k l =
-    rw (eqb-false (1 * h + 0) 0 (λ e. omega (arith, e)), ltb-false {m = (1 * h + 0) + (1 * h + 0)} {n = 2 * h} (omega arith), even) refl
+    rw (ne-eqb (1 * h + 0) 0 (λ e. omega (arith, e)), le-ltb ((1 * h + 0) + (1 * h + 0)) (2 * h) (omega arith), even) refl
   where
     even : eqb ((1 * h + 0) + (1 * h + 0)) (2 * h) ≡ true
     even = eq-eqb ((1 * h + 0) + (1 * h + 0)) (2 * h) (omega arith)
 compared-by (suc zero) h (suc t) k l =
     rw (
-      eqb-false (1 * h + suc t) 0 (λ e. omega (arith, e)),
-      ltb-false {m = (1 * h + suc t) + (1 * h + suc t)} {n = 2 * h} (omega arith),
-      eqb-false ((1 * h + suc t) + (1 * h + suc t)) (2 * h) (λ e. omega (arith, e)),
-      eqb-false (suc t) 0 (λ e. omega (arith, e)),
+      ne-eqb (1 * h + suc t) 0 (λ e. omega (arith, e)),
+      le-ltb ((1 * h + suc t) + (1 * h + suc t)) (2 * h) (omega arith),
+      ne-eqb ((1 * h + suc t) + (1 * h + suc t)) (2 * h) (λ e. omega (arith, e)),
+      ne-eqb (suc t) 0 (λ e. omega (arith, e)),
     )
 compared-by (suc (suc b)) h t k l = absurd (omega (arith, k))
 
@@ -93,7 +93,7 @@ over true v a x h = record {
   more = x - v * 2 ^ a;
   is = omega (arith, h .0);
   small = omega (arith, h .1, suc-mul v (2 ^ a));
-  some = λ l. rw (eqb-false (l * 2 ^ a + (x - v * 2 ^ a)) 0 (λ e. omega (arith, e, h .0)));
+  some = λ l. rw (ne-eqb (l * 2 ^ a + (x - v * 2 ^ a)) 0 (λ e. omega (arith, e, h .0)));
 }
 over false v a x h = record { more = 0; is = h ∙ sym (add-zero (v * 2 ^ a)); small = pow-pos a; some = nought }
   where
@@ -101,7 +101,7 @@ over false v a x h = record { more = 0; is = h ∙ sym (add-zero (v * 2 ^ a)); s
     nought zero = rw (eq-eqb (0 * 2 ^ a + 0) 0 (omega arith))
     nought (suc l) =
         rw
-        (eqb-false (suc l * 2 ^ a + 0) 0 (λ e. omega (arith, e, pow-pos a, suc-mul l (2 ^ a))), eqb-false (suc l) 0 (λ e. omega (arith, e)))
+        (ne-eqb (suc l * 2 ^ a + 0) 0 (λ e. omega (arith, e, pow-pos a, suc-mul l (2 ^ a))), ne-eqb (suc l) 0 (λ e. omega (arith, e)))
 
 module _ (s : Bool) (v a x : ℕ) (st : StandsAt s v (2 ^ a) x) where
   pub stands-size : 0 < v → size x ≡ a + size v

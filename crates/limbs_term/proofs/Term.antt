@@ -1,5 +1,5 @@
 -- A term's words after its shift, and their complement.
-use mathlib.Core.Path.{_≡_, refl, sym, ap, _∙_}
+use mathlib.Core.Path.{_≡_, sym, ap, _∙_}
 use mathlib.Core.Bool.{Bool, true, false, cond}
 use Prim.Native.Nat.{ℕ, _+_, _-_, _*_, _%_, _^_, _<_, _≤_}
 use native.Mathlib.Nat.{add-mul, mul-assoc, add-comm, zero-add, mod-eq-of-lt}
@@ -10,7 +10,6 @@ use Rattle.limbs.specs.declared.word.Place.{Place}
 use Rattle.limbs.specs.Splits.{Splits}
 use Rattle.limbs.specs.Value.{term}
 use Rattle.limbs.proofs.Digits.{placed}
-use Rattle.limbs_term.specs.declared.Placed.{Placed}
 use Rattle.limbs_term.specs.Placed.{flip, Makes}
 
 -- shifted by the place in the word, a term has the words w₀, w₁ and w₂

@@ -1,8 +1,8 @@
 -- One turn of a pass: the window and the lost bit of the first i elements, with the part of one more.
 use mathlib.Core.Path.{_≡_, refl, sym, ap, ap₂, _∙_, subst}
-use mathlib.Core.Bool.{Bool, true, false, _&&_, cond}
+use mathlib.Core.Bool.{Bool, true, false, cond}
 use mathlib.Core.List.{List, [], _∷_, _++_, map}
-use Prim.Native.Nat.{ℕ, zero, suc, _+_, _-_, _*_, _/_, _%_, _^_, _≤_, _<_, max}
+use Prim.Native.Nat.{ℕ, _+_, _-_, _/_, _%_, _^_, _<_, max}
 use native.Mathlib.Nat.{add-zero, zero-add, zero-mul, add-assoc, add-comm, mod-eq-of-lt, zero-div, max-zero}
 use native.Mathlib.Numerals.{add-one}
 use native.Mathlib.Omega.{arith}
@@ -12,10 +12,9 @@ use lib.Pow.{pow-pos}
 use Rattle.limbs.specs.Value.{Words, value, moved}
 use Rattle.limbs.proofs.Words.{alike, value-lt}
 use Rattle.limbs.proofs.Step.{minus-is}
-use Rattle.totals_spec.specs.Basics.{total, greatest, keep, isSet}
+use Rattle.totals_spec.specs.Basics.{total, greatest, keep}
 use Rattle.totals_spec.specs.Format as spec
 use Rattle.totals_spec.specs.Settings as env
-use Rattle.totals_spec.specs.Decode as dec
 use Rattle.totals_spec.specs.Terms as terms
 use Rattle.totals_spec.specs.Chain.{residue, half, lookAt, lostEnd, lostOf, cutPlus, cutMinus}
 use Rattle.totals_spec.proofs.Window.{residue-zero, residue-plus, residue-minus, residue-cancel}

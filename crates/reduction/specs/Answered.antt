@@ -1,7 +1,7 @@
 -- The code's record as that of totals_spec, and a sum rounded once.
 use mathlib.Core.Path.{_≡_}
 use mathlib.Core.Bool.{Bool}
-use Prim.Native.Nat.{ℕ, _<_}
+use Prim.Native.Nat.{_<_}
 use Rattle.totals_spec.specs.Basics.{Signed}
 use Rattle.totals_spec.specs.Format as spec
 use Rattle.totals_spec.specs.Settings as env

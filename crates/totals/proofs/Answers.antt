@@ -1,9 +1,9 @@
 -- A total by its refusals: the tests that do not look at the elements, then the search for a stray bit, then the total itself.
 use mathlib.Core.Path.{_≡_, refl, sym, ap, _∙_, subst}
 use mathlib.Core.Logic.{_≢_}
-use mathlib.Core.Bool.{Bool, true, false, not, _&&_, _||_, cond}
+use mathlib.Core.Bool.{Bool, true, false, not, _&&_, _||_}
 use mathlib.Core.List.{List}
-use Prim.Native.Nat.{ℕ, _+_, _<_, _≤_}
+use Prim.Native.Nat.{ℕ, _<_, _≤_}
 use native.Mathlib.Omega.{arith}
 use lib.Dec.{leb, ltb, eqb}
 use lib.ListN.{length}
@@ -12,7 +12,7 @@ use Rattle.totals_spec.specs.Format.{Format, validFormat}
 use Rattle.totals_spec.specs.Settings.{Settings, validSettings, summandOf}
 use Rattle.totals_spec.specs.Bounds.{FormatBounds}
 use Rattle.totals_spec.specs.Totals.{Answer, limit, refuseIf, refused, answered, stray, firstIndex, pairs, sumRefusal, sumAccepted, sumAnswer, dotRefusal, dotPlace, dotAccepted, dotAnswer}
-use Rattle.totals_spec.proofs.Bits.{eqb-false}
+use borrow.Author.Tests.{ne-eqb}
 use Rattle.totals_spec.proofs.Valid.{format-bounds}
 use Rattle.totals_spec.proofs.Passes.{valid-of}
 use Rattle.totals.specs.Refusal.{sumNumbers, dotNumbers}
@@ -36,7 +36,7 @@ test false n r h k s = s
 
 module _ (r : ℕ → ℕ) (s : Tests r) (at : ℕ) (a : Answer) where
   stopped : r 0 ≢ 0 → (t : ℕ) → refused (r 0) 0 ≡ answered (r t) at a
-  stopped h t = rw (s .stops h t, eqb-false (r 0) 0 h, eqb-false (r 0) 7 (s .no-seven))
+  stopped h t = rw (s .stops h t, ne-eqb (r 0) 0 h, ne-eqb (r 0) 7 (s .no-seven))
 
   strayed : r 0 ≡ 0 → refused 7 at ≡ answered (r 7) at a
   strayed e = rw (s .passes e 7)

@@ -18,7 +18,8 @@ use Rattle.totals_spec.specs.Decode.{Unpacked, decode, operand}
 use Rattle.totals_spec.specs.Bounds.{FormatBounds}
 use Rattle.totals_spec.specs.Totals.{stray}
 use Rattle.totals_spec.specs.Pence.{refusedPence, penceOf, inRange, figureOf, penceAnswer}
-use Rattle.totals_spec.proofs.Bits.{pow-split, size-pos, ltb-true, ltb-false}
+use borrow.Author.Tests.{lt-ltb, le-ltb}
+use Rattle.totals_spec.proofs.Bits.{pow-split, size-pos}
 use Rattle.arithmetic.specs.Joined.{Bounded}
 use Rattle.arithmetic.proofs.Elements.{operand-bounded}
 use Rattle.totals.specs.Entered.{settingsFrom}
@@ -143,11 +144,11 @@ module _ (n : ℕ) (h : n < 2 ^ 63) where
 
 module _ (s : Bool) (n : ℕ) where
   pub beyond-range : 2 ^ 63 ≤ n → refusedPence 8 ≡ inRange s n
-  beyond-range h = rw (ltb-false h)
+  beyond-range h = rw (le-ltb _ _ h)
 
   pub within-range : (z : ℤ) → n < 2 ^ 63 → z ≡ cond s (negℤ (pos n)) (pos n) → record { figure = toZ w64 (ofZ w64 z); refusal = 0; place = 0 } ≡ inRange s n
   within-range z h e =
-      rw (ltb-true h)
+      rw (lt-ltb _ _ h)
       (ap (λ (x : ℤ). record { figure = x; refusal = 0; place = 0 }) (ap (λ (x : ℤ). toZ w64 (ofZ w64 x)) e ∙ toZ-ofZ w64 _ (signed-fits n h s)))
 
   -- a magnitude that the code holds at 2^63 is refused as the greater one is

@@ -1,18 +1,17 @@
 -- The search for an element with a stray bit: what a walk knows of the elements before i, and what it finds.
-use mathlib.Core.Path.{_≡_, refl, sym, ap, ap₂, _∙_, subst}
-use mathlib.Core.Bool.{Bool, true, false, not, _||_, cond, true≢false}
+use mathlib.Core.Path.{_≡_, refl, sym, ap, _∙_}
+use mathlib.Core.Bool.{Bool, true, false, _||_, cond, true≢false}
 use mathlib.Core.List.{List, [], _∷_}
 use Prim.Native.Nat.{ℕ, zero, suc, _+_, _-_, _*_, _/_, _^_, _≤_, _<_}
 use native.Mathlib.Nat.{not-suc-le-zero, le-of-suc-le-suc, div-eq-of-lt-le, suc-mul, add-mul}
 use native.Mathlib.Numerals.{add-one, sub-one}
 use native.Mathlib.Omega.{arith}
-use lib.Dec.{leb}
 use lib.ListN.{length, take, getD}
 use lib.Seq.{take-length}
 use lib.Pow.{pow-add, pow-pos}
 use Rattle.totals_spec.specs.Basics.{any}
 use Rattle.totals_spec.specs.Totals.{firstIndex}
-use Rattle.totals_spec.proofs.Bits.{leb-true, leb-false}
+use borrow.Author.Tests.{le-leb, lt-leb}
 use Rattle.totals_spec.proofs.Walk.{any-take}
 use Rattle.totals.specs.Stray.{strayAt}
 
@@ -54,10 +53,10 @@ module _ (t : ℕ → Bool) where
 
 -- a stray bit is one above the greatest encoding
 pub stray-is : (w m x : ℕ) → m + 1 ≡ 2 ^ w → m < x → strayAt w x ≡ true
-stray-is w m x e h = let k : 2 ^ w ≤ x = omega (arith, e) in leb-true k
+stray-is w m x e h = let k : 2 ^ w ≤ x = omega (arith, e) in le-leb _ _ k
 
 pub stray-not : (w m x : ℕ) → m + 1 ≡ 2 ^ w → x ≤ m → strayAt w x ≡ false
-stray-not w m x e h = let k : x < 2 ^ w = omega (arith, e) in leb-false k
+stray-not w m x e h = let k : x < 2 ^ w = omega (arith, e) in lt-leb _ _ k
 
 -- 2^64 − 1 without its lowest 64 − w bits
 pub ones-shifted : (w : ℕ) → w ≤ 64 → 18446744073709551615 / 2 ^ (64 - w) + 1 ≡ 2 ^ w

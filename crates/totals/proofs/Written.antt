@@ -1,17 +1,15 @@
 -- Three words laid one behind the other, and what a byte entry leaves behind: refusal 1, refusal 2, else what its record says.
-use mathlib.Core.Path.{_≡_, refl, sym, ap, _∙_, subst}
+use mathlib.Core.Path.{_≡_, refl, ap, _∙_, subst}
 use mathlib.Core.Logic.{_≢_}
-use mathlib.Core.Bool.{_||_}
 use mathlib.Core.List.{List, _++_}
 use Prim.Native.Nat.{ℕ, _+_, _*_, _%_, _<_, _≤_}
-use lib.Dec.{eqb}
 use lib.ListN.{length, drop}
 use lib.Seq.{drop-drop}
 use borrow.Author.Tests.{eq-eqb, ne-eqb, lt-ltb, le-ltb}
 use Rattle.totals_spec.specs.Format.{Format}
 use Rattle.totals_spec.specs.Settings.{Settings}
 use Rattle.totals_spec.specs.Totals.{Answer, sumAnswer, dotAnswer}
-use Rattle.totals_spec.specs.Bytes.{Entry, toBytes, valuesIn, written, entered, sumEntry, dotEntry}
+use Rattle.totals_spec.specs.Bytes.{toBytes, valuesIn, written, entered, sumEntry, dotEntry}
 use Rattle.values.specs.Laid.{laid}
 use Rattle.totals.specs.Entered.{Enters}
 

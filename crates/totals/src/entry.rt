@@ -5,7 +5,6 @@ use format::Format;
 use format::env::Settings;
 use reduction::total::Answer;
 use values::put_word;
-ghost use mathlib.Core.Path.{_≡_};
 ghost use Prim.Native.Nat.{_≤_, _<_};
 ghost use lib.ListN.{length};
 ghost use Rattle.totals_spec.specs.Bytes as bytes;

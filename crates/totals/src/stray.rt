@@ -2,7 +2,6 @@
 use values::word_at;
 ghost use mathlib.Core.Path.{_≡_};
 ghost use Prim.Native.Nat.{_+_, _^_, _<_, _≤_};
-ghost use lib.ListN.{length};
 ghost use Rattle.totals_spec.specs.Bytes.{valuesIn};
 ghost use Rattle.totals.specs.Stray.{FoundIn};
 

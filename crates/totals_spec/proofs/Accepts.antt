@@ -1,16 +1,15 @@
 -- What an accepted call has shown: that none of the refusals' conditions holds.
 use mathlib.Core.Path.{_≡_, sym}
-use mathlib.Core.Bool.{not, _&&_, _||_}
+use mathlib.Core.Bool.{not, _&&_}
 use mathlib.Core.List.{List}
 use Prim.Native.Nat.{ℕ, _≤_}
-use lib.Dec.{leb, ltb, eqb, leb→le, nltb→le}
+use lib.Dec.{leb, ltb, eqb, leb→le}
 use lib.ListN.{length}
-use Rattle.totals_spec.specs.Basics.{any}
+use borrow.Author.Tests.{ltb-false}
 use Rattle.totals_spec.specs.Format.{Format, validFormat}
 use Rattle.totals_spec.specs.Settings.{Settings, validSettings}
 use Rattle.totals_spec.specs.Bounds.{FormatBounds, SettingsBounds}
-use Rattle.totals_spec.specs.Totals.{limit, stray, sumRefusal, dotRefusal}
-use Rattle.totals_spec.proofs.Bits.{notT-of}
+use Rattle.totals_spec.specs.Totals.{limit, sumRefusal, dotRefusal}
 use Rattle.totals_spec.proofs.Valid.{and-left, and-right, format-bounds, settings-bounds}
 use Rattle.totals_spec.proofs.Passes.{valid-of}
 use Rattle.totals_spec.proofs.Order.{first-zero, dot-lengths}
@@ -32,7 +31,7 @@ sum-accepts f c u l e =
       format = format-bounds f (valid-of (validFormat f) 2 _ e);
       settings = settings-bounds f c (and-left (validSettings f c) (leb u 2) t);
       summand = leb→le u 2 (and-right (validSettings f c) (leb u 2) t);
-      few = nltb→le limit (length l) (notT-of (g .0));
+      few = ltb-false limit (length l) (g .0);
     }
 
 pub record DotAccepts (f : Format) (c : Settings) (xs ys : List ℕ) : Type 0 where
@@ -52,5 +51,5 @@ dot-accepts f c xs ys e =
       format = format-bounds f (valid-of (validFormat f) 2 _ e);
       settings = settings-bounds f c (valid-of (validSettings f c) 3 _ (a .1));
       same = sym (unfold dotRefusal in dot-lengths f c xs ys e);
-      few = nltb→le limit (length xs) (notT-of (h .0));
+      few = ltb-false limit (length xs) (h .0);
     }

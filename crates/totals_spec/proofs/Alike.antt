@@ -8,13 +8,11 @@ use mathlib.Core.Bool.{Bool, true, false, cond}
 use Prim.Native.Nat.{ℕ, _+_, _-_, _*_, _^_, _≤_, _<_}
 use native.Mathlib.Omega.{arith}
 use Rattle.totals_spec.specs.Basics.{Signed, difference}
-use Rattle.totals_spec.proofs.Bits.{ltb-true, ltb-false, eqb-false}
+use borrow.Author.Tests.{lt-ltb, le-ltb, ne-eqb}
 use Rattle.totals_spec.specs.Format.{Format}
 use Rattle.totals_spec.specs.Settings.{Settings, precisionOf}
-use Rattle.totals_spec.specs.Chain.{Side, below, on, above, Outcome, zeroSum, exactly, nearly, beside, unfinished}
 use Rattle.totals_spec.specs.Totals.{sumRounded}
 use Rattle.totals_spec.proofs.Same.{round-same}
-use Rattle.totals_spec.specs.Settled.{settled}
 
 -- ---- alike
 
@@ -39,7 +37,7 @@ pub alike-rounds : (f : Format) (c : Settings) (g : ℕ) (towards : Bool) (p : �
     → sumRounded f c g towards x ≡ sumRounded f c g towards y
 alike-rounds f c g towards p x y q (inl e) = ap (sumRounded f c g towards) e
 alike-rounds f c g towards p x y q (inr h) = unfold sumRounded in
-    rw (eqb-false (x .mag) 0 x-some, eqb-false (y .mag) 0 y-some, h .sign, h .x-is, h .y-is)
+    rw (ne-eqb (x .mag) 0 x-some, ne-eqb (y .mag) 0 y-some, h .sign, h .x-is, h .y-is)
     (round-same (h .j) (h .t) (h .a) (h .b) (h .a-pos) (h .a-lt) (h .b-pos) (h .b-lt) f c g (y .neg) p (h .big) q)
   where
     x-some : x .mag ≡ 0 → ⊥
@@ -52,14 +50,14 @@ alike-rounds f c g towards p x y q (inr h) = unfold sumRounded in
 
 pub diff-plus : (hi lo k : ℕ) → hi ≡ lo + k → difference hi lo ≡ record { neg = false; mag = k }
 unfolding difference
-diff-plus hi lo k e = λ i. record { neg = ltb-false {m = hi} {n = lo} (omega arith) i; mag = m i }
+diff-plus hi lo k e = λ i. record { neg = le-ltb hi lo (omega arith) i; mag = m i }
   where
     m : hi - lo + (lo - hi) ≡ k
     m = omega arith
 
 pub diff-minus : (hi lo k : ℕ) → hi ≡ lo + k → 0 < k → difference lo hi ≡ record { neg = true; mag = k }
 unfolding difference
-diff-minus hi lo k e h = λ i. record { neg = ltb-true {m = lo} {n = hi} (omega arith) i; mag = m i }
+diff-minus hi lo k e h = λ i. record { neg = lt-ltb lo hi (omega arith) i; mag = m i }
   where
     m : lo - hi + (hi - lo) ≡ k
     m = omega arith

@@ -1,13 +1,12 @@
 -- The limit on the passes for binary64: 4 in a sum or magnitude sum, 7 in a square sum or dot.
-use mathlib.Core.Path.{_≡_}
 use mathlib.Core.List.{List, [], _∷_}
 use Prim.Native.Nat.{ℕ, zero, suc, _+_, _-_, _*_, _/_, _≤_}
 use native.Mathlib.Nat.{le-trans}
 use native.Mathlib.Omega.{arith}
 use Rattle.totals_spec.specs.Format.{room}
-use Rattle.totals_spec.specs.Settings.{Settings, summandOf}
+use Rattle.totals_spec.specs.Settings.{summandOf}
 use Rattle.totals_spec.specs.Terms.{Term, topOf}
-use Rattle.totals_spec.specs.Totals.{sumTerms, sumAnswer, pairs, dotTerms, dotAnswer}
+use Rattle.totals_spec.specs.Totals.{sumTerms, pairs, dotTerms}
 use Rattle.totals_spec.specs.Limit.{bottomOf, ceilDiv, mostPasses}
 use Rattle.totals_spec.specs.Careers.{binary64}
 use Rattle.totals_spec.specs.Promises.{Binary64-sum-limit, Binary64-square-limit, Binary64-dot-limit}

@@ -1,57 +1,20 @@
 -- Facts about powers of two, bit lengths and lowest set bits that the theorems share.
 use mathlib.Core.Path.{_≡_, refl, sym, ap, _∙_, subst}
-use mathlib.Core.Bool.{Bool, true, false, not}
+use mathlib.Core.Bool.{Bool, true}
 use Prim.Native.Nat.{ℕ, zero, suc, _+_, _-_, _*_, _/_, _%_, _^_, _≤_, _<_}
 use native.Mathlib.Nat.{le-trans, le-refl, le-antisymm, lt-of-lt-of-le, lt-of-not-le, not-le-of-lt, mul-one, mul-assoc, mul-left-comm, one-mul, zero-mul, mul-le-mul-right, div-one, div-div-eq-div-mul, pow-succ', mul-mod-left}
 use native.Mathlib.Omega.{arith}
-use lib.Dec.{T, ltb, leb, eqb, ltb→lt, lt→ltb, leb→le, nleb→lt, eqb→eq}
+use lib.Dec.{T}
 use lib.Pow.{pow-add, pow-mono}
 use lib.Count.{trailingZeros, under}
 use lib.Ieee.{size}
 use lib.Ieee.Digits.{size-lt, size-reaches, size-le}
 use Rattle.totals_spec.specs.Limit.{lowBit}
 
--- ---- what a test that passed or failed says, as equations of Bools
-
-pub true-of : (b : Bool) → T b → b ≡ true
-true-of true t = refl
+-- ---- what a test that passed says
 
 pub T-of : {b : Bool} → b ≡ true → T b
 T-of e = subst T (sym e) tt
-
-pub notT-of : {b : Bool} → b ≡ false → T (not b)
-notT-of e = subst (λ x. T (not x)) (sym e) tt
-
-pub ltb-true : {m n : ℕ} → m < n → ltb m n ≡ true
-ltb-true {m} {n} h = true-of (ltb m n) (lt→ltb m n h)
-
-pub ltb-false : {m n : ℕ} → n ≤ m → ltb m n ≡ false
-ltb-false {m} {n} h = go (ltb m n) (ltb→lt m n)
-  where
-    go : (b : Bool) → (T b → m < n) → b ≡ false
-    go true k = absurd (not-le-of-lt (k tt) h)
-    go false k = refl
-
-pub leb-true : {m n : ℕ} → m ≤ n → leb m n ≡ true
-leb-true {m} {n} h = go (leb m n) (nleb→lt m n)
-  where
-    go : (b : Bool) → (T (not b) → n < m) → b ≡ true
-    go true k = refl
-    go false k = absurd (not-le-of-lt (k tt) h)
-
-pub leb-false : {m n : ℕ} → n < m → leb m n ≡ false
-leb-false {m} {n} h = ltb-suc (leb m n) (leb→le m n)
-  where
-    ltb-suc : (b : Bool) → (T b → m ≤ n) → b ≡ false
-    ltb-suc true k = absurd (not-le-of-lt h (k tt))
-    ltb-suc false k = refl
-
-pub eqb-false : (m n : ℕ) → (m ≡ n → ⊥) → eqb m n ≡ false
-eqb-false m n h = go (eqb m n) (eqb→eq m n)
-  where
-    go : (b : Bool) → (T b → m ≡ n) → b ≡ false
-    go true k = absurd (h (k tt))
-    go false k = refl
 
 -- ---- powers
 

@@ -1,25 +1,21 @@
 -- The records of `Totals.antt` as a program makes them: the chain alone, run once, gives passes, last edge, and the number that is rounded.
 use mathlib.Core.Path.{_≡_, _∙_}
-use mathlib.Core.Bool.{Bool, true, false, not, _&&_, cond}
+use mathlib.Core.Bool.{Bool, not, _&&_}
 use mathlib.Core.List.{List, map}
 use Prim.Native.Nat.{ℕ, _≤_}
 use native.Mathlib.Nat.{le-trans, le-of-eq}
 use lib.ListN.{length, length-map}
-use lib.Dec.{leb, ltb, eqb, nltb→le, lit≤}
-use Rattle.totals_spec.specs.Basics.{any}
-use Rattle.totals_spec.proofs.Bits.{notT-of}
+use lib.Dec.{leb, ltb, eqb, lit≤}
+use borrow.Author.Tests.{ltb-false}
 use Rattle.totals_spec.specs.Format.{Format, validFormat, digits, grid}
 use Rattle.totals_spec.specs.Settings.{Settings, validSettings, precisionOf, summandOf}
-use Rattle.totals_spec.specs.Decode.{zeroOf}
 use Rattle.totals_spec.specs.Terms.{Term, item, pairItem, termOf, terms}
 use Rattle.totals_spec.proofs.Good.{AllGood, good-terms, good-pairs, picked-length}
-use Rattle.totals_spec.specs.Chain.{chain}
 use Rattle.totals_spec.proofs.Margin.{terms-max}
-use Rattle.totals_spec.specs.Settled.{settled}
 use Rattle.totals_spec.proofs.Exact.{chain-rounds}
 use Rattle.totals_spec.proofs.Passes.{le-64, valid-of}
 use Rattle.totals_spec.proofs.Valid.{and-left, digits-le, precision-le}
-use Rattle.totals_spec.specs.Totals.{Answer, special, sumRounded, reported, towardsNegative, finiteTotal, limit, sumRefusal, dotRefusal, pairs}
+use Rattle.totals_spec.specs.Totals.{towardsNegative, finiteTotal, limit, sumRefusal, dotRefusal, pairs}
 use Rattle.totals_spec.proofs.Order.{first-zero, dot-lengths, pairs-length}
 use Rattle.totals_spec.specs.Settled.{chainTotal}
 
@@ -43,7 +39,7 @@ sum-by-chain f c u l sub products minus e =
     let g = first-zero (ltb limit (length l)) 5 _ (b .1) in
     finite-by-chain f c sub products minus (terms (map (item f c (summandOf u)) l)) (le-64 (digits-le f (valid-of (validFormat f) 2 _ e)))
     (precision-le f c (and-left (validSettings f c) (leb u 2) (valid-of (validSettings f c && leb u 2) 3 _ (a .1)))) (good-terms f c (summandOf u) l)
-    (many _ (le-trans (picked-length termOf (map (item f c (summandOf u)) l)) (le-trans (le-of-eq (length-map l (item f c (summandOf u)))) (nltb→le limit (length l) (notT-of (g .0))))))
+    (many _ (le-trans (picked-length termOf (map (item f c (summandOf u)) l)) (le-trans (le-of-eq (length-map l (item f c (summandOf u)))) (ltb-false limit (length l) (g .0)))))
 
 pub dot-by-chain : (f : Format) (c : Settings) (xs ys : List ℕ) (sub products minus : Bool) → dotRefusal f c xs ys ≡ 0
     → chainTotal f c sub products minus (terms (map (pairItem f c) (pairs xs ys))) ≡ finiteTotal f c sub products minus (terms (map (pairItem f c) (pairs xs ys)))
@@ -55,7 +51,7 @@ dot-by-chain f c xs ys sub products minus e =
     let h = first-zero (ltb limit (length xs)) 5 _ (g .1) in
     finite-by-chain f c sub products minus (terms (map (pairItem f c) (pairs xs ys))) (le-64 (digits-le f (valid-of (validFormat f) 2 _ e)))
     (precision-le f c (valid-of (validSettings f c) 3 _ (a .1))) (good-pairs f c (pairs xs ys))
-    (many _ (le-trans (picked-length termOf (map (pairItem f c) (pairs xs ys))) (le-trans (le-of-eq (length-map (pairs xs ys) (pairItem f c) ∙ pairs-length xs ys (lengths e))) (nltb→le limit (length xs) (notT-of (h .0))))))
+    (many _ (le-trans (picked-length termOf (map (pairItem f c) (pairs xs ys))) (le-trans (le-of-eq (length-map (pairs xs ys) (pairItem f c) ∙ pairs-length xs ys (lengths e))) (ltb-false limit (length xs) (h .0)))))
   where
     lengths : dotRefusal f c xs ys ≡ 0 → length xs ≡ length ys
     lengths = dot-lengths f c xs ys

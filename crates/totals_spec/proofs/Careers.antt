@@ -6,10 +6,10 @@ use lib.ListN.{replicate, length-replicate}
 use Rattle.totals_spec.specs.Basics.{any}
 use Rattle.totals_spec.specs.Format.{validFormat}
 use Rattle.totals_spec.specs.Settings.{validSettings}
-use Rattle.totals_spec.specs.Totals.{stray, limit, refused, sumRefusal, sumAnswer}
+use Rattle.totals_spec.specs.Totals.{stray, limit, sumRefusal, sumAnswer}
 use Rattle.totals_spec.specs.Careers.{binary64, rounded}
 use Rattle.totals_spec.specs.Promises.{Zeros-accepted, Zeros-refused}
-use Rattle.totals_spec.proofs.Bits.{ltb-true, ltb-false}
+use borrow.Author.Tests.{lt-ltb, le-ltb}
 use Rattle.totals_spec.proofs.Refused.{sum-refusal}
 
 no-stray : (n : ℕ) → any (stray binary64) (replicate n 0) ≡ false
@@ -19,11 +19,11 @@ no-stray (suc n) = no-stray n
 
 few-zeros : (n : ℕ) → n ≤ limit → sumRefusal binary64 (rounded 0) 0 (replicate n 0) ≡ 0
 unfolding sumRefusal binary64 rounded validFormat validSettings
-few-zeros n h = rw (length-replicate {A = ℕ} n 0, ltb-false h, no-stray n)
+few-zeros n h = rw (length-replicate {A = ℕ} n 0, le-ltb _ _ h, no-stray n)
 
 many-zeros : (n : ℕ) → limit < n → sumRefusal binary64 (rounded 0) 0 (replicate n 0) ≡ 6
 unfolding sumRefusal binary64 rounded validFormat validSettings
-many-zeros n h = rw (length-replicate {A = ℕ} n 0, ltb-true h)
+many-zeros n h = rw (length-replicate {A = ℕ} n 0, lt-ltb _ _ h)
 
 pub zeros-accepted : Zeros-accepted
 zeros-accepted n h = rw (sum-refusal binary64 (rounded 0) 0 (replicate n 0)) (few-zeros n h)

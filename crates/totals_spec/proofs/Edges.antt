@@ -1,7 +1,7 @@
 -- `room` is enough: no edge of a chain lies below the unit, so each difference by which an edge is defined (`specs/Chain.antt`) is a true one, and
 -- the edge that a record reports is document 01's.
 use mathlib.Core.List.{List, [], _∷_}
-use Prim.Native.Nat.{ℕ, suc, _+_, _≤_, _<_, max}
+use Prim.Native.Nat.{ℕ, _+_, _≤_, _<_, max}
 use native.Mathlib.Nat.{le-trans, le-max-left, not-suc-le-zero}
 use native.Mathlib.Omega.{arith}
 use lib.ListN.{length}

@@ -1,19 +1,18 @@
 -- PROMISE 2, of finite values: no NaN, no infinity and no invalid product decides, so the record is that of the exact sum rounded once.
-use mathlib.Core.Path.{_≡_, refl, sym, ap, ap₂, _∙_, subst}
-use mathlib.Core.Bool.{Bool, true, false, not, _&&_, _||_, cond}
+use mathlib.Core.Path.{_≡_, refl, sym, ap, ap₂, _∙_}
+use mathlib.Core.Bool.{Bool, true, false, _&&_, _||_, cond}
 use mathlib.Core.List.{List, [], _∷_, map}
-use Prim.Native.Nat.{ℕ, suc, _<_}
+use Prim.Native.Nat.{ℕ, _<_}
 use native.Mathlib.Nat.{not-suc-le-zero, suc-inj, suc-ne-zero}
-use native.Mathlib.Omega.{arith}
 use lib.ListN.{length}
-use lib.Dec.{T, eqb}
+use lib.Dec.{T}
 use Rattle.totals_spec.specs.Basics.{any, isSet}
 use Rattle.totals_spec.specs.Format.{Format, digits, grid}
 use Rattle.totals_spec.specs.Settings.{Settings, Summand, value, magnitude, square, summandOf}
 use Rattle.totals_spec.specs.Decode.{Unpacked, zeroOf, finite, infinity, nan, decode, operand, isSubnormal, signBit}
 use Rattle.totals_spec.specs.Terms.{Item, nanItem, invalidItem, infinite, zeroItem, term, Term, item, itemOf, pairItem, pairOf, isNanItem, isInvalid, isInfinite, terms, exactSum}
 use Rattle.totals_spec.specs.Chain.{chain}
-use Rattle.totals_spec.specs.Totals.{Answer, sumRounded, reported, towardsNegative, finiteTotal, withoutNan, accepted, answered, isValue, isSquare, sumRefusal, sumTerms, sumAccepted, sumAnswer, pairs, dotRefusal, dotTerms, dotAccepted, dotAnswer}
+use Rattle.totals_spec.specs.Totals.{sumRounded, reported, towardsNegative, finiteTotal, withoutNan, accepted, sumAccepted, sumAnswer, pairs, dotAccepted, dotAnswer}
 use Rattle.totals_spec.specs.Promises.{isNumber, AllFinite, Sum-exact, Dot-exact}
 use Rattle.totals_spec.proofs.Order.{dot-lengths}
 

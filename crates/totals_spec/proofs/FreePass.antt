@@ -1,7 +1,7 @@
 -- A pass with no boundary ends at what rounds as the exact sum does, or goes on within the invariant.
 use mathlib.Core.Path.{_≡_, refl, sym, ap, _∙_, subst}
 use mathlib.Core.Logic.{_⊎_, inl, inr}
-use mathlib.Core.Bool.{Bool, true, false, not, _&&_, cond, true≢false}
+use mathlib.Core.Bool.{Bool, true, false, not, _&&_, cond}
 use Prim.Native.Nat.{ℕ, zero, suc, _+_, _-_, _*_, _/_, _%_, _^_, _≤_, _<_}
 use native.Mathlib.Nat.{mul-le-mul-right, suc-mul, add-zero, le-trans, pow-succ', le-div-iff-mul-le, not-le-of-lt, mul-pos, pos-of-ne-zero, mod-lt}
 use native.Mathlib.Omega.{arith}
@@ -9,8 +9,8 @@ use lib.Dec.{T, leb, ltb, eqb, leb→le, nleb→lt, ltb→lt, nltb→le, eqb→e
 use lib.Pow.{pow-add, pow-pos, pow-mono}
 use lib.Ieee.{size}
 use lib.Ieee.Digits.{size-lt, size-reaches}
+use borrow.Author.Tests.{eqb-false}
 use Rattle.totals_spec.specs.Basics.{difference}
-use Rattle.totals_spec.proofs.Bits.{true-of}
 use Rattle.totals_spec.specs.Format.{room}
 use Rattle.totals_spec.specs.Chain.{noBoundary, boundary, zeroSum, exactly, nearly, done, next, nextEdge, finalOrBoundary, decide}
 use Rattle.totals_spec.proofs.Alike.{diff-plus, oriented-is}
@@ -43,7 +43,7 @@ module _ (p w P N a c RA RC : ℕ) (hp : p ≤ 64) (eP : P ≡ a * 2 ^ w + RA) (
       go false h g = inl (sym (oriented-is s (cond s N P) (cond s P N) (k * 2 ^ w) plain some) ∙ oriented-sum s P N)
         where
           some : 0 < k * 2 ^ w
-          some = mul-pos (pos-of-ne-zero (λ z. true≢false (sym (true-of (eqb k 0) (subst (λ (x : ℕ). T (eqb x 0)) (sym z) tt)) ∙ g))) (pow-pos w)
+          some = mul-pos (pos-of-ne-zero (eqb-false k 0 g)) (pow-pos w)
 
   -- inexact and far from a boundary
   module _ (R : RA + RC ≤ terms-max * 2 ^ w) (hw : room < w) (n : ℕ) (kn : size k ≡ n) (big : p + 70 ≤ n) where

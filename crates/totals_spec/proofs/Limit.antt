@@ -12,14 +12,15 @@ use lib.Ieee.{size}
 use lib.Ieee.Digits.{size-le, size-lt}
 use lib.Pow.{pow-mono}
 use Rattle.totals_spec.specs.Basics.{Signed, greatest, least}
-use Rattle.totals_spec.proofs.Bits.{low-divides, multiple-mod, multiple-ge, ltb-false}
+use borrow.Author.Tests.{le-ltb}
+use Rattle.totals_spec.proofs.Bits.{low-divides, multiple-mod, multiple-ge}
 use Rattle.totals_spec.specs.Limit.{lowBit}
 use Rattle.totals_spec.specs.Format.{room}
 use Rattle.totals_spec.specs.Terms.{Term, topOf}
 use Rattle.totals_spec.proofs.Good.{AllGood}
 use Rattle.totals_spec.specs.Limit.{lowOf, bottomOf, ceilDiv}
 use Rattle.totals_spec.specs.Promises.{Finished}
-use Rattle.totals_spec.specs.Chain.{Look, lostEnd, lostOf, lookAt, Boundary, noBoundary, boundary, Outcome, zeroSum, exactly, nearly, beside, unfinished, Step, done, next, nextEdge, finalOrBoundary, decide, sumOf, sideOf, pass, follow, run, chain}
+use Rattle.totals_spec.specs.Chain.{Look, lostEnd, lostOf, lookAt, Boundary, noBoundary, boundary, zeroSum, exactly, nearly, beside, Step, done, next, nextEdge, finalOrBoundary, decide, sumOf, sideOf, pass, follow, run, chain}
 
 -- ---- the lost bit lies below the edge, and nothing is lost at B or below it
 
@@ -34,7 +35,7 @@ lost-le w m = go (ltb m (2 ^ w)) (ltb→lt m (2 ^ w)) (eqb (m % 2 ^ w) 0)
 
 lost-none : (w m q j : ℕ) → m ≡ q * 2 ^ j → w ≤ j → 0 < m → lostEnd w m ≡ 0
 unfolding lostEnd
-lost-none w m q j e h k = rw (ltb-false (multiple-ge m q j w e h k), multiple-mod m q j w e h)
+lost-none w m q j e h k = rw (le-ltb _ _ (multiple-ge m q j w e h k), multiple-mod m q j w e h)
 
 pub losses-le : (w : ℕ) (ts : List Term) → greatest (lostOf w) ts ≤ w
 losses-le w [] = omega arith

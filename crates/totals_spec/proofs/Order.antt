@@ -8,7 +8,6 @@ use lib.Dec.{T, eqb, eqb→eq, eqb-refl}
 use native.Mathlib.Nat.{suc-inj, suc-ne-zero}
 use Rattle.totals_spec.specs.Basics.{any, isSet}
 use Rattle.totals_spec.proofs.Perm.{total-perm, greatest-perm, any-perm, length-perm, picked-perm, map-perm, perm-of-counts}
-use Rattle.totals_spec.specs.Rearranged.{AsOften}
 use Rattle.totals_spec.specs.Format.{Format, validFormat, digits}
 use Rattle.totals_spec.specs.Settings.{Settings, validSettings, Summand, value, magnitude, square, summandOf}
 use Rattle.totals_spec.specs.Decode.{fieldOf, signBit, Unpacked, zeroOf, finite, infinity, nan, decode, isFinite, isNan, isSubnormal, operand}

@@ -1,6 +1,6 @@
 -- THE PROMISES, proved. Each theorem has the name of its statement in `specs/Promises.antt`, in small letters; its proof stands in the file that its
 -- part names.
-use mathlib.Core.Path.{_≡_, sym, ap, _∙_}
+use mathlib.Core.Path.{sym, ap, _∙_}
 use Prim.Native.Nat.{ℕ, _%_, _^_}
 use native.Mathlib.Nat.{mul-mod-left}
 use Rattle.totals_spec.specs.Settings.{summandOf}

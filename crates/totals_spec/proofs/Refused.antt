@@ -1,12 +1,12 @@
 -- PROMISE 1: the refusal number, the record of a refused call, the place of number 7, and the buffer of a refused byte entry.
-use borrow.Author.Tests.{not-false, eq-eqb}
+use borrow.Author.Tests.{not-false, eq-eqb, ne-eqb, ltb-false, eqb-true}
 use mathlib.Core.Path.{_≡_, refl, sym, ap, _∙_, subst}
 use mathlib.Core.Logic.{_≢_}
 use mathlib.Core.Bool.{Bool, true, false, not, _&&_, _||_, cond}
 use mathlib.Core.List.{List, map}
 use Prim.Native.Nat.{ℕ, _+_, _*_, _<_, _≤_}
 use native.Mathlib.Omega.{arith}
-use lib.Dec.{T, eqb, eqb→eq, leb, ltb, nltb→le}
+use lib.Dec.{T, eqb, eqb→eq, leb, ltb}
 use lib.ListN.{length}
 use Rattle.totals_spec.specs.Basics.{any}
 use Rattle.totals_spec.specs.Format.{Format, validFormat}
@@ -18,7 +18,7 @@ use Rattle.totals_spec.specs.Totals.{Answer, refused, special, reported,
 use Rattle.totals_spec.specs.Bytes.{Entry, valuesIn, uneven, short, entered, written, sumEntry, dotEntry}
 use Rattle.totals_spec.specs.Places.{StrayAt, StrayBy, DotStrayAt}
 use Rattle.totals_spec.specs.Promises.{Sum-refusal, Dot-refusal, Sum-refused, Dot-refused, Sum-place, Dot-place, Sum-entry-refused, Dot-entry-refused}
-use Rattle.totals_spec.proofs.Bits.{eqb-false, T-of, notT-of}
+use Rattle.totals_spec.proofs.Bits.{T-of}
 use Rattle.totals_spec.proofs.Accepted.{accepted-has}
 use Rattle.totals_spec.proofs.Places.{first-stray, dot-stray}
 
@@ -49,7 +49,7 @@ dot-unrefused f c l =
 
 module _ (n at : ℕ) (a : Answer) where
   answered-refused : n ≢ 0 → answered n at a ≡ refused n (cond (eqb n 7) at 0)
-  answered-refused h = rw (eqb-false n 0 h)
+  answered-refused h = rw (ne-eqb n 0 h)
 
   answered-number : Unrefused a → (answered n at a) .refusal ≡ n
   answered-number h = go (eqb n 0) (eqb→eq n 0)
@@ -62,7 +62,7 @@ module _ (n at : ℕ) (a : Answer) where
   answered-whole h = answered-refused h ∙ ap (refused n) (sym (ap (λ (x : Answer). x .place) (answered-refused h)))
 
   no-place : Unrefused a → n ≢ 7 → (answered n at a) .place ≡ 0
-  no-place h k = rw (eqb-false n 7 k) (go (eqb n 0))
+  no-place h k = rw (ne-eqb n 7 k) (go (eqb n 0))
     where
       go : (b : Bool) → (cond b a (refused n 0)) .place ≡ 0
       go true = h .place
@@ -92,7 +92,7 @@ sum-seven f c u l e =
     let a = passed (not (validFormat f)) 3 _ (λ q. omega (arith, q)) e in
     let b = passed (not (validSettings f c && leb u 2)) 4 _ (λ q. omega (arith, q)) (a .1) in
     let d = passed (ltb limit (length l)) 6 _ (λ q. omega (arith, q)) (b .1) in
-    record { few = nltb→le limit (length l) (notT-of (d .0)); some = seven (any (stray f) l) (d .1) }
+    record { few = ltb-false limit (length l) (d .0); some = seven (any (stray f) l) (d .1) }
 
 record DotSeven (f : Format) (xs ys : List ℕ) : Type 0 where
   pub same : length xs ≡ length ys
@@ -107,8 +107,8 @@ dot-seven f c xs ys e =
     let g = passed (not (eqb (length xs) (length ys))) 5 _ (λ q. omega (arith, q)) (b .1) in
     let d = passed (ltb limit (length xs)) 6 _ (λ q. omega (arith, q)) (g .1) in
     record {
-      same = eqb→eq (length xs) (length ys) (T-of (not-false (eqb (length xs) (length ys)) (g .0)));
-      few = nltb→le limit (length xs) (notT-of (d .0));
+      same = eqb-true (length xs) (length ys) (not-false (eqb (length xs) (length ys)) (g .0));
+      few = ltb-false limit (length xs) (d .0);
       some = seven (any (stray f) xs || any (stray f) ys) (d .1);
     }
 

@@ -11,7 +11,8 @@ use lib.Pow.{pow-add, pow-pos, pow-mono, shr-shr, mod-pow-add}
 use lib.Ieee.{size}
 use lib.Ieee.Digits.{size-lt, size-reaches}
 use Rattle.totals_spec.specs.Basics.{isSet}
-use Rattle.totals_spec.proofs.Bits.{size-is, size-pos, size-top, ltb-true, ltb-false, eqb-false}
+use borrow.Author.Tests.{lt-ltb, le-ltb, ne-eqb}
+use Rattle.totals_spec.proofs.Bits.{size-is, size-pos, size-top}
 use Rattle.totals_spec.specs.Format.{Format, eminAt}
 use Rattle.totals_spec.specs.Settings.{Settings, Rounding, roundingOf, precisionOf}
 use Rattle.totals_spec.specs.Round.{belowHalf, aboveHalf, compared, dropped, roundedAt, tinySum, lastPlace, roundTo, round}
@@ -21,8 +22,8 @@ pub ltb-size : (x k : ℕ) → ltb x (2 ^ k) ≡ leb (size x) k
 ltb-size x k = go (leb (size x) k) (leb→le (size x) k) (nleb→lt (size x) k)
   where
     go : (b : Bool) → (T b → size x ≤ k) → (T (not b) → k < size x) → ltb x (2 ^ k) ≡ b
-    go true h g = ltb-true (lt-of-lt-of-le (size-lt x) (pow-mono (h tt)))
-    go false h g = ltb-false (size-reaches x k (g tt))
+    go true h g = lt-ltb _ _ (lt-of-lt-of-le (size-lt x) (pow-mono (h tt)))
+    go false h g = le-ltb _ _ (size-reaches x k (g tt))
 
 -- ---- a magnitude x = j × 2^t + e, 0 < e < 2^t
 
@@ -81,14 +82,14 @@ module _ (j t e : ℕ) (e0 : 0 < e) (e1 : e < 2 ^ t) where
 
       go : (b : Bool) → (T b → j % 2 ^ suc v < 2 ^ v) → (T (not b) → 2 ^ v ≤ j % 2 ^ suc v)
           → compared (j % 2 ^ suc v * 2 ^ t + e) (2 ^ (t + suc v)) ≡ cond b belowHalf aboveHalf
-      go true h g = rw (eqb-false _ 0 some, ltb-true low)
+      go true h g = rw (ne-eqb _ 0 some, lt-ltb _ _ low)
         where
           fit : suc (j % 2 ^ suc v) * 2 ^ t ≤ 2 ^ v * 2 ^ t
           fit = mul-le-mul-right (2 ^ t) (h tt)
 
           low : (j % 2 ^ suc v * 2 ^ t + e) + (j % 2 ^ suc v * 2 ^ t + e) < 2 ^ (t + suc v)
           low = omega (arith, fit, whole, suc-mul (j % 2 ^ suc v) (2 ^ t))
-      go false h g = rw (eqb-false _ 0 some, ltb-false high, eqb-false _ _ off)
+      go false h g = rw (ne-eqb _ 0 some, le-ltb _ _ high, ne-eqb _ _ off)
         where
           fit : 2 ^ v * 2 ^ t ≤ j % 2 ^ suc v * 2 ^ t
           fit = mul-le-mul-right (2 ^ t) (g tt)

@@ -13,11 +13,12 @@ use lib.Pow.{pow-pos, pow-mono}
 use lib.Ieee.{size}
 use lib.Ieee.Digits.{size-lt, size-le}
 use Rattle.totals_spec.specs.Basics.{Signed, difference, total, greatest}
-use Rattle.totals_spec.proofs.Bits.{pow-split, multiple-mod, ltb-true, ltb-false, leb-false}
+use borrow.Author.Tests.{lt-ltb, le-ltb, lt-leb}
+use Rattle.totals_spec.proofs.Bits.{pow-split, multiple-mod}
 use Rattle.totals_spec.specs.Format.{room}
 use Rattle.totals_spec.specs.Terms.{Term, plusSum, minusSum}
 use Rattle.totals_spec.proofs.Good.{AllGood}
-use Rattle.totals_spec.specs.Chain.{lostEnd, lostOf, cutPlus, cutMinus, lookAt, Boundary, noBoundary, boundary, boundaryPlus, boundaryMinus, next, nextEdge, decide, sumOf, pass}
+use Rattle.totals_spec.specs.Chain.{lostEnd, lostOf, cutPlus, cutMinus, lookAt, Boundary, noBoundary, boundary, boundaryPlus, boundaryMinus, next, decide, sumOf, pass}
 use Rattle.totals_spec.proofs.Limit.{fair-look}
 use Rattle.totals_spec.proofs.Margin.{terms-max}
 use Rattle.totals_spec.proofs.Invariant.{Placed, Inv}
@@ -51,11 +52,11 @@ kept v w m L h l d e = go (ltb m (2 ^ w)) (ltb→lt m (2 ^ w)) (nltb→le m (2 ^
         → lostEnd w m ≡ cond b (size m) (cond z 0 w) → Kept v w m
     go true p q z r k f = record {
       part = div-eq-of-lt (under k) ∙ sym (zero-mul (2 ^ (w - v))) ∙ ap (λ (x : ℕ). x * 2 ^ (w - v)) (sym (div-eq-of-lt (p tt)));
-      lost = ap (λ (b : Bool). cond b (size m) (cond (eqb (m % 2 ^ v) 0) 0 v)) (ltb-true (under k)) ∙ sym f;
+      lost = ap (λ (b : Bool). cond b (size m) (cond (eqb (m % 2 ^ v) 0) 0 v)) (lt-ltb _ _ (under k)) ∙ sym f;
     }
     go false p q true r k f = record {
       part = finer m v w h (r tt);
-      lost = ap₂ (λ (b z : Bool). cond b (size m) (cond z 0 v)) (ltb-false (le-trans (pow-mono h) (q tt))) none ∙ sym f;
+      lost = ap₂ (λ (b z : Bool). cond b (size m) (cond z 0 v)) (le-ltb _ _ (le-trans (pow-mono h) (q tt))) none ∙ sym f;
     }
       where
         multiple : m ≡ m / 2 ^ w * 2 ^ w
@@ -138,12 +139,12 @@ module _ (p : ℕ) (ts : List Term) (hp : p ≤ 64) (good : AllGood ts) (len : l
   decide-empty : (b : Boundary) (w lost : ℕ) (x : Signed) (n : ℕ) → n ≡ 0 → 0 < lost → lost + 63 < w → decide p b w lost x n ≡ next b (w - 766)
   unfolding decide
   decide-empty noBoundary w zero x n e k h = absurd (not-le-of-lt k (le-refl 0))
-  decide-empty noBoundary w (suc lost) x n e k h = rw (leb-false {m = p + 70} {n = n} (omega arith)) (ap (λ (y : ℕ). next noBoundary (y - 766)) top)
+  decide-empty noBoundary w (suc lost) x n e k h = rw (lt-leb (p + 70) n (omega arith)) (ap (λ (y : ℕ). next noBoundary (y - 766)) top)
     where
       top : max (w + n) (suc lost + 64) ≡ w
       top = omega arith
   decide-empty (boundary s m q) w zero x n e k h = absurd (not-le-of-lt k (le-refl 0))
-  decide-empty (boundary s m q) w (suc lost) x n e k h = rw (leb-false {m = 66} {n = n} (omega arith)) (ap (λ (y : ℕ). next (boundary s m q) (y - 766)) top)
+  decide-empty (boundary s m q) w (suc lost) x n e k h = rw (lt-leb 66 n (omega arith)) (ap (λ (y : ℕ). next (boundary s m q) (y - 766)) top)
     where
       top : max (w + n) (suc lost + 64) ≡ w
       top = omega arith

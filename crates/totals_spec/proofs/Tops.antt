@@ -1,10 +1,9 @@
 -- How high and how low the terms of a format reach: T is at most the format's greatest position, and B at least that of its least bit.
-use mathlib.Core.Path.{_≡_, refl, sym, ap, _∙_, subst}
+use mathlib.Core.Path.{_≡_, sym, ap, _∙_}
 use mathlib.Core.List.{List, [], _∷_, map}
-use Prim.Native.Nat.{ℕ, zero, suc, _+_, _-_, _*_, _/_, _%_, _^_, _≤_, _<_, zero-le}
-use native.Mathlib.Nat.{le-refl, lt-of-not-le, lt-of-lt-of-le, not-le-of-lt, le-of-suc-le-suc, max-le, le-max-left, le-trans, mul-assoc, mul-comm, mul-div-cancel, mul-mod-left, pow-succ'}
+use Prim.Native.Nat.{ℕ, suc, _+_, _-_, _*_, _/_, _%_, _^_, _≤_, _<_, zero-le}
+use native.Mathlib.Nat.{le-refl, lt-of-not-le, lt-of-lt-of-le, not-le-of-lt, le-of-suc-le-suc, max-le, le-max-left, le-trans, mul-assoc, mul-div-cancel, mul-mod-left, pow-succ'}
 use native.Mathlib.Omega.{arith}
-use lib.ListN.{length}
 use lib.Pow.{pow-pos, pow-mono}
 use lib.Ieee.{size}
 use lib.Ieee.Digits.{size-le}

@@ -6,7 +6,7 @@ use native.Mathlib.Nat.{div-add-mod', mod-lt, mod-eq-of-lt, mul-add-mod-self-rig
 use native.Mathlib.Omega.{arith}
 use lib.Dec.{T, ltb, ltb→lt, nltb→le}
 use Rattle.totals_spec.specs.Basics.{difference}
-use Rattle.totals_spec.proofs.Bits.{ltb-true, ltb-false}
+use borrow.Author.Tests.{lt-ltb, le-ltb}
 use Rattle.totals_spec.specs.Chain.{wrapped}
 
 -- with W = 2h: a less b, where b ≤ a, and where a < b
@@ -54,5 +54,5 @@ module _ (h a b : ℕ) (h0 : 0 < h) where
       over k = omega arith
 
       go : (t : Bool) → (T t → a < b) → (T (not t) → b ≤ a) → wrapped h a b ≡ record { neg = t; mag = a - b + (b - a) }
-      go true k g = rw (down (k tt) l, ltb-false (over (k tt))) (λ i. record { neg = true; mag = back (k tt) i })
-      go false k g = rw (up (g tt) u, ltb-true (under (g tt))) (λ i. record { neg = false; mag = plain (g tt) i })
+      go true k g = rw (down (k tt) l, le-ltb _ _ (over (k tt))) (λ i. record { neg = true; mag = back (k tt) i })
+      go false k g = rw (up (g tt) u, lt-ltb _ _ (under (g tt))) (λ i. record { neg = false; mag = plain (g tt) i })

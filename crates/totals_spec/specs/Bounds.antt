@@ -1,5 +1,5 @@
 -- What the tests of refusals 3 and 4 say where they pass, as inequalities.
-use Prim.Native.Nat.{ℕ, _+_, _≤_}
+use Prim.Native.Nat.{_+_, _≤_}
 use Rattle.totals_spec.specs.Format.{Format, digits}
 use Rattle.totals_spec.specs.Settings.{Settings}
 

@@ -8,7 +8,7 @@
 --   C8, C9            T = 1023: 321
 --   C10               T = −1074: −1776
 --   C11               T = −600 − 600 + 1: −1901
-use Prim.Native.Nat.{ℕ, _+_, _*_}
+use Prim.Native.Nat.{ℕ, _+_}
 use mathlib.Core.Bool.{Bool, true, false, _&&_}
 use mathlib.Core.List.{List, [], _∷_, _++_}
 use lib.Dec.{T, eqb}

@@ -4,8 +4,8 @@ use mathlib.Core.Path.{_≡_}
 use mathlib.Core.Logic.{_≢_}
 use mathlib.Core.Bool.{Bool, true, false, _||_}
 use mathlib.Core.List.{List, [], _∷_}
-use Prim.Native.Nat.{ℕ, _+_, _-_, _*_, _/_, _%_, _^_, _≤_, _<_, max}
-use lib.ListN.{length, replicate, take, drop}
+use Prim.Native.Nat.{ℕ, _+_, _-_, _/_, _%_, _^_, _≤_, _<_, max}
+use lib.ListN.{length, replicate}
 use lib.Dec.{T, eqb}
 use Rattle.totals_spec.specs.Basics.{any}
 use Rattle.totals_spec.specs.Format.{Format, validFormat, digits, grid}
@@ -13,11 +13,11 @@ use Rattle.totals_spec.specs.Settings.{Settings, summandOf}
 use Rattle.totals_spec.specs.Decode.{Unpacked, zeroOf, finite, infinity, nan, decode, isSubnormal}
 use Rattle.totals_spec.specs.Terms.{Term, exactSum, topOf}
 use Rattle.totals_spec.specs.Chain.{Outcome, zeroSum, exactly, nearly, beside, unfinished, lookAt, chain}
-use Rattle.totals_spec.specs.Totals.{Answer, refused, sumRounded, reported, towardsNegative, finiteTotal, isSquare, sumRefusal, sumTerms, sumAnswer, dotRefusal, pairs, dotTerms, dotAnswer}
-use Rattle.totals_spec.specs.Bytes.{valuesIn, written, uneven, short, sumEntry, dotEntry}
+use Rattle.totals_spec.specs.Totals.{refused, sumRounded, reported, towardsNegative, finiteTotal, isSquare, sumRefusal, sumTerms, sumAnswer, dotRefusal, pairs, dotTerms, dotAnswer}
+use Rattle.totals_spec.specs.Bytes.{valuesIn, uneven, sumEntry, dotEntry}
 use Rattle.totals_spec.specs.Rearranged.{AsOften, samePair, holdsNan}
-use Rattle.totals_spec.specs.Limit.{lowBit, bottomOf, mostPasses}
-use Rattle.totals_spec.specs.Settled.{settled, chainTotal}
+use Rattle.totals_spec.specs.Limit.{lowBit, mostPasses}
+use Rattle.totals_spec.specs.Settled.{chainTotal}
 use Rattle.totals_spec.specs.Places.{StrayAt, DotStrayAt}
 use Rattle.totals_spec.specs.Careers.{binary64, rounded, careers, margins, allAgree, refusals, entryExample, penceExamples, programRuns, programAgrees}
 

@@ -10,13 +10,14 @@ use lib.Ieee.{size}
 use lib.Ieee.Digits.{size-lt, size-reaches}
 use Rattle.limbs.proofs.Length.{size-above, size-zero}
 use Rattle.limbs_window.proofs.Below.{same-zero}
-use Rattle.totals_spec.proofs.Bits.{pow-split, multiple-mod, multiple-ge, ltb-true, ltb-false}
+use borrow.Author.Tests.{lt-ltb, le-ltb}
+use Rattle.totals_spec.proofs.Bits.{pow-split, multiple-mod, multiple-ge}
 use Rattle.totals_spec.specs.Chain.{lostEnd}
 
 -- what is no term loses nothing
 pub lost-of-zero : (w : ℕ) → lostEnd w 0 ≡ 0
 unfolding lostEnd
-lost-of-zero w = rw (ltb-true (pow-pos w)) size-zero
+lost-of-zero w = rw (lt-ltb _ _ (pow-pos w)) size-zero
 
 no-bits : (x : ℕ) → size x ≡ 0 → x ≡ 0
 no-bits x e = let h : x < 1 = subst (λ (n : ℕ). x < 2 ^ n) e (size-lt x) in omega arith
@@ -36,7 +37,7 @@ module _ (x s w : ℕ) where
       go zero e = sym (ap (lostEnd w) (ap (λ (n : ℕ). n * 2 ^ s) e ∙ zero-mul (2 ^ s)) ∙ lost-of-zero w)
       go (suc y) e =
           let pos : 0 < x = omega arith in
-          rw (ltb-false (multiple-ge (x * 2 ^ s) x s w refl h (mul-pos pos (pow-pos s))), multiple-mod (x * 2 ^ s) x s w refl h)
+          rw (le-ltb _ _ (multiple-ge (x * 2 ^ s) x s w refl h (mul-pos pos (pow-pos s))), multiple-mod (x * 2 ^ s) x s w refl h)
 
   -- ---- wholly below
   under : s + size x ≤ w → x * 2 ^ s < 2 ^ w
@@ -50,7 +51,7 @@ module _ (x s w : ℕ) where
 
   pub below-lost : s + size x ≤ w → (size x ≡ 0 → ⊥) → s + size x ≡ lostEnd w (x * 2 ^ s)
   unfolding lostEnd
-  below-lost h z = rw (ltb-true (under h)) (sym (ap size (sym (add-zero (x * 2 ^ s))) ∙ size-above x 0 s pos (pow-pos s)))
+  below-lost h z = rw (lt-ltb _ _ (under h)) (sym (ap size (sym (add-zero (x * 2 ^ s))) ∙ size-above x 0 s pos (pow-pos s)))
     where
       pos : 0 < x
       pos = go x refl
@@ -78,7 +79,7 @@ module _ (x s w : ℕ) where
 
   across : s ≤ w → w < s + size x → (b : Bool) → eqb (x % 2 ^ (w - s)) 0 ≡ b → cond b 0 w ≡ lostEnd w (x * 2 ^ s)
   unfolding lostEnd
-  across h k b e = rw (ltb-false (reaches h k), rest h) (ap (λ (z : Bool). cond z 0 w) (sym e ∙ same-zero (x % 2 ^ (w - s)) (2 ^ s) (pow-pos s)))
+  across h k b e = rw (le-ltb _ _ (reaches h k), rest h) (ap (λ (z : Bool). cond z 0 w) (sym e ∙ same-zero (x % 2 ^ (w - s)) (2 ^ s) (pow-pos s)))
 
   pub across-lost : s ≤ w → w < s + size x → (a : Bool) → a ≡ not (eqb (x % 2 ^ (w - s)) 0) → cond a w 0 ≡ lostEnd w (x * 2 ^ s)
   across-lost h k a e = go (eqb (x % 2 ^ (w - s)) 0) refl e

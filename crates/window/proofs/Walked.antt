@@ -1,13 +1,13 @@
 -- The loop of passes: the code's chain holds what `Reached` and `Kept` of totals_spec say, from one pass to the next, and where it is done it is the
 -- chain of the definitions.
 use mathlib.Core.Path.{_≡_, refl, sym, ap, ap₂, _∙_, subst}
-use mathlib.Core.Bool.{Bool, true, false, not, cond}
+use mathlib.Core.Bool.{Bool, true, false, cond}
 use mathlib.Core.List.{List}
-use Prim.Native.Nat.{ℕ, zero, suc, _+_, _-_, _*_, _/_, _^_, _≤_, _<_}
-use native.Mathlib.Nat.{add-zero, le-trans}
+use Prim.Native.Nat.{ℕ, _+_, _-_, _*_, _/_, _^_, _≤_, _<_}
+use native.Mathlib.Nat.{add-zero}
 use native.Mathlib.Numerals.{add-one}
 use native.Mathlib.Omega.{arith}
-use lib.Dec.{T, eqb, ltb, eqb→eq, ltb→lt, nltb→le}
+use lib.Dec.{T, eqb, ltb, eqb→eq, ltb→lt}
 use lib.ListN.{length}
 use lib.Ieee.{size}
 use lib.Ieee.Digits.{size-lt}
@@ -26,12 +26,11 @@ use Rattle.totals_spec.proofs.Skip.{Empty, Skipped, pass-empty, skip}
 use Rattle.window.specs.declared.Pass.{Pass}
 use Rattle.window.specs.declared.Chain.{Chain}
 use Rattle.window.specs.declared.Step.{Step}
-use Rattle.window.specs.declared.ExactSum.{ExactSum}
 use Rattle.window.specs.declared.Outcome.{Outcome}
 use Rattle.window.specs.declared.Outcome.the-variants as out
 use Rattle.window.specs.declared.Verdict.{Verdict}
 use Rattle.window.specs.declared.Verdict.the-variants.{Done, Next}
-use Rattle.window.specs.Joined.{Passed, boundOf, outcomeBy, outcomeOf, runOf, counted, Ready, Follows, totalOf, widthOf, Steps, Deep, EndsWith, Ended}
+use Rattle.window.specs.Joined.{Passed, boundOf, outcomeBy, runOf, counted, Ready, Follows, totalOf, widthOf, Steps, Deep, EndsWith, Ended}
 
 -- S without the boundary is S
 total-seen : (p : ℕ) (ts : List terms.Term) (b : chain.Boundary) (w : ℕ) (q : Pass) → Inv p (terms.plusSum ts) (terms.minusSum ts) b w → Passed ts w q

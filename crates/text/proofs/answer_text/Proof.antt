@@ -1,5 +1,5 @@
 -- `text::answer_text` meets its contract.
-use mathlib.Core.Path.{_≡_, sym, _∙_, subst}
+use mathlib.Core.Path.{sym, _∙_, subst}
 use Prim.Native.Nat.{ℕ}
 use native.Mathlib.Omega.{arith}
 use lib.ListN.{replicate, length-replicate}

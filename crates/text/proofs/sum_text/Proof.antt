@@ -1,5 +1,5 @@
 -- `text::sum_text` meets its contract.
-use mathlib.Core.Path.{_≡_, ap, _∙_, subst}
+use mathlib.Core.Path.{ap, _∙_, subst}
 use borrow.Author.Needs.{needs}
 use Rattle.totals_spec.specs.Totals.{Answer}
 use Rattle.totals_spec.specs.Pence.{Pence}

@@ -1,10 +1,7 @@
 -- `totals::entry::totals_dot` meets its contract.
 use mathlib.Core.Path.{sym, subst}
-use Prim.Native.Nat.{ℕ, _<_}
-use Rattle.totals_spec.specs.Totals.{Answer}
 use Rattle.totals_spec.proofs.Refused.{Small, dot-small}
 use Rattle.reduction.specs.Answered.{answerOf}
-use Rattle.totals.specs.Entered.{formatFrom, settingsFrom}
 use Rattle.totals.proofs.Written.{dot-uneven-left, dot-uneven-right, dot-short, dot-enters}
 use borrow.Author.Needs.{needs}
 use Rattle.totals.proofs.entry.totals_dot.Statement.{statement}

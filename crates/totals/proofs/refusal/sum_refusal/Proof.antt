@@ -1,8 +1,8 @@
 -- `totals::refusal::sum_refusal` meets its contract.
 use mathlib.Core.Path.{sym, _∙_}
-use borrow.Author.Tests.{not-true, not-false}
+use borrow.Author.Tests.{not-true, not-false, le-leb, lt-leb, lt-ltb, le-ltb}
 use Rattle.totals_spec.proofs.Valid.{format-bounds}
-use Rattle.totals_spec.proofs.Bits.{T-of, leb-true, leb-false, ltb-true, ltb-false}
+use Rattle.totals_spec.proofs.Bits.{T-of}
 use Rattle.totals.specs.Refusal.{sumNumbers}
 use borrow.Author.Needs.{needs}
 use Rattle.totals.proofs.refusal.sum_refusal.Statement.{statement}
@@ -24,15 +24,15 @@ returns-2 c = rw (sym (c .before .before .before .valid-format .ensures) ∙ not
 
 returns-3 : tie.Need-returns-3
 unfolding sumNumbers
-returns-3 c = rw (sym (c .before .before .before .before .valid-format .ensures) ∙ not-false _ (c .before .before .before .if1 .left), sym (c .before .before .valid-settings .ensures) ∙ not-false _ (c .before .if2 .left), leb-false (c .if3 .taken))
+returns-3 c = rw (sym (c .before .before .before .before .valid-format .ensures) ∙ not-false _ (c .before .before .before .if1 .left), sym (c .before .before .valid-settings .ensures) ∙ not-false _ (c .before .if2 .left), lt-leb _ _ (c .if3 .taken))
 
 returns-4 : tie.Need-returns-4
 unfolding sumNumbers
-returns-4 c = rw (sym (c .before .before .before .before .before .valid-format .ensures) ∙ not-false _ (c .before .before .before .before .if1 .left), sym (c .before .before .before .valid-settings .ensures) ∙ not-false _ (c .before .before .if2 .left), leb-true (c .before .if3 .left), ltb-true (c .if4 .taken))
+returns-4 c = rw (sym (c .before .before .before .before .before .valid-format .ensures) ∙ not-false _ (c .before .before .before .before .if1 .left), sym (c .before .before .before .valid-settings .ensures) ∙ not-false _ (c .before .before .if2 .left), le-leb _ _ (c .before .if3 .left), lt-ltb _ _ (c .if4 .taken))
 
 returns-5 : tie.Need-returns-5
 unfolding sumNumbers
-returns-5 c = rw (sym (c .before .before .before .before .before .valid-format .ensures) ∙ not-false _ (c .before .before .before .before .if1 .left), sym (c .before .before .before .valid-settings .ensures) ∙ not-false _ (c .before .before .if2 .left), leb-true (c .before .if3 .left), ltb-false (c .if4 .left))
+returns-5 c = rw (sym (c .before .before .before .before .before .valid-format .ensures) ∙ not-false _ (c .before .before .before .before .if1 .left), sym (c .before .before .before .valid-settings .ensures) ∙ not-false _ (c .before .before .if2 .left), le-leb _ _ (c .before .if3 .left), le-ltb _ _ (c .if4 .left))
 
 pub sum-refusal-spec : {M : Type 1} → statement M
 sum-refusal-spec =
