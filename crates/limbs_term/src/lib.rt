@@ -136,7 +136,7 @@ fn runs_on(at: usize, carry: u64, out: u64) -> bool
     out != carry
 }
 
-// The same for a term of one word: it reaches two words of the window at most.
+// A term of one word, in place as by `add_part`: it reaches two words of the window at most.
 pub fn add_single(r: &mut [u64; 12], low: u64, up: usize, negative: bool)
     requires { ⌜ Words 12 (now r) ⌝ }
     ensures { λ _. ⌜ Words 12 (now (r .exit)) ⌝ }
