@@ -11,6 +11,7 @@ use Rattle.totals_spec.specs.Format as spec
 use Rattle.totals_spec.specs.Settings as env
 use Rattle.totals_spec.specs.Decode as dec
 use Rattle.totals_spec.specs.Nan as nans
+use Rattle.totals_spec.proofs.Order.{or-split}
 use Rattle.binary.specs.Joined.{nanOf}
 use Rattle.format.specs.Fits.{Encodes}
 use Rattle.binary.specs.declared.nan.Nan.{Nan}
@@ -44,10 +45,6 @@ if-some v e = ap (λ b. cond b v (dec.zeroOf false)) e
 
 pub none-signaling : (v : dec.Unpacked) → dec.isNan v ≡ false → dec.isSignaling v ≡ false
 none-signaling v e = sym (if-signaling v) ∙ ap dec.isSignaling (if-none v e)
-
-neither : (a b : Bool) → (a || b) ≡ false → (a ≡ false) × (b ≡ false)
-neither true b e = absurd (true≢false e)
-neither false b e = (refl, e)
 
 -- what stands in the code's Nan
 module _ (n : Nan) where
@@ -142,7 +139,7 @@ module _ (r : env.Propagation) where
 
   pub chosen-none : (x : dec.Unpacked) (l : List dec.Unpacked) → any dec.isNan l ≡ false → ifNan (nans.chosenOf r x l) ≡ ifNan x
   chosen-none x [] e = refl
-  chosen-none x (v ∷ l) e = let a = neither (dec.isNan v) (any dec.isNan l) e in chosen-none (nans.choose r x v) l (a .1) ∙ choose-none r x v (a .0)
+  chosen-none x (v ∷ l) e = let a = or-split (dec.isNan v) (any dec.isNan l) e in chosen-none (nans.choose r x v) l (a .1) ∙ choose-none r x v (a .0)
 
   pub chosen-encodes : (f : spec.Format) (x : dec.Unpacked) (l : List dec.Unpacked) → Encodes f (ifNan x) → AllEncode f l → Encodes f (ifNan (nans.chosenOf r x l))
   chosen-encodes f x [] h k = h

@@ -1,7 +1,7 @@
 -- The scan of a list, and of the pairs of a dot, with one element more: what `take` and `take_pair` give, and a turn of a walk. Nothing here is about
 -- words: the list may lie anywhere.
 use mathlib.Core.Path.{_≡_, refl, sym, ap, ap₂, _∙_}
-use mathlib.Core.Bool.{Bool, false, _||_, or-false, or-assoc}
+use mathlib.Core.Bool.{Bool, _||_, or-false, or-assoc}
 use mathlib.Core.List.{List, [], _∷_, _++_, map, map-append}
 use Prim.Native.Nat.{ℕ, _+_, _≤_, _<_, max}
 use native.Mathlib.Omega.{arith}
@@ -106,9 +106,6 @@ pub operands-more : (f : spec.Format) (l : List (ℕ × ℕ)) (x : ℕ × ℕ) �
 operands-more f [] x = refl
 operands-more f (y ∷ l) x = ap (λ r. dec.decode f (y .0) ∷ dec.decode f (y .1) ∷ r) (operands-more f l x)
 
-neither : (a b : Bool) → a ≡ false → b ≡ false → (a || b) ≡ false
-neither a b p q = rw (p, q)
-
 module _ (f : spec.Format) (c : env.Settings) where
   abbrev pub dot : Reading f (ℕ × ℕ)
   dot = record {
@@ -143,9 +140,9 @@ module _ (f : spec.Format) (c : env.Settings) where
   pair-plainly x y n z h =
       let a = h z c in
       record {
-        subnormal = neither (dec.isSubnormal f x) (dec.isSubnormal f y) (a .0) (a .1);
-        signaling = neither (dec.isSignaling (dec.decode f x)) (dec.isSignaling (dec.decode f y)) (none-signaling (dec.decode f x) (a .2)) (none-signaling (dec.decode f y) (a .3));
-        nan = neither (dec.isNan (dec.decode f x)) (dec.isNan (dec.decode f y) || false) (a .2) (or-false (dec.isNan (dec.decode f y)) ∙ a .3);
+        subnormal = ap₂ _||_ (a .0) (a .1);
+        signaling = ap₂ _||_ (none-signaling (dec.decode f x) (a .2)) (none-signaling (dec.decode f y) (a .3));
+        nan = ap₂ _||_ (a .2) (or-false (dec.isNan (dec.decode f y)) ∙ a .3);
         item = a .4;
       }
 

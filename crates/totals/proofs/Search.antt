@@ -1,6 +1,6 @@
 -- The search for an element with a stray bit: what a walk knows of the elements before i, and what it finds.
-use mathlib.Core.Path.{_≡_, refl, sym, ap, _∙_}
-use mathlib.Core.Bool.{Bool, true, false, _||_, cond, true≢false}
+use mathlib.Core.Path.{_≡_, refl, sym, ap, ap₂, _∙_}
+use mathlib.Core.Bool.{Bool, true, false, _||_, cond}
 use mathlib.Core.List.{List, [], _∷_}
 use Prim.Native.Nat.{ℕ, zero, suc, _+_, _-_, _*_, _/_, _^_, _≤_, _<_}
 use native.Mathlib.Nat.{not-suc-le-zero, le-of-suc-le-suc, div-eq-of-lt-le, suc-mul, add-mul}
@@ -13,23 +13,13 @@ use Rattle.totals_spec.specs.Basics.{any}
 use Rattle.totals_spec.specs.Totals.{firstIndex}
 use borrow.Author.Tests.{le-leb, lt-leb}
 use Rattle.totals_spec.proofs.Walk.{any-take}
+use Rattle.totals_spec.proofs.Order.{or-split}
 use Rattle.totals.specs.Stray.{strayAt}
-
-or-false : (a b : Bool) → a ≡ false → b ≡ false → (a || b) ≡ false
-or-false a b p q = rw (p, q)
-
-left-false : (a b : Bool) → (a || b) ≡ false → a ≡ false
-left-false true b e = e
-left-false false b e = refl
-
-right-false : (a b : Bool) → (a || b) ≡ false → b ≡ false
-right-false true b e = absurd (true≢false e)
-right-false false b e = e
 
 module _ (t : ℕ → Bool) where
   -- none of the first i + 1
   pub none-next : (l : List ℕ) (i x : ℕ) → i < length l → x ≡ getD l i 0 → any t (take i l) ≡ false → t x ≡ false → any t (take (i + 1) l) ≡ false
-  none-next l i x h e p q = ap (λ (n : ℕ). any t (take n l)) (add-one i) ∙ any-take t l i 0 h ∙ or-false _ _ p (ap t (sym e) ∙ q)
+  none-next l i x h e p q = ap (λ (n : ℕ). any t (take n l)) (add-one i) ∙ any-take t l i 0 h ∙ ap₂ _||_ p (ap t (sym e) ∙ q)
 
   -- none at all
   pub none-all : (l : List ℕ) (i : ℕ) → i ≡ length l → any t (take i l) ≡ false → any t l ≡ false
@@ -39,17 +29,17 @@ module _ (t : ℕ → Bool) where
   pub first-some : (l : List ℕ) (i : ℕ) → i < length l → any t (take i l) ≡ false → t (getD l i 0) ≡ true → any t l ≡ true
   first-some [] i h p q = absurd (not-suc-le-zero h)
   first-some (x ∷ l) zero h p q = ap (λ (b : Bool). b || any t l) q
-  first-some (x ∷ l) (suc i) h p q = rw (left-false (t x) _ p) (first-some l i (le-of-suc-le-suc h) (right-false (t x) _ p) q)
+  first-some (x ∷ l) (suc i) h p q = rw (or-split (t x) _ p .0) (first-some l i (le-of-suc-le-suc h) (or-split (t x) _ p .1) q)
 
   pub first-index : (l : List ℕ) (i : ℕ) → i < length l → any t (take i l) ≡ false → t (getD l i 0) ≡ true → firstIndex t l ≡ i
   first-index [] i h p q = absurd (not-suc-le-zero h)
   first-index (x ∷ l) zero h p q = ap (λ (b : Bool). cond b 0 (suc (firstIndex t l))) q
-  first-index (x ∷ l) (suc i) h p q = rw (left-false (t x) _ p) (ap suc (first-index l i (le-of-suc-le-suc h) (right-false (t x) _ p) q))
+  first-index (x ∷ l) (suc i) h p q = rw (or-split (t x) _ p .0) (ap suc (first-index l i (le-of-suc-le-suc h) (or-split (t x) _ p .1) q))
 
   -- no element has what every number below b lacks
   pub none-below : (b : ℕ) (l : List ℕ) → ((x : ℕ) → x < b → t x ≡ false) → ((k : ℕ) → getD l k 0 < b) → any t l ≡ false
   none-below b [] h f = refl
-  none-below b (x ∷ l) h f = or-false _ _ (h x (f 0)) (none-below b l h (λ k. f (suc k)))
+  none-below b (x ∷ l) h f = ap₂ _||_ (h x (f 0)) (none-below b l h (λ k. f (suc k)))
 
 -- a stray bit is one above the greatest encoding
 pub stray-is : (w m x : ℕ) → m + 1 ≡ 2 ^ w → m < x → strayAt w x ≡ true

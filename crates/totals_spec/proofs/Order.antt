@@ -131,7 +131,7 @@ items-nan f c u (b ∷ l) = ap₂ _||_ (item-nan f c u b) (items-nan f c u l)
 neither : (a b r : Bool) → a ≡ false → b ≡ false → r ≡ false → (a || b || r) ≡ false
 neither a b r p q e = rw (p, q, e)
 
-or-split : (a b : Bool) → (a || b) ≡ false → (a ≡ false) × (b ≡ false)
+pub or-split : (a b : Bool) → (a || b) ≡ false → (a ≡ false) × (b ≡ false)
 or-split true b e = absurd (true≢false e)
 or-split false b e = (refl, e)
 
