@@ -160,6 +160,10 @@ plain-size f x h =
     size-is (2 ^ spec.fractionBits f + dec.fractionOf f x) (spec.fractionBits f) (omega (arith, mod-lt x (pow-pos (spec.fractionBits f)), pow-suc 2 (spec.fractionBits f))) (omega arith)
     ∙ omega (arith, h .w-ge)
 
+-- and so has the least of them
+pub least-size : (f : spec.Format) → FormatBounds f → size (2 ^ spec.fractionBits f) ≡ spec.digits f
+least-size f h = size-is (2 ^ spec.fractionBits f) (spec.fractionBits f) (omega (arith, pow-pos (spec.fractionBits f), pow-suc 2 (spec.fractionBits f))) (omega arith) ∙ omega (arith, h .w-ge)
+
 -- ---- the position of a normal number, by its field
 
 pub above-some : (base n : ℕ) → 0 < n → aboveBase base n ≡ n + base

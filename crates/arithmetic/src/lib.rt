@@ -5,7 +5,6 @@ use binary::is_plain;
 use binary::operand;
 use binary::sign_of;
 use format::Format;
-use format::digits;
 use format::env::Settings;
 use format::fraction_bits;
 use format::power;
@@ -82,7 +81,7 @@ fn summand_sign(u: u64, negative: bool) -> bool
 fn summand_term(u: u64, negative: bool, k: u64, m: u64) -> Term
     requires { ⌜ k < 268435456 ⌝ }
     ensures { λ r. ⌜ StandsFor r (terms.itemOf (env.summandOf u) (dec.finite negative k m)) ⌝ }
-    ensures { λ r. ⌜ (u < 2 → (r .high ≡ 0) × (r .low ≡ m)) ⌝ }
+    ensures { λ r. ⌜ (u < 2 → r .high ≡ 0) ⌝ }
 {
     if u >= 2 {
         return product(false, k, m, k, m);
@@ -107,6 +106,7 @@ fn plain_significand(f: Format, b: u64) -> u64
 pub fn looked_term(f: Format, c: Settings, u: u64, b: u64) -> Term
     requires { ⌜ FormatBounds (formatOf f) ⌝ }
     ensures { λ r. ⌜ StandsFor r (terms.item (formatOf f) (settingsOf c) (env.summandOf u) b) ⌝ }
+    ensures { λ r. ⌜ (u < 2 → r .high ≡ 0) ⌝ }
 {
     let o = operand(f, c, b);
     let v = o.value;
@@ -121,11 +121,11 @@ pub fn looked_term(f: Format, c: Settings, u: u64, b: u64) -> Term
     summand_term(u, negative, shift, significand)
 }
 
-// The term of a normal number. Where it is not squared it has one word, of p digits.
+// The term of a normal number.
 pub fn plain_term(f: Format, u: u64, b: u64) -> Term
     requires { ⌜ FormatBounds (formatOf f) × (0 < dec.fieldOf (formatOf f) b) ⌝ }
     ensures { λ r. ⌜ StandsFor r (terms.itemOf (env.summandOf u) (plainNumber (formatOf f) b)) ⌝ }
-    ensures { λ r. ⌜ (u < 2 → (r .high ≡ 0) × (bitLength (r .low) ≡ spec.digits (formatOf f))) ⌝ }
+    ensures { λ r. ⌜ (u < 2 → r .high ≡ 0) ⌝ }
 {
     summand_term(
         u,
@@ -228,6 +228,14 @@ pub fn plain_fields(f: Format, x: u64, y: u64) -> u64
     field_of(f, x) + field_of(f, y)
 }
 
+// The bit length of every normal number's significand, that of the least one.
+fn normal_length(f: Format) -> u64
+    requires { ⌜ FormatBounds (formatOf f) ⌝ }
+    ensures { λ r. ⌜ r ≡ spec.digits (formatOf f) ⌝ }
+{
+    word::bit_length(power(fraction_bits(f))) as u64
+}
+
 // The position that counts for T of plainly normal pairs, from the greatest sum of fields; 0 where there are none.
 pub fn plain_pair_top(f: Format, fields: u64) -> u64
     requires { ⌜ FormatBounds (formatOf f) × (fields < 536870912) ⌝ }
@@ -236,7 +244,7 @@ pub fn plain_pair_top(f: Format, fields: u64) -> u64
     if fields == 0 {
         return 0;
     }
-    fields + 2 * digits(f) + 1021
+    fields + 2 * normal_length(f) + 1021
 }
 
 // The same of elements, from the greatest field, by the summand: a square is a pair of an element with itself.
@@ -250,7 +258,7 @@ pub fn plain_top(f: Format, u: u64, field: u64) -> u64
     if field == 0 {
         return 0;
     }
-    field + digits(f) + 1022
+    field + normal_length(f) + 1022
 }
 
 // What an operand is in a sum, by the summand.

@@ -1,2 +1,3 @@
-pub mod Term
 pub mod Stored
+pub mod Term
+pub mod Within

@@ -2,8 +2,8 @@
 use mathlib.Core.Path.{_≡_, refl, sym, ap, _∙_}
 use mathlib.Core.Bool.{Bool, true, false}
 use mathlib.Core.List.{List}
-use Prim.Native.Nat.{ℕ, _+_, _-_, _*_, _^_, _<_, _≤_}
-use native.Mathlib.Nat.{sub-add-cancel, zero-add, zero-mul, one-mul, mul-assoc}
+use Prim.Native.Nat.{ℕ, _+_, _-_, _*_, _%_, _^_, _<_, _≤_}
+use native.Mathlib.Nat.{sub-add-cancel, zero-add, zero-mul, one-mul, add-mod-mod, mod-mod}
 use native.Mathlib.Omega.{arith}
 use borrow.Author.Tests.{eqb-true, eqb-false}
 use lib.Dec.{eqb}
@@ -11,11 +11,11 @@ use lib.ListN.{getD, set}
 use lib.Seq.{getD-set-other}
 use lib.Pow.{pow-pos, pow-add}
 use Rattle.limbs.specs.declared.word.Sum.{Sum}
-use Rattle.limbs.specs.Value.{Words, value, moved, term}
+use Rattle.limbs.specs.Value.{Words, value, moved}
 use Rattle.limbs.proofs.Words.{words-set, inside, value-lt}
-use Rattle.limbs.proofs.Step.{put, put-last, added, far, none, minus-is}
+use Rattle.limbs.proofs.Step.{put, put-last, added, far, none, minus-is, wrapped}
 use Rattle.limbs_term.specs.declared.Placed.{Placed}
-use Rattle.limbs_term.specs.Placed.{flip, sum, Makes}
+use Rattle.limbs_term.specs.Placed.{flip, sum, Makes, Settles}
 
 -- ---- numbers
 
@@ -28,6 +28,10 @@ no-more c w e f = omega arith
 
 whole-word : (c w : ℕ) → c ≡ 1 → w ≡ 18446744073709551615 → c + w ≡ 2 ^ 64
 whole-word c w e f = omega arith
+
+-- what `add_word` says
+abbrev Adds : ℕ → ℕ → ℕ → Sum → Type 0
+Adds a b c r = (r .word + r .carry * 2 ^ 64 ≡ a + b + c) × (r .carry ≤ 1)
 
 -- ---- the first two words, and the third
 
@@ -44,7 +48,7 @@ module _ (l : List ℕ) (w : Words 12 l) (p : Placed) (h : p .at < 11) (x y : Su
       (ey ∙ ap (λ (n : ℕ). n + p .w1 + x .carry) (sym (getD-set-other l (p .at) (p .at + 1) (x .word) 0 (omega arith))))
 
   -- at the word 10 the third word lies past the window's end
-  pub at-end : (neg : Bool) (t : ℕ) → p .at ≡ 10 → Makes neg p t → y .carry ≤ 1 → p .w2 < 2 ^ 64
+  at-end : (neg : Bool) (t : ℕ) → p .at ≡ 10 → Makes neg p t → y .carry ≤ 1 → p .w2 < 2 ^ 64
       → Words 12 (set (set l (p .at) (x .word)) (p .at + 1) (y .word)) × (value (set (set l (p .at) (x .word)) (p .at + 1) (y .word)) ≡ moved neg (value l) t)
   at-end neg t e f c g = (two-words, go neg f)
     where
@@ -74,7 +78,7 @@ module _ (l : List ℕ) (w : Words 12 l) (p : Placed) (h : p .at < 11) (x y : Su
           ap (λ (n : ℕ). value (set (set l (p .at) (x .word)) (p .at + 1) (y .word)) + n)
           (one-mul _ ∙ ap (λ (n : ℕ). 2 ^ n) (omega arith) ∙ pow-add 2 64 (64 * (p .at + 2)) ∙ sym (ap (λ (n : ℕ). n * 2 ^ (64 * (p .at + 2))) whole)) ∙ two
 
-  pub single : (neg : Bool) (t : ℕ) → Makes neg p t → p .w2 ≡ flip neg 0 → y .carry ≤ 1 → p .w2 < 2 ^ 64 → (p .at < 10 → y .carry ≡ p .carry)
+  single : (neg : Bool) (t : ℕ) → Makes neg p t → p .w2 ≡ flip neg 0 → y .carry ≤ 1 → p .w2 < 2 ^ 64 → (p .at < 10 → y .carry ≡ p .carry)
       → Words 12 (set (set l (p .at) (x .word)) (p .at + 1) (y .word)) × (value (set (set l (p .at) (x .word)) (p .at + 1) (y .word)) ≡ moved neg (value l) t)
   single neg t f g c s e = go (eqb (p .at) 10) refl
     where
@@ -97,7 +101,7 @@ module _ (l : List ℕ) (w : Words 12 l) (p : Placed) (h : p .at < 11) (x y : Su
         unread = getD-set-other (set l (p .at) (x .word)) (p .at + 1) (p .at + 2) (y .word) 0 (omega arith) ∙ getD-set-other l (p .at) (p .at + 2) (x .word) 0 (omega arith)
 
     -- the carry out is the carry in: nothing is left to do
-    pub even : (neg : Bool) (t : ℕ) → Makes neg p t → z .carry ≡ p .carry
+    even : (neg : Bool) (t : ℕ) → Makes neg p t → z .carry ≡ p .carry
         → Words 12 (set (set (set l (p .at) (x .word)) (p .at + 1) (y .word)) (p .at + 2) (z .word))
         × (value (set (set (set l (p .at) (x .word)) (p .at + 1) (y .word)) (p .at + 2) (z .word)) ≡ moved neg (value l) t)
     even neg t f e = (three-words, go neg f)
@@ -109,15 +113,59 @@ module _ (l : List ℕ) (w : Words 12 l) (p : Placed) (h : p .at < 11) (x y : Su
             (left-over _ (value l) (sum p) (2 ^ (64 * (p .at + 3))) 1 (z .carry) 0 t three (f .1 ∙ sym (one-mul _)) (zero-add _ ∙ e ∙ f .0)
             ∙ ap (λ (n : ℕ). value l + n) (zero-mul (2 ^ (64 * (p .at + 3))) ∙ sym (zero-mul (2 ^ 768))))
 
--- ---- past the window's end
+-- ---- the window with a term's words stored: below the last words the carry out is the carry in; at them it leaves the window
 
--- a term that starts there is a multiple of 2 ^ 768
-pub past-end : (neg : Bool) {l : List ℕ} (low high up : ℕ) → Words 12 l → 768 ≤ up → value l ≡ moved neg (value l) (term low high up)
-past-end neg {l} low high up w h = go neg
-  where
-    several : (high * 2 ^ 64 + low) * 2 ^ (up - 768) * 2 ^ 768 ≡ term low high up
-    several = mul-assoc (high * 2 ^ 64 + low) (2 ^ (up - 768)) (2 ^ 768) ∙ ap (λ (n : ℕ). (high * 2 ^ 64 + low) * n) (sym (pow-add 2 (up - 768) 768) ∙ ap (λ (n : ℕ). 2 ^ n) (sub-add-cancel h))
+-- a term counts modulo 2 ^ 768
+moved-mod : (neg : Bool) (a t : ℕ) → moved neg a (t % 2 ^ 768) ≡ moved neg a t
+moved-mod false a t = add-mod-mod a t (2 ^ 768)
+moved-mod true a t = ap (λ (n : ℕ). (a + (2 ^ 768 - n)) % 2 ^ 768) (mod-mod t (2 ^ 768))
 
-    go : (neg : Bool) → value l ≡ moved neg (value l) (term low high up)
-    go false = added ((high * 2 ^ 64 + low) * 2 ^ (up - 768)) _ _ w several refl
-    go true = minus-is (2 ^ 768) (value l) (value l) (term low high up) ((high * 2 ^ 64 + low) * 2 ^ (up - 768)) (pow-pos 768) (value-lt w) (ap (λ (n : ℕ). value l + n) (sym several))
+none-small : (neg : Bool) {x : ℕ} → x ≡ flip neg 0 → x < 2 ^ 64
+none-small false e = omega arith
+none-small true e = omega arith
+
+module _ {l : List ℕ} (w : Words 12 l) {neg : Bool} {t : ℕ} {p : Placed} where
+  -- two words, of a term of one word
+  module _ (s : Settles 10 neg t p) (none : p .w2 ≡ flip neg 0) {x y : Sum} (fx : x .word < 2 ^ 64) (fy : y .word < 2 ^ 64)
+      (ex : Adds (getD l (p .at) 0) (p .w0) (p .carry) x) (ey : Adds (getD l (p .at + 1) 0) (p .w1) (x .carry) y) (out : p .at < 10 → y .carry ≡ p .carry) where
+    low : p .at < 11
+    low = omega (arith, s .word)
+
+    stored : Words 12 (set (set l (p .at) (x .word)) (p .at + 1) (y .word)) × (value (set (set l (p .at) (x .word)) (p .at + 1) (y .word)) ≡ moved neg (value l) (t % 2 ^ 768))
+    stored = single l w p low x y fx fy (ex .0) (ey .0) neg (t % 2 ^ 768) (s .exact) none (ey .1) (none-small neg none) out
+
+    pub two-stored : Words 12 (set (set l (p .at) (x .word)) (p .at + 1) (y .word))
+    two-stored = stored .0
+
+    pub two-moved : value (set (set l (p .at) (x .word)) (p .at + 1) (y .word)) ≡ moved neg (value l) t
+    two-moved = stored .1 ∙ moved-mod neg (value l) t
+
+  -- three words
+  module _ (s : Settles 9 neg t p) {x y z : Sum} (fx : x .word < 2 ^ 64) (fy : y .word < 2 ^ 64) (fz : z .word < 2 ^ 64)
+      (ex : Adds (getD l (p .at) 0) (p .w0) (p .carry) x) (ey : Adds (getD l (p .at + 1) 0) (p .w1) (x .carry) y)
+      (ez : Adds (getD l (p .at + 2) 0) (p .w2) (y .carry) z) (out : p .at < 9 → z .carry ≡ p .carry) where
+    low₃ : p .at < 11
+    low₃ = omega (arith, s .word)
+
+    other : p .at ≡ 10 → ⊥
+    other e = omega (arith, s .word)
+
+    abbrev after : List ℕ
+    after = set (set (set l (p .at) (x .word)) (p .at + 1) (y .word)) (p .at + 2) (z .word)
+
+    pub three-stored : Words 12 (set (set (set l (p .at) (x .word)) (p .at + 1) (y .word)) (p .at + 2) (z .word))
+    three-stored = three-words l w p low₃ x y fx fy (ex .0) (ey .0) other z fz (ez .0)
+
+    pub three-moved : value (set (set (set l (p .at) (x .word)) (p .at + 1) (y .word)) (p .at + 2) (z .word)) ≡ moved neg (value l) t
+    three-moved = go neg (s .exact) (eqb (p .at) 9) refl ∙ moved-mod neg (value l) t
+      where
+        at-nine : p .at ≡ 9 → value after + z .carry * 2 ^ 768 ≡ value l + sum p
+        at-nine e = ap (λ (n : ℕ). value after + z .carry * 2 ^ (64 * (n + 3))) (sym e) ∙ three l w p low₃ x y fx fy (ex .0) (ey .0) other z fz (ez .0)
+
+        go : (neg : Bool) → Makes neg p (t % 2 ^ 768) → (b : Bool) → eqb (p .at) 9 ≡ b → value after ≡ moved neg (value l) (t % 2 ^ 768)
+        go neg m false b = even l w p low₃ x y fx fy (ex .0) (ey .0) other z fz (ez .0) neg _ m (out (omega (arith, s .word, eqb-false (p .at) 9 b))) .1
+        go false m true b = wrapped (2 ^ 768) _ _ (z .carry) (value-lt three-stored) (at-nine (eqb-true (p .at) 9 b) ∙ ap (λ (n : ℕ). value l + n) (m .1))
+        go true m true b =
+            minus-is (2 ^ 768) _ (value l) _ (1 - z .carry) (pow-pos 768) (value-lt three-stored)
+            (left-over _ (value l) (sum p) (2 ^ 768) 1 (z .carry) (1 - z .carry) _ (at-nine (eqb-true (p .at) 9 b))
+            (m .1 ∙ ap (λ (n : ℕ). 2 ^ (64 * (n + 3))) (eqb-true (p .at) 9 b) ∙ sym (one-mul (2 ^ 768))) (sub-add-cancel (ez .1)))

@@ -5,7 +5,7 @@ use Prim.Native.Nat.{ℕ, _+_, _-_, _*_, _%_, _^_, _<_, _≤_}
 use native.Mathlib.Nat.{add-mul, mul-assoc, add-comm, zero-add, mod-eq-of-lt}
 use native.Mathlib.Omega.{arith}
 use lib.Bits.{bitXor, bitAnd, xor-zero-r, xor-add-and, and-mask}
-use lib.Pow.{pow-add, pow-mono}
+use lib.Pow.{pow-add}
 use Rattle.limbs.specs.declared.word.Place.{Place}
 use Rattle.limbs.specs.Splits.{Splits}
 use Rattle.limbs.specs.Value.{term}
@@ -66,10 +66,3 @@ pub placed-as : (neg : Bool) (at w₀ w₁ w₂ v₀ v₁ v₂ b t : ℕ) → v�
     → (w₀ + (w₁ + w₂ * 2 ^ 64) * 2 ^ 64) * 2 ^ (64 * at) ≡ t → Makes neg (record { at = at; w0 = v₀; w1 = v₁; w2 = v₂; carry = b }) t
 placed-as false at w₀ w₁ w₂ v₀ v₁ v₂ b t e₀ e₁ e₂ e h₀ h₁ h₂ f = (e, rw (e₀, e₁, e₂, e) (ap (λ (x : ℕ). x * 2 ^ (64 * at)) (zero-add _) ∙ f))
 placed-as true at w₀ w₁ w₂ v₀ v₁ v₂ b t e₀ e₁ e₂ e h₀ h₁ h₂ f = (e, rw (e₀, e₁, e₂, e) (complemented at w₀ w₁ w₂ t h₀ h₁ h₂ f))
-
--- a high word of 0 leaves no third word
-pub no-third : (b high w₁ w₂ c : ℕ) → b < 64 → high ≡ 0 → c < 2 ^ b → w₁ + w₂ * 2 ^ 64 ≡ high * 2 ^ b + c → w₂ ≡ 0
-no-third b high w₁ w₂ c s z h e = small (2 ^ b) (pow-mono {j = 63} (omega arith)) h e
-  where
-    small : (P : ℕ) → P ≤ 2 ^ 63 → c < P → w₁ + w₂ * 2 ^ 64 ≡ high * P + c → w₂ ≡ 0
-    small P g h e = omega (arith, e ∙ ap (λ (x : ℕ). x * P + c) z)

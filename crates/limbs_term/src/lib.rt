@@ -1,5 +1,4 @@
 // A term of at most 128 bits, high * 2^64 + low, shifted and added to a window or taken off it, touching only the words that change.
-use limbs::word::add_word;
 use limbs::word::shl_word;
 use limbs::word::split;
 use limbs_window::add;
@@ -7,9 +6,17 @@ use limbs_window::shl;
 use limbs_window::sub;
 ghost use mathlib.Core.Path.{_≡_};
 ghost use mathlib.Core.Bool.{cond, false};
-ghost use Prim.Native.Nat.{_<_, _≤_};
-ghost use Rattle.limbs.specs.Value.{Words, value, term, moved};
-ghost use Rattle.limbs_term.specs.Placed.{Places, flip};
+ghost use Prim.Native.Nat.{_%_, _^_, _<_, _≤_};
+ghost use Rattle.limbs.specs.Value.{value, term, moved};
+ghost use Rattle.limbs_term.specs.Placed.{flip, laid, Turns, Settles};
+
+// A term's part within the window, in words from the word `at` on: what lies past the window's end is left off.
+pub struct Laid {
+    pub at: usize,
+    pub v0: u64,
+    pub v1: u64,
+    pub v2: u64,
+}
 
 // The words to add for a term from the word `at` on, and the carry into them: for a term that is taken off, the complement of its words, and 1.
 pub struct Placed {
@@ -33,26 +40,8 @@ fn flipped(negative: bool, w: u64) -> u64
     w ^ std::num::wrapping_sub_u64(0, one_if(negative))
 }
 
-fn place(low: u64, high: u64, shift: usize, negative: bool) -> Placed
-    ensures { λ r. ⌜ Places negative low high shift r ⌝ }
-{
-    let p = split(shift);
-    let s = shl_word(low, 0, p.bit);
-    let t = shl_word(high, s.carry, p.bit);
-    let w0 = flipped(negative, s.word);
-    let w1 = flipped(negative, t.word);
-    let w2 = flipped(negative, t.carry);
-    Placed {
-        at: p.word,
-        w0,
-        w1,
-        w2,
-        carry: one_if(negative),
-    }
-}
-
 // total + or - the shifted term, by the window's own operations: for any shift.
-fn move_term(total: [u64; 12], low: u64, high: u64, shift: usize, negative: bool) -> [u64; 12]
+pub fn move_term(total: [u64; 12], low: u64, high: u64, shift: usize, negative: bool) -> [u64; 12]
     ensures { λ r. ⌜ value r ≡ moved negative (value total) (term low high shift) ⌝ }
 {
     let t = shl([low, high, 0, 0, 0, 0, 0, 0, 0, 0, 0, 0], shift);
@@ -63,97 +52,111 @@ fn move_term(total: [u64; 12], low: u64, high: u64, shift: usize, negative: bool
     }
 }
 
-// The same in a lent window.
-fn add_long(r: &mut [u64; 12], low: u64, high: u64, up: usize, negative: bool)
-    ensures { λ _. ⌜ Words 12 (now (r .exit)) ⌝ }
-    ensures { λ _. ⌜ value (now (r .exit)) ≡ moved negative (value (now (r .entry))) (term low high up) ⌝ }
+// The three words of a term, the last of them the window's last at most.
+fn lay(low: u64, high: u64, up: usize) -> Laid
+    ensures { λ r. ⌜ (r .at ≤ 9) × (laid r ≡ term low high up % 2 ^ 768) ⌝ }
 {
-    let v = move_term(*r, low, high, up, negative);
-    *r = v;
+    let p = split(up);
+    let s = shl_word(low, 0, p.bit);
+    let t = shl_word(high, s.carry, p.bit);
+    if p.word <= 9 {
+        return Laid {
+            at: p.word,
+            v0: s.word,
+            v1: t.word,
+            v2: t.carry,
+        };
+    }
+    if p.word == 10 {
+        return Laid {
+            at: 9,
+            v0: 0,
+            v1: s.word,
+            v2: t.word,
+        };
+    }
+    if p.word == 11 {
+        return Laid {
+            at: 9,
+            v0: 0,
+            v1: 0,
+            v2: s.word,
+        };
+    }
+    Laid {
+        at: 9,
+        v0: 0,
+        v1: 0,
+        v2: 0,
+    }
 }
 
-// Past the window's end a term is a multiple of 2^768, which changes nothing. In the later passes over terms that cancel, most lie there.
-fn add_anywhere(r: &mut [u64; 12], low: u64, high: u64, up: usize, negative: bool)
-    requires { ⌜ Words 12 (now r) ⌝ }
-    ensures { λ _. ⌜ Words 12 (now (r .exit)) ⌝ }
-    ensures { λ _. ⌜ value (now (r .exit)) ≡ moved negative (value (now (r .entry))) (term low high up) ⌝ }
+// The same of a term of one word, which reaches two.
+fn lay_single(low: u64, up: usize) -> Laid
+    ensures { λ r. ⌜ (r .at ≤ 10) × (laid r ≡ term low 0 up % 2 ^ 768) × (r .v2 ≡ 0) ⌝ }
 {
-    if up >= 768 {
-        return;
+    let p = split(up);
+    let s = shl_word(low, 0, p.bit);
+    if p.word <= 10 {
+        return Laid {
+            at: p.word,
+            v0: s.word,
+            v1: s.carry,
+            v2: 0,
+        };
     }
-    add_long(r, low, high, up, negative);
+    if p.word == 11 {
+        return Laid {
+            at: 10,
+            v0: 0,
+            v1: s.word,
+            v2: 0,
+        };
+    }
+    Laid {
+        at: 10,
+        v0: 0,
+        v1: 0,
+        v2: 0,
+    }
 }
 
-// A term whose words start at the word 10 or above. At the word 10 two of them are added, and the third lies past the window's end.
-fn add_at_end(r: &mut [u64; 12], q: Placed, low: u64, high: u64, up: usize, negative: bool)
-    requires { ⌜ Words 12 (now r) × Places negative low high up q × (10 ≤ q .at) ⌝ }
-    ensures { λ _. ⌜ Words 12 (now (r .exit)) ⌝ }
-    ensures { λ _. ⌜ value (now (r .exit)) ≡ moved negative (value (now (r .entry))) (term low high up) ⌝ }
+fn turned(p: Laid, negative: bool) -> Placed
+    ensures { λ r. ⌜ Turns negative p r ⌝ }
 {
-    let at = q.at;
-    if at >= 11 {
-        add_anywhere(r, low, high, up, negative);
-        return;
+    let w0 = flipped(negative, p.v0);
+    let w1 = flipped(negative, p.v1);
+    let w2 = flipped(negative, p.v2);
+    Placed {
+        at: p.at,
+        w0,
+        w1,
+        w2,
+        carry: one_if(negative),
     }
-    let x = add_word(r[at], q.w0, q.carry);
-    let y = add_word(r[at + 1], q.w1, x.carry);
-    r[at] = x.word;
-    r[at + 1] = y.word;
 }
 
-// A part of a term added to a lent window or taken off it, in place, so that the window stays where it is over a whole list. The long way is taken
-// at the word 11, and where a carry runs on past the third word: both are rare.
-pub fn add_part(r: &mut [u64; 12], low: u64, high: u64, up: usize, negative: bool)
-    requires { ⌜ Words 12 (now r) ⌝ }
-    ensures { λ _. ⌜ Words 12 (now (r .exit)) ⌝ }
-    ensures { λ _. ⌜ value (now (r .exit)) ≡ moved negative (value (now (r .entry))) (term low high up) ⌝ }
+// The words to add for a term that is added or taken off, to a window's three words from `at` on.
+pub fn settle(low: u64, high: u64, up: usize, negative: bool) -> Placed
+    ensures { λ r. ⌜ Settles 9 negative (term low high up) r ⌝ }
 {
-    let q = place(low, high, up, negative);
-    let at = q.at;
-    if at >= 10 {
-        add_at_end(r, q, low, high, up, negative);
-        return;
-    }
-    let x = add_word(r[at], q.w0, q.carry);
-    let y = add_word(r[at + 1], q.w1, x.carry);
-    let z = add_word(r[at + 2], q.w2, y.carry);
-    if z.carry != q.carry {
-        add_anywhere(r, low, high, up, negative);
-        return;
-    }
-    r[at] = x.word;
-    r[at + 1] = y.word;
-    r[at + 2] = z.word;
+    turned(lay(low, high, up), negative)
 }
 
-// Whether the carry out of two words, the first of them the word `at`, goes on into the window's next word: where it is not the carry into them.
-fn runs_on(at: usize, carry: u64, out: u64) -> bool
-    ensures { λ r. ⌜ (r ≡ false → at < 10 → out ≡ carry) ⌝ }
+// The same of a term of one word, to a window's two words from `at` on.
+pub fn settle_single(low: u64, up: usize, negative: bool) -> Placed
+    ensures { λ r. ⌜ Settles 10 negative (term low 0 up) r × (r .w2 ≡ flip negative 0) ⌝ }
 {
-    if at >= 10 {
+    turned(lay_single(low, up), negative)
+}
+
+// Whether the carry out of the words that are added from the word `at` on goes on into the window's next word, where there is one: `end` is the
+// highest that `at` can be.
+pub fn goes_on(end: usize, at: usize, carry: u64, out: u64) -> bool
+    ensures { λ r. ⌜ (r ≡ false → at < end → out ≡ carry) ⌝ }
+{
+    if at >= end {
         return false;
     }
     out != carry
-}
-
-// A term of one word, in place as by `add_part`: it reaches two words of the window at most.
-pub fn add_single(r: &mut [u64; 12], low: u64, up: usize, negative: bool)
-    requires { ⌜ Words 12 (now r) ⌝ }
-    ensures { λ _. ⌜ Words 12 (now (r .exit)) ⌝ }
-    ensures { λ _. ⌜ value (now (r .exit)) ≡ moved negative (value (now (r .entry))) (term low 0 up) ⌝ }
-{
-    let q = place(low, 0, up, negative);
-    let at = q.at;
-    if at >= 11 {
-        add_anywhere(r, low, 0, up, negative);
-        return;
-    }
-    let x = add_word(r[at], q.w0, q.carry);
-    let y = add_word(r[at + 1], q.w1, x.carry);
-    if runs_on(at, q.carry, y.carry) {
-        add_anywhere(r, low, 0, up, negative);
-        return;
-    }
-    r[at] = x.word;
-    r[at + 1] = y.word;
 }

@@ -11,7 +11,7 @@ ghost use mathlib.Core.List.{_∷_};
 ghost use mathlib.Core.Bool.{not};
 ghost use Prim.Native.Nat.{_-_, _*_, _/_, _%_, _^_, _<_, min};
 ghost use lib.Dec.{eqb};
-ghost use lib.ListN.{length, getD};
+ghost use lib.ListN.{getD};
 ghost use Rattle.limbs.specs.Value.{value, bitLength, plus, minus};
 ghost use Rattle.limbs_window.specs.Compared.{compared};
 
@@ -76,9 +76,8 @@ pub fn bit_length(a: [u64; 12]) -> usize
 }
 
 // The word i, 0 past the end.
-fn word_at(a: &[u64; 12], i: usize) -> u64
-    requires { ⌜ length (now a) ≡ 12 ⌝ }
-    ensures { λ r. ⌜ r ≡ getD (now (a .entry)) i 0 ⌝ }
+fn word_at(a: [u64; 12], i: usize) -> u64
+    ensures { λ r. ⌜ r ≡ getD a i 0 ⌝ }
 {
     if i < 12 { a[i] } else { 0 }
 }
@@ -87,7 +86,7 @@ fn word_at(a: &[u64; 12], i: usize) -> u64
 fn word_below(a: [u64; 12], i: usize) -> u64
     ensures { λ r. ⌜ r ≡ getD (0 ∷ a) i 0 ⌝ }
 {
-    if i == 0 { 0 } else { word_at(&a, i - 1) }
+    if i == 0 { 0 } else { word_at(a, i - 1) }
 }
 
 // The word i of a / 2^count.
@@ -97,8 +96,8 @@ pub fn shr_at(a: [u64; 12], count: usize, i: usize) -> u64
 {
     let p = split(count);
     let at = i + p.word;
-    let low = word_at(&a, at);
-    let high = word_at(&a, at + 1);
+    let low = word_at(a, at);
+    let high = word_at(a, at + 1);
     funnel(low, high, p.bit)
 }
 
@@ -173,7 +172,7 @@ pub fn any_below(a: [u64; 12], count: usize) -> bool
             return true;
         }
     }
-    let w = word_at(&a, end);
+    let w = word_at(a, end);
     word::low_bits(w, p.bit) != 0
 }
 
@@ -182,7 +181,7 @@ pub fn bit(a: [u64; 12], position: usize) -> bool
     ensures { λ r. ⌜ r ≡ eqb (value a / 2 ^ position % 2) 1 ⌝ }
 {
     let p = split(position);
-    let w = word_at(&a, p.word);
+    let w = word_at(a, p.word);
     (w >> p.bit) % 2 == 1
 }
 

@@ -1,15 +1,15 @@
 -- One turn of a pass: the window and the lost bit of the first i elements, with the part of one more.
 use mathlib.Core.Path.{_≡_, refl, sym, ap, ap₂, _∙_, subst}
 use mathlib.Core.Bool.{Bool, true, false, cond}
-use mathlib.Core.List.{List, [], _∷_, _++_, map}
-use Prim.Native.Nat.{ℕ, _+_, _-_, _/_, _%_, _^_, _<_, max}
+use mathlib.Core.List.{List, [], _∷_, _++_}
+use Prim.Native.Nat.{ℕ, _+_, _-_, _*_, _/_, _%_, _^_, _<_, max}
 use native.Mathlib.Nat.{add-zero, zero-add, zero-mul, add-assoc, add-comm, mod-eq-of-lt, zero-div, max-zero}
 use native.Mathlib.Numerals.{add-one}
 use native.Mathlib.Omega.{arith}
 use lib.ListN.{length, take, getD}
 use lib.Seq.{take-suc, take-length}
 use lib.Pow.{pow-pos}
-use Rattle.limbs.specs.Value.{Words, value, moved}
+use Rattle.limbs.specs.Value.{Words, value, moved, term}
 use Rattle.limbs.proofs.Words.{alike, value-lt}
 use Rattle.limbs.proofs.Step.{minus-is}
 use Rattle.totals_spec.specs.Basics.{total, greatest, keep}
@@ -18,19 +18,17 @@ use Rattle.totals_spec.specs.Settings as env
 use Rattle.totals_spec.specs.Terms as terms
 use Rattle.totals_spec.specs.Chain.{residue, half, lookAt, lostEnd, lostOf, cutPlus, cutMinus}
 use Rattle.totals_spec.proofs.Window.{residue-zero, residue-plus, residue-minus, residue-cancel}
-use Rattle.totals_spec.specs.Totals.{pairs}
-use Rattle.totals_spec.proofs.Order.{pairs-length}
-use Rattle.arithmetic.proofs.Pairs.{pairs-at}
 use Rattle.totals_spec.proofs.Walk.{total-append, greatest-append, picked-append}
 use Rattle.arithmetic.specs.declared.Term.{Term}
 use Rattle.binary.specs.Joined.{Plain}
+use Rattle.window.specs.declared.Part.{Part}
 use Rattle.window.specs.declared.Pass.{Pass}
 use Rattle.arithmetic.specs.Joined.{magnitude, StandsFor, plainNumber, plainProduct, BothPlain}
 use Rattle.arithmetic.proofs.Elements.{plainly, plain-item}
 use Rattle.arithmetic.proofs.Pairs.{both-plainly, plain-pair}
 use Rattle.window.specs.Joined.{Passed}
 use Rattle.window.proofs.Parted.{lost-of-zero}
-use Rattle.reduction.specs.Held.{middle, Held, Adds}
+use Rattle.reduction.specs.Held.{middle, Held}
 
 window : half + half ≡ 2 ^ 768
 unfolding half
@@ -99,9 +97,6 @@ shift-small t terms.invalidItem h = h .1
 shift-small t (terms.infinite s) h = h .1
 shift-small t (terms.zeroItem s) h = h .1
 
-pub nothing-lost : (lost x : ℕ) → 0 ≡ x → lost ≡ max lost x
-nothing-lost lost x e = sym (max-zero lost) ∙ ap (max lost) e
-
 -- ---- the gathering of a list of items, and of one more
 
 held-more : (ts : List terms.Term) (w v lost v′ lost′ : ℕ) (t : Term) (i : terms.Item) → StandsFor t i → Held ts w v lost
@@ -117,22 +112,6 @@ held-more ts w v lost v′ lost′ t i s h e g =
           ∙ sym (ap₂ (λ (n m : ℕ). residue half (value middle + n) m) (total-append (cutPlus w) ts (keep (terms.termOf i) [])) (total-append (cutMinus w) ts (keep (terms.termOf i) [])));
       lost-is = g ∙ ap₂ max (h .lost-is) (sym (a .lost)) ∙ sym (greatest-append (lostOf w) ts (keep (terms.termOf i) []));
     }
-
--- a term of the code that stands for an item is added for it
-pub adds-item : (w : ℕ) (i : terms.Item) (t : Term) (v lost v′ lost′ : ℕ) → StandsFor t i
-    → v′ ≡ moved (t .negative) v (magnitude t / 2 ^ w) → lost′ ≡ max lost (lostEnd w (magnitude t)) → Adds w i v lost v′ lost′
-adds-item w i t v lost v′ lost′ s e g ts h = held-more ts w v lost v′ lost′ t i s h e g
-
-map-append : {A B : Type 0} (f : A → B) (s t : List A) → map f (s ++ t) ≡ map f s ++ map f t
-map-append f [] t = refl
-map-append f (x ∷ s) t = ap (λ l. f x ∷ l) (map-append f s t)
-
--- the terms of one element more
-terms-next : {A : Type 0} (f : A → terms.Item) (l : List A) (i : ℕ) (d : A) → i < length l
-    → terms.terms (map f (take (i + 1) l)) ≡ terms.terms (map f (take i l)) ++ keep (terms.termOf (f (getD l i d))) []
-terms-next f l i d h =
-    ap (λ n. terms.terms (map f (take n l))) (add-one i) ∙ ap (λ s. terms.terms (map f s)) (take-suc l i d h)
-    ∙ ap terms.terms (map-append f (take i l) (getD l i d ∷ [])) ∙ picked-append terms.termOf (map f (take i l)) (f (getD l i d) ∷ [])
 
 -- ---- the start and the end
 
@@ -167,9 +146,12 @@ passed ts w v lost q h e =
 
 -- ---- a term of which nothing reaches the edge
 
-pub unmoved : (neg : Bool) (l : List ℕ) (x : ℕ) → Words 12 l → x ≡ 0 → value l ≡ moved neg (value l) x
+unmoved : (neg : Bool) (l : List ℕ) (x : ℕ) → Words 12 l → x ≡ 0 → value l ≡ moved neg (value l) x
 unmoved false l x w e = sym (mod-eq-of-lt (value-lt w)) ∙ ap (λ (n : ℕ). n % 2 ^ 768) (sym (add-zero (value l)) ∙ ap (λ (n : ℕ). value l + n) (sym e))
 unmoved true l x w e = minus-is (2 ^ 768) (value l) (value l) x 0 (pow-pos 768) (value-lt w) (ap (λ (n : ℕ). value l + n) (e ∙ sym (zero-mul (2 ^ 768))))
+
+pub nothing-moved : (neg : Bool) (p : Part) {l : List ℕ} → Words 12 l → (p .low ≡ 0) × (p .high ≡ 0) → value l ≡ moved neg (value l) (term (p .low) (p .high) (p .up))
+nothing-moved neg p {l} w e = unmoved neg l _ w (ap₂ (λ (a b : ℕ). (b * 2 ^ 64 + a) * 2 ^ p .up) (e .0) (e .1) ∙ zero-mul (2 ^ p .up))
 
 -- ---- an element, or a pair, that is plainly normal
 
@@ -181,27 +163,23 @@ pub pair-stands : (f : spec.Format) (c : env.Settings) (x y : ℕ) (b : Bool) (t
     → StandsFor t (terms.term (plainProduct f x y)) → StandsFor t (terms.pairItem f c (x, y))
 pair-stands f c x y b t e h s = subst (λ (i : terms.Item). StandsFor t i) (plain-pair f c x y (both-plainly b f x y e h)) s
 
--- ---- a walk over the elements of a list, whatever they are: g says which item an element is
+-- ---- a walk over a list of items
 
-module _ {A : Type 0} (g : A → terms.Item) (l : List A) (w : ℕ) where
-  -- one turn: x is the element i
-  pub held-turn : (d x : A) (i v lost v′ lost′ : ℕ) → i < length l → x ≡ getD l i d → Held (terms.terms (map g (take i l))) w v lost
-      → Adds w (g x) v lost v′ lost′ → Held (terms.terms (map g (take (i + 1) l))) w v′ lost′
-  held-turn d x i v lost v′ lost′ h e k a =
-      subst (λ (ts : List terms.Term). Held ts w v′ lost′)
-      (ap (λ (z : A). terms.terms (map g (take i l)) ++ keep (terms.termOf (g z)) []) e ∙ sym (terms-next g l i d h)) (a (terms.terms (map g (take i l))) k)
+module _ (l : List terms.Item) (w : ℕ) where
+  -- the terms of one item more
+  terms-next : (i : ℕ) → i < length l → terms.terms (take (i + 1) l) ≡ terms.terms (take i l) ++ keep (terms.termOf (getD l i terms.nanItem)) []
+  terms-next i h =
+      ap (λ n. terms.terms (take n l)) (add-one i) ∙ ap terms.terms (take-suc l i terms.nanItem h)
+      ∙ picked-append terms.termOf (take i l) (getD l i terms.nanItem ∷ [])
 
-  -- the end: all elements
-  pub held-end : (i v lost : ℕ) → i ≡ length l → Held (terms.terms (map g (take i l))) w v lost → Held (terms.terms (map g l)) w v lost
-  held-end i v lost e h = subst (λ (s : List A). Held (terms.terms (map g s)) w v lost) (ap (λ (n : ℕ). take n l) e ∙ take-length l) h
+  -- one turn: t stands for the item i, and p is its part at the edge
+  pub held-next : (i v lost v′ lost′ : ℕ) (t : Term) (p : Part) → i < length l → StandsFor t (getD l i terms.nanItem) → Held (terms.terms (take i l)) w v lost
+      → (term (p .low) (p .high) (p .up) ≡ magnitude t / 2 ^ w) × (p .lost ≡ lostEnd w (magnitude t))
+      → lost′ ≡ max lost (p .lost) → v′ ≡ moved (t .negative) v (term (p .low) (p .high) (p .up)) → Held (terms.terms (take (i + 1) l)) w v′ lost′
+  held-next i v lost v′ lost′ t p h s k e el ev =
+      rw (terms-next i h)
+      (held-more (terms.terms (take i l)) w v lost v′ lost′ t (getD l i terms.nanItem) s k (ev ∙ ap (λ (x : ℕ). moved (t .negative) v x) (e .0)) (el ∙ ap (max lost) (e .1)))
 
--- the same over the pairs of two lists of one length
-module _ (g : ℕ × ℕ → terms.Item) (x y : List ℕ) (w : ℕ) where
-  pub pair-turn : (s t i v lost v′ lost′ : ℕ) → length y ≡ length x → i < length x → s ≡ getD x i 0 → t ≡ getD y i 0
-      → Held (terms.terms (map g (take i (pairs x y)))) w v lost → Adds w (g (s, t)) v lost v′ lost′ → Held (terms.terms (map g (take (i + 1) (pairs x y)))) w v′ lost′
-  pair-turn s t i v lost v′ lost′ e h es et k a =
-      held-turn g (pairs x y) w (0, 0) (s, t) i v lost v′ lost′ (subst (λ (n : ℕ). i < n) (sym (pairs-length x y (sym e))) h)
-      ((λ j. (es j, et j)) ∙ sym (pairs-at x y i e h)) k a
-
-  pub pair-end : (i v lost : ℕ) → length y ≡ length x → i ≡ length x → Held (terms.terms (map g (take i (pairs x y)))) w v lost → Held (terms.terms (map g (pairs x y))) w v lost
-  pair-end i v lost e h k = held-end g (pairs x y) w i v lost (h ∙ sym (pairs-length x y (sym e))) k
+  -- the end: all items
+  pub held-end : (i v lost : ℕ) → i ≡ length l → Held (terms.terms (take i l)) w v lost → Held (terms.terms l) w v lost
+  held-end i v lost e h = subst (λ (s : List terms.Item). Held (terms.terms s) w v lost) (ap (λ (n : ℕ). take n l) e ∙ take-length l) h

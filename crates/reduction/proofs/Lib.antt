@@ -2,3 +2,4 @@ pub mod Gather
 pub mod Loop
 pub mod Records
 pub mod Reduce
+pub mod Items

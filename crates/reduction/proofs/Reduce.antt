@@ -1,10 +1,8 @@
 -- From what a scan decides, and from a chain of passes, to the record of an accepted list. Nothing here is about words or bytes.
-use mathlib.Core.Path.{_≡_, refl, sym, ap, ap₂, _∙_, subst}
-use mathlib.Core.Bool.{Bool, true, false, not, cond}
+use mathlib.Core.Path.{_≡_, sym, ap, ap₂, _∙_, subst}
+use mathlib.Core.Bool.{Bool, true, false, cond}
 use mathlib.Core.List.{List}
-use Prim.Native.Nat.{ℕ, zero, suc, _≤_, _<_}
-use native.Mathlib.Omega.{arith}
-use lib.Dec.{eqb, eqb·suc-zero}
+use Prim.Native.Nat.{_<_}
 use Rattle.totals_spec.specs.Basics.{any}
 use Rattle.totals_spec.specs.Format as spec
 use Rattle.totals_spec.specs.Settings as env
@@ -23,18 +21,6 @@ use Rattle.scan.specs.declared.Early.the-variants.{Given, Terms}
 use Rattle.scan.specs.Joined.{Gathered, Decides}
 use Rattle.window.specs.declared.ExactSum.{ExactSum}
 use Rattle.window.specs.Joined.{outcomeOf, runOf}
-
--- the summand's number in the code's tests
-pub summand-first : (u : ℕ) → not (eqb u 0) ≡ not (totals.isValue (env.summandOf u))
-summand-first zero = refl
-summand-first (suc zero) = refl
-summand-first (suc (suc u)) = ap not (eqb·suc-zero (suc u))
-
-pub summand-square : (u : ℕ) → u ≤ 2 → eqb u 2 ≡ totals.isSquare (env.summandOf u)
-summand-square zero h = refl
-summand-square (suc zero) h = refl
-summand-square (suc (suc zero)) h = refl
-summand-square (suc (suc (suc u))) h = absurd (let z : ⊥ = omega arith in z)
 
 module _ (f : spec.Format) (c : env.Settings) (sub products sig first : Bool) (ops : List dec.Unpacked) (l : List terms.Item) (s : Scan) (d : Early)
     (g : Gathered f c sub sig ops l s) (h : Decides d c first s) where

@@ -1,7 +1,9 @@
 -- The code's record as that of totals_spec, and a sum rounded once.
 use mathlib.Core.Path.{_≡_}
-use mathlib.Core.Bool.{Bool}
-use Prim.Native.Nat.{_<_}
+use mathlib.Core.Bool.{Bool, true, false, not, _&&_}
+use mathlib.Core.List.{List}
+use Prim.Native.Nat.{ℕ, _<_}
+use lib.Dec.{leb, eqb}
 use Rattle.totals_spec.specs.Basics.{Signed}
 use Rattle.totals_spec.specs.Format as spec
 use Rattle.totals_spec.specs.Settings as env
@@ -20,3 +22,19 @@ pub record RoundedSum (f : spec.Format) (c : env.Settings) (products : Bool) (x 
   pub equal : roundedOf r ≡ totals.sumRounded f c (spec.grid f products) (totals.towardsNegative c) x
   pub encodes : Encodes f (unpackedOf (r .value))
   pub flags : r .flags < 128
+
+-- ---- a walk that is accepted, of the summand's number u: over the pairs of a dot, or over the elements of one list
+
+abbrev pub productsIn : ℕ → Bool
+productsIn u = leb 2 u
+
+abbrev pub firstIn : ℕ → Bool
+firstIn u = not (eqb u 3) && not (eqb u 0)
+
+abbrev pub Accepted : Bool → spec.Format → env.Settings → ℕ → List ℕ → List ℕ → Type 0
+Accepted true f c u x y = totals.dotRefusal f c x y ≡ 0
+Accepted false f c u x y = totals.sumRefusal f c u x ≡ 0
+
+abbrev pub answerIn : Bool → spec.Format → env.Settings → env.Summand → List ℕ → List ℕ → totals.Answer
+answerIn true f c u x y = totals.dotAccepted f c (totals.pairs x y)
+answerIn false f c u x y = totals.sumAccepted f c u x

@@ -1,5 +1,4 @@
-// Exact sums of lists and dot products: the passes over lent lists of words and of bytes.
-pub mod bytes;
+// The total of a list that is accepted: a scan, and then passes at lower and lower edges until one of them decides.
 pub mod pass;
 pub mod total;
-pub mod words;
+pub mod walk;

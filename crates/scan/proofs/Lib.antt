@@ -5,3 +5,4 @@ pub mod Updates
 pub mod Special
 pub mod Record
 pub mod Lent
+pub mod Signed

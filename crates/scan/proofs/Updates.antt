@@ -62,7 +62,9 @@ set-or : (x b : Bool) → cond x true b ≡ (b || x)
 set-or true b = sym (or-true b)
 set-or false b = sym (or-false b)
 
-pub taken-is : (s : Scan) (i : Item) (t : ℕ) → t ≡ max (s .top) (topOfItem i) → _≡_ {A = Scan} (record {
+-- a scan with what an item sets, and with the top t
+abbrev pub noting : Item → ℕ → Scan → Scan
+noting i t s = record {
   subnormal = s .subnormal;
   signaling = s .signaling;
   invalid = cond (invalidOf i) true (s .invalid);
@@ -72,7 +74,9 @@ pub taken-is : (s : Scan) (i : Item) (t : ℕ) → t ≡ max (s .top) (topOfItem
   «negative_zero» = cond (zeroOf true i) true (s .«negative_zero»);
   top = t;
   nan = s .nan;
-}) (taken i s)
+}
+
+pub taken-is : (s : Scan) (i : Item) (t : ℕ) → t ≡ max (s .top) (topOfItem i) → noting i t s ≡ taken i s
 taken-is s i t e = λ j. record {
   subnormal = s .subnormal;
   signaling = s .signaling;
@@ -101,7 +105,7 @@ other-arm (unpacked.Nan s g m) h = absurd (none h)
 
 module _ (rule : ℕ) (s : Scan) where
   -- a scan with the first two flags and the NaN set
-  abbrev with : Bool → Bool → Nan → Scan
+  abbrev pub with : Bool → Bool → Nan → Scan
   with sub sig n = record {
     subnormal = sub;
     signaling = sig;

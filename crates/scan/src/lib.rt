@@ -1,6 +1,5 @@
 // What the operands of a sum add up to before the finite terms: one walk over the list, and what that alone decides.
-pub mod bytes;
-pub mod words;
+pub mod walk;
 
 use arithmetic::Item;
 use arithmetic::item_of;
@@ -81,11 +80,12 @@ impl Scan {
     }
 }
 
-// What each of the four updates makes of a scan. The branches stand here, by value, where the checker covers them.
+// The four updates, which change a scan that is lent, in place: each stores the fields that it changes, and no other. They are proved by hand, by the
+// walk of an update in proofs/Lent.antt.
 impl Scan {
-    // The choice among NaNs goes on.
-    fn with_nan(mut self, n: OfferedNan) -> Scan
-        ensures { λ r. ⌜ Offered n self r ⌝ }
+    // A NaN: the choice among NaNs goes on.
+    fn nan(&mut self, n: OfferedNan)
+        ensures { λ _. ⌜ Offered n (now (self .entry)) (now (self .exit)) ⌝ }
     {
         let next = Nan {
             some: true,
@@ -93,108 +93,70 @@ impl Scan {
             signaling: n.signaling,
             payload: n.payload,
         };
-        let kept = self.nan;
-        let chosen = nan::select(n.rule, kept, next);
-        self.nan = chosen;
-        self.signaling = either(self.signaling, n.signaling);
-        self
-    }
-
-    fn with_infinity(mut self, negative: bool) -> Scan
-        ensures { λ r. ⌜ r ≡ taken (Item.Infinite negative) self ⌝ }
-    {
-        if negative {
-            self.negative_infinity = true;
-        } else {
-            self.positive_infinity = true;
-        }
-        self
-    }
-
-    fn with_zero(mut self, negative: bool) -> Scan
-        ensures { λ r. ⌜ r ≡ taken (Item.Zero negative) self ⌝ }
-    {
-        if negative {
-            self.negative_zero = true;
-        } else {
-            self.positive_zero = true;
-        }
-        self
-    }
-
-    fn with_top(mut self, position: u64) -> Scan
-        ensures { λ r. ⌜ r ≡ raised position self ⌝ }
-    {
-        if self.top < position {
-            self.top = position;
-        }
-        self
-    }
-}
-
-// The four updates, which change a scan that is lent. They are proved by hand, by one walk for all (proofs/Lent.antt).
-impl Scan {
-    // A NaN.
-    fn nan(&mut self, n: OfferedNan)
-        ensures { λ _. ⌜ Offered n (now (self .entry)) (now (self .exit)) ⌝ }
-    {
-        *self = self.with_nan(n);
+        self.nan = nan::select(n.rule, self.nan, next);
+        self.signaling = self.signaling | n.signaling;
     }
 
     // An infinity.
     fn infinity(&mut self, negative: bool)
         ensures { λ _. ⌜ now (self .exit) ≡ taken (Item.Infinite negative) (now (self .entry)) ⌝ }
     {
-        *self = self.with_infinity(negative);
+        if negative {
+            self.negative_infinity = true;
+        } else {
+            self.positive_infinity = true;
+        }
     }
 
     // A zero.
     fn zero(&mut self, negative: bool)
         ensures { λ _. ⌜ now (self .exit) ≡ taken (Item.Zero negative) (now (self .entry)) ⌝ }
     {
-        *self = self.with_zero(negative);
+        if negative {
+            self.negative_zero = true;
+        } else {
+            self.positive_zero = true;
+        }
     }
 
     // A term whose highest bit lies at a position.
     fn top(&mut self, position: u64)
         ensures { λ _. ⌜ now (self .exit) ≡ raised position (now (self .entry)) ⌝ }
     {
-        *self = self.with_top(position);
+        if self.top < position {
+            self.top = position;
+        }
     }
 }
 
 // The same by value: a scan of its own is lent to the update. The walks over a list use these, since a loop that lends its scan is not covered.
 impl Scan {
-    fn noted_nan(self, n: OfferedNan) -> Scan
+    fn noted_nan(mut self, n: OfferedNan) -> Scan
         ensures { λ r. ⌜ Offered n self r ⌝ }
     {
-        let mut s = self;
-        s.nan(n);
-        s
+        self.nan(n);
+        self
     }
 
-    fn noted_infinity(self, negative: bool) -> Scan
+    fn noted_infinity(mut self, negative: bool) -> Scan
         ensures { λ r. ⌜ r ≡ taken (Item.Infinite negative) self ⌝ }
     {
-        let mut s = self;
-        s.infinity(negative);
-        s
+        self.infinity(negative);
+        self
     }
 
-    fn noted_zero(self, negative: bool) -> Scan
+    fn noted_zero(mut self, negative: bool) -> Scan
         ensures { λ r. ⌜ r ≡ taken (Item.Zero negative) self ⌝ }
     {
-        let mut s = self;
-        s.zero(negative);
-        s
+        self.zero(negative);
+        self
     }
 
-    fn noted_top(self, position: u64) -> Scan
+    fn noted_top(mut self, position: u64) -> Scan
         ensures { λ r. ⌜ r ≡ raised position self ⌝ }
     {
-        let mut s = self;
-        s.top(position);
-        s
+        self.top(position);
+        self
     }
 }
 

@@ -2,3 +2,4 @@ pub mod Search
 pub mod Written
 mod Answers
 pub mod Figures
+mod Whole

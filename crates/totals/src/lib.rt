@@ -1,5 +1,6 @@
 // Exact totals of lists of binary floating-point numbers, rounded once. Every call answers: what cannot be totalled is refused, with a number.
 pub mod entry;
+mod lists;
 pub mod pence;
 pub mod refusal;
 mod stray;
@@ -11,10 +12,8 @@ use crate::stray::find_stray;
 use crate::stray::find_stray_bytes;
 use format::Format;
 use format::env::Settings;
-use reduction::bytes;
 use reduction::total::Answer;
 use reduction::total::refused;
-use reduction::words;
 ghost use mathlib.Core.Path.{_≡_};
 ghost use Rattle.totals_spec.specs.Totals as spec;
 ghost use Rattle.totals_spec.specs.Bytes.{valuesIn};
@@ -31,7 +30,7 @@ pub fn sum(f: Format, c: Settings, u: u64, values: &[u64]) -> Answer
     }
     match find_stray(f.width, values) {
         Found::At(i) => refused(7, i as u64),
-        Found::Nothing => words::reduce(f, c, u, values),
+        Found::Nothing => lists::words(f, c, u, values, values),
     }
 }
 
@@ -48,7 +47,7 @@ pub fn dot(f: Format, c: Settings, left: &[u64], right: &[u64]) -> Answer
     }
     match find_stray(f.width, right) {
         Found::At(i) => refused(7, i as u64),
-        Found::Nothing => words::dot(f, c, left, right),
+        Found::Nothing => lists::words(f, c, 3, left, right),
     }
 }
 
@@ -62,7 +61,7 @@ pub fn sum_bytes(f: Format, c: Settings, u: u64, values: &[u8]) -> Answer
     }
     match find_stray_bytes(f.width, values) {
         Found::At(i) => refused(7, i as u64),
-        Found::Nothing => bytes::reduce(f, c, u, values),
+        Found::Nothing => lists::bytes(f, c, u, values, values),
     }
 }
 
@@ -78,6 +77,6 @@ pub fn dot_bytes(f: Format, c: Settings, left: &[u8], right: &[u8]) -> Answer
     }
     match find_stray_bytes(f.width, right) {
         Found::At(i) => refused(7, i as u64),
-        Found::Nothing => bytes::dot(f, c, left, right),
+        Found::Nothing => lists::bytes(f, c, 3, left, right),
     }
 }

@@ -1,1 +1,2 @@
 pub mod Lay
+pub mod Sources

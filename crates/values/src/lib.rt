@@ -4,6 +4,7 @@ ghost use Prim.Native.Nat.{_+_, _*_, _/_, _<_, _≤_};
 ghost use lib.ListN.{length, getD};
 ghost use Rattle.totals_spec.specs.Bytes.{valuesIn};
 ghost use Rattle.values.specs.Laid.{laid};
+ghost use Rattle.values.specs.Sources.{Within, Whole, elements};
 
 fn wide(x: u8) -> u64
     ensures { λ r. ⌜ (r ≡ x) × (r < 256) ⌝ }
@@ -40,5 +41,49 @@ pub fn put_word(buffer: &mut [u8], at: usize, x: u64)
         buffer[at + i] = (rest % 256) as u8;
         rest = rest / 256;
         i += 1;
+    }
+}
+
+// Where the elements of a list stand: `count` of them, every `step`-th value from the value `start` on, among words (layout 0) or among values in
+// bytes.
+pub struct Source {
+    pub layout: u64,
+    pub start: usize,
+    pub step: usize,
+    pub count: usize,
+}
+
+// What a total walks over: the values (summand 0), the magnitudes (1) or the squares (2) of the elements of one list, or the products (3) of those of
+// two, which stand alike.
+pub struct Walk {
+    pub summand: u64,
+    pub source: Source,
+}
+
+// The walk over whole lists.
+pub fn whole(summand: u64, layout: u64, count: usize) -> Walk
+    ensures { λ r. ⌜ (r .summand ≡ summand) × Whole layout count (r .source) ⌝ }
+{
+    Walk {
+        summand,
+        source: Source {
+            layout,
+            start: 0,
+            step: 1,
+            count,
+        },
+    }
+}
+
+// The element i of a source.
+pub fn element(s: Source, words: &[u64], bytes: &[u8], i: usize) -> u64
+    requires { ⌜ Within s (now words) (now bytes) × (i < s .count) ⌝ }
+    ensures { λ r. ⌜ r ≡ getD (elements s (now (words .entry)) (now (bytes .entry))) i 0 ⌝ }
+{
+    let at = s.start + i * s.step;
+    if s.layout == 0 {
+        words[at]
+    } else {
+        word_at(bytes, at)
     }
 }

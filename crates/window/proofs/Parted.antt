@@ -2,7 +2,7 @@
 use mathlib.Core.Path.{_≡_, refl, sym, ap, ap₂, _∙_, subst}
 use mathlib.Core.Bool.{Bool, true, false, not, cond}
 use Prim.Native.Nat.{ℕ, zero, suc, _+_, _-_, _*_, _/_, _%_, _^_, _≤_, _<_}
-use native.Mathlib.Nat.{lt-of-lt-of-le, mul-pos, mul-assoc, zero-mul, mul-one, add-zero, mul-mod-left, mul-div-cancel, div-eq-of-lt, mul-le-mul-right}
+use native.Mathlib.Nat.{lt-of-lt-of-le, mul-pos, mul-assoc, zero-mul, mul-one, add-zero, mul-mod-left, mul-div-cancel, div-eq-of-lt, div-le-self, mul-le-mul-right}
 use native.Mathlib.Omega.{arith}
 use lib.Dec.{eqb}
 use lib.Pow.{pow-pos, pow-mono, shl-lt, shl-shr, shr-shr, mod-pow-add}
@@ -90,3 +90,7 @@ module _ (x s w : ℕ) where
 
 pub unshifted : (y : ℕ) → y * 2 ^ 0 ≡ y
 unshifted y = mul-one y
+
+-- shifted down, one word stays one
+pub no-high : (high low k l d : ℕ) → low < 2 ^ 64 → k * 2 ^ 64 + l ≡ (high * 2 ^ 64 + low) / 2 ^ d → high ≡ 0 → k ≡ 0
+no-high high low k l d h e z = omega (arith, div-le-self (high * 2 ^ 64 + low) (2 ^ d))

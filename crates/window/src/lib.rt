@@ -24,6 +24,7 @@ pub struct Part {
 pub fn window_part(t: Term, w: u64) -> Part
     requires { ⌜ t .shift < 2 ^ 62 ⌝ }
     ensures { λ r. ⌜ (term (r .low) (r .high) (r .up) ≡ magnitude t / 2 ^ w) × (r .lost ≡ spec.lostEnd w (magnitude t)) ⌝ }
+    ensures { λ r. ⌜ (t .high ≡ 0 → r .high ≡ 0) ⌝ }
 {
     if t.shift >= w {
         return Part {

@@ -24,9 +24,11 @@ no-term-requires c κs = search needs
 returns : tie.Need-returns
 unfolding terms.item
 returns c =
-    let a = c .before .before .before .args in
-    none-stands (env.summandOf (a .u)) (dec.operand (formatOf (a .f)) (settingsOf (a .c)) (a .b)) (c .no-term .result)
-    (ap dec.isFinite (sym (c .before .before .operand .ensures .0)) ∙ other-arm (c .before .before .operand .result .value) (c .before .match .keys2)) (no-magnitude _ (c .no-term .ensures .0) (c .no-term .ensures .1)) (omega arith)
+    let a = c .before .before .before .args in (
+      none-stands (env.summandOf (a .u)) (dec.operand (formatOf (a .f)) (settingsOf (a .c)) (a .b)) (c .no-term .result)
+          (ap dec.isFinite (sym (c .before .before .operand .ensures .0)) ∙ other-arm (c .before .before .operand .result .value) (c .before .match .keys2)) (no-magnitude _ (c .no-term .ensures .0) (c .no-term .ensures .1)) (omega arith),
+      λ _. c .no-term .ensures .1,
+    )
 
 summand-term-requires : tie.Need-summand-term-requires
 summand-term-requires c κs =
@@ -36,8 +38,10 @@ summand-term-requires c κs =
 returns-2 : tie.Need-returns-2
 unfolding terms.item
 returns-2 c =
-    let a = c .before .before .before .before .before .args in
-    subst (λ (x : dec.Unpacked). StandsFor (c .summand-term .result) (terms.itemOf (env.summandOf (a .u)) x)) (sym (ap unpackedOf (c .before .before .v .given .1)) ∙ c .before .before .before .before .operand .ensures .0) (c .summand-term .ensures .0)
+    let a = c .before .before .before .before .before .args in (
+      subst (λ (x : dec.Unpacked). StandsFor (c .summand-term .result) (terms.itemOf (env.summandOf (a .u)) x)) (sym (ap unpackedOf (c .before .before .v .given .1)) ∙ c .before .before .before .before .operand .ensures .0) (c .summand-term .ensures .0),
+      c .summand-term .ensures .1,
+    )
 
 pub looked-term-spec : {M : Type 1} → statement M
 looked-term-spec =

@@ -11,8 +11,8 @@ use Rattle.arithmetic.proofs.plain_pair_top.Tie as tie
 returns : tie.Need-returns
 returns c = search needs
 
-digits-requires : tie.Need-digits-requires
-digits-requires c κs = search needs
+normal-length-requires : tie.Need-normal-length-requires
+normal-length-requires c κs = search needs
 
 mul-result : tie.Need-mul-result
 mul-result c = search needs
@@ -30,4 +30,4 @@ returns-2 c =
 
 pub plain-pair-top-spec : {M : Type 1} → statement M
 plain-pair-top-spec =
-    tie.close (tie.spec returns digits-requires mul-result add-result add-result-2 returns-2)
+    tie.close (tie.spec returns normal-length-requires mul-result add-result add-result-2 returns-2)

@@ -1,14 +1,13 @@
 -- `arithmetic::plain_term` meets its contract.
-use mathlib.Core.Path.{_≡_, ap, _∙_, subst}
+use mathlib.Core.Path.{_≡_, subst}
 use Prim.Native.Nat.{_-_}
 use native.Mathlib.Omega.{arith}
-use lib.Ieee.{size}
 use Rattle.totals_spec.specs.Settings as env
 use Rattle.totals_spec.specs.Decode as dec
 use Rattle.totals_spec.specs.Terms as terms
 use Rattle.format.specs.Joined.{formatOf}
 use Rattle.arithmetic.specs.Joined.{StandsFor, plainNumber}
-use Rattle.arithmetic.proofs.Elements.{field-small, plain-size}
+use Rattle.arithmetic.proofs.Elements.{field-small}
 use borrow.Author.Needs.{needs}
 use Rattle.arithmetic.proofs.plain_term.Statement.{statement}
 use Rattle.arithmetic.proofs.plain_term.Tie as tie
@@ -33,10 +32,7 @@ returns c =
     let a = c .before .before .before .before .args in
     let e : dec.finite (c .before .before .before .sign-of .result) (c .before .before .field-of .result - 1) (c .before .plain-significand .result) ≡ plainNumber (formatOf (a .f)) (a .b) = cc (c .before .before .before .sign-of .ensures, c .before .before .field-of .ensures, c .before .plain-significand .ensures) in (
       subst (λ (x : dec.Unpacked). StandsFor (c .summand-term .result) (terms.itemOf (env.summandOf (a .u)) x)) e (c .summand-term .ensures .0),
-      λ h. (
-        c .summand-term .ensures .1 h .0,
-        ap size (c .summand-term .ensures .1 h .1 ∙ c .before .plain-significand .ensures) ∙ plain-size (formatOf (a .f)) (a .b) (c .before .before .before .before .pre .0),
-      ),
+      c .summand-term .ensures .1,
     )
 
 pub plain-term-spec : {M : Type 1} → statement M

@@ -22,8 +22,8 @@ returns-2 c =
     let a = c .before .before .args in
     rw (single-top (formatOf (a .f)) (a .u) (a .field) (c .before .if1 .left), c .if2 .taken)
 
-digits-requires : tie.Need-digits-requires
-digits-requires c κs = search needs
+normal-length-requires : tie.Need-normal-length-requires
+normal-length-requires c κs = search needs
 
 add-result : tie.Need-add-result
 add-result c = search needs
@@ -44,7 +44,7 @@ plain-top-spec =
     plain-pair-top-requires
     returns
     returns-2
-    digits-requires
+    normal-length-requires
     add-result
     add-result-2
     returns-3)

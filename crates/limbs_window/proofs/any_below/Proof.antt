@@ -60,11 +60,11 @@ low-bits-requires c κs = search needs
 
 returns-2 : tie.Need-returns-2 Inv-loop μ-loop
 returns-2 c =
-    let s = c .before .before .before .before .before .before .before in
+    let s = c .before .before .before .before .before .before in
     let a = s .args .t1 in
-    let p = c .before .before .before .before .before .before .split in
-    let end = c .before .before .before .before .before .smaller in
-    let loop = c .before .before .before .before .loop in
+    let p = c .before .before .before .before .before .split in
+    let end = c .before .before .before .before .smaller in
+    let loop = c .before .before .before .loop in
     let e : loop .i ≡ min (p .result .word) 12 = omega (arith, end .ensures) in
     ap (λ (x : ℕ). not (eqb x 0)) (c .low-bits .ensures ∙ ap (λ (x : ℕ). x % 2 ^ p .result .bit) (c .before .word-at .ensures ∙ ap (λ (x : ℕ). getD a x 0) (end .ensures)))
     ∙ rest-below (words 12 a _ (s .good .0)) (p .ensures) (rw e at (loop .inv .1))

@@ -19,9 +19,9 @@ shr-result c = search needs
 
 returns : tie.Need-returns
 returns c =
-    let s = c .before .before .before in
-    let p = c .before .before .split in
-    ap (λ (x : ℕ). eqb x 1) (ap (λ (x : ℕ). x / 2 ^ p .result .bit % 2) (c .word-at .ensures) ∙ bit-digit (s .args .t1) (words 12 (s .args .t1) _ (s .good .0) .fit) (p .ensures))
+    let s = c .before .before in
+    let p = c .before .split in
+    ap (λ (x : ℕ). eqb x 1) (ap (λ (x : ℕ). x / 2 ^ p .result .bit % 2) (c .word-at .ensures) ∙ bit-digit (s .args .a) (words 12 (s .args .a) _ (s .good .0) .fit) (p .ensures))
 
 pub bit-spec : {M : Type 1} → statement M
 bit-spec = tie.close (tie.spec split-requires word-at-requires shr-result returns)

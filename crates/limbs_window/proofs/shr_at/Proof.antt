@@ -27,11 +27,11 @@ funnel-requires c κs = search needs
 
 returns : tie.Need-returns
 returns c =
-    let s = c .before .before .before .before .before .before .before in
-    let p = c .before .before .before .before .before .before .split in
+    let s = c .before .before .before .before .before in
+    let p = c .before .before .before .before .split in
     c .funnel .ensures
-    ∙ ap₂ (λ (x y : ℕ). (x + y * 2 ^ 64) / 2 ^ p .result .bit % 2 ^ 64) (c .before .before .before .word-at .ensures) (c .before .word-at2 .ensures)
-    ∙ shr-digit (s .args .t1) (words 12 (s .args .t1) _ (s .good .0) .fit) (s .args .i) (p .ensures)
+    ∙ ap₂ (λ (x y : ℕ). (x + y * 2 ^ 64) / 2 ^ p .result .bit % 2 ^ 64) (c .before .before .word-at .ensures) (c .before .word-at2 .ensures)
+    ∙ shr-digit (s .args .a) (words 12 (s .args .a) _ (s .good .0) .fit) (s .args .i) (p .ensures)
 
 pub shr-at-spec : {M : Type 1} → statement M
 shr-at-spec =

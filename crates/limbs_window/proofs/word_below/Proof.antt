@@ -16,8 +16,8 @@ returns c = search needs
 
 returns-2 : tie.Need-returns-2
 returns-2 c =
-    let s = c .before .before .before in
-    c .word-at .ensures ∙ cons-at (s .args .t1) 0 (s .args .i) (c .before .before .if1 .left)
+    let s = c .before .before in
+    c .word-at .ensures ∙ cons-at (s .args .a) 0 (s .args .i) (c .before .if1 .left)
 
 pub word-below-spec : {M : Type 1} → statement M
 word-below-spec = tie.close (tie.spec sub-word-at word-at-requires returns returns-2)

@@ -1,13 +1,17 @@
 -- `window::window_part` meets its contract.
-use mathlib.Core.Path.{sym, ap, _∙_}
+use mathlib.Core.Path.{refl, sym, ap, _∙_}
 use mathlib.Core.Bool.{true, false}
 use Prim.Native.Nat.{ℕ, _+_, _-_, _*_, _^_}
 use native.Mathlib.Omega.{arith}
 use borrow.Author.Needs.{needs}
 use Rattle.arithmetic.specs.Joined.{magnitude}
-use Rattle.window.proofs.Parted.{above-part, above-lost, below-part, below-none, below-lost, across-part, across-lost, unshifted}
+use Rattle.window.proofs.Parted.{above-part, above-lost, below-part, below-none, below-lost, across-part, across-lost, unshifted, no-high}
 use Rattle.window.proofs.window_part.Statement.{statement}
 use Rattle.window.proofs.window_part.Tie as tie
+
+-- the significand of the term
+abbrev m : tie.Start → ℕ
+m s = s .args .t .high * 2 ^ 64 + s .args .t .low
 
 sub-t13 : tie.Need-sub-t13
 sub-t13 c = search needs
@@ -16,7 +20,7 @@ returns : tie.Need-returns
 unfolding magnitude
 returns c =
     let s = c .before in
-    (above-part (s .args .t .high * 2 ^ 64 + s .args .t .low) (s .args .t .shift) (s .args .w) (c .if1 .taken), above-lost (s .args .t .high * 2 ^ 64 + s .args .t .low) (s .args .t .shift) (s .args .w) (c .if1 .taken))
+    ((above-part (m s) (s .args .t .shift) (s .args .w) (c .if1 .taken), above-lost (m s) (s .args .t .shift) (s .args .w) (c .if1 .taken)), λ z. z)
 
 bit-length-requires : tie.Need-bit-length-requires
 bit-length-requires c κs = search needs
@@ -34,13 +38,19 @@ returns-2 : tie.Need-returns-2
 unfolding magnitude
 returns-2 c =
     let s = c .before .before .before .before in
-    (below-part (s .args .t .high * 2 ^ 64 + s .args .t .low) (s .args .t .shift) (s .args .w) (omega arith), below-none (s .args .t .high * 2 ^ 64 + s .args .t .low) (s .args .t .shift) (s .args .w) (omega arith))
+    ((below-part (m s) (s .args .t .shift) (s .args .w) (omega arith), below-none (m s) (s .args .t .shift) (s .args .w) (omega arith)), λ _. refl)
 
 returns-3 : tie.Need-returns-3
 unfolding magnitude
 returns-3 c =
     let s = c .before .before .before .before in
-    (below-part (s .args .t .high * 2 ^ 64 + s .args .t .low) (s .args .t .shift) (s .args .w) (omega arith), ap (λ (n : ℕ). s .args .t .shift + n) (c .before .before .bit-length .ensures) ∙ below-lost (s .args .t .high * 2 ^ 64 + s .args .t .low) (s .args .t .shift) (s .args .w) (omega arith) (λ e. c .if3 .left (c .before .before .bit-length .ensures ∙ e)))
+    let e = c .before .before .bit-length .ensures in (
+      (
+        below-part (m s) (s .args .t .shift) (s .args .w) (omega arith),
+        ap (λ (n : ℕ). s .args .t .shift + n) e ∙ below-lost (m s) (s .args .t .shift) (s .args .w) (omega arith) (λ z. c .if3 .left (e ∙ z)),
+      ),
+      λ _. refl,
+    )
 
 sub-down : tie.Need-sub-down
 sub-down c = search needs
@@ -55,13 +65,25 @@ returns-4 : tie.Need-returns-4
 unfolding magnitude
 returns-4 c =
     let s = c .before .before .before .before .before .before in
-    (unshifted _ ∙ c .before .before .shr .ensures ∙ across-part (s .args .t .high * 2 ^ 64 + s .args .t .low) (s .args .t .shift) (s .args .w) (omega arith), across-lost (s .args .t .high * 2 ^ 64 + s .args .t .low) (s .args .t .shift) (s .args .w) (omega arith) (omega arith) true (sym (c .if4 .taken) ∙ c .before .any-below .ensures))
+    let k = c .before .before .shr in (
+      (
+        unshifted _ ∙ k .ensures ∙ across-part (m s) (s .args .t .shift) (s .args .w) (omega arith),
+        across-lost (m s) (s .args .t .shift) (s .args .w) (omega arith) (omega arith) true (sym (c .if4 .taken) ∙ c .before .any-below .ensures),
+      ),
+      no-high (s .args .t .high) (s .args .t .low) _ _ _ (search needs) (k .ensures),
+    )
 
 returns-5 : tie.Need-returns-5
 unfolding magnitude
 returns-5 c =
     let s = c .before .before .before .before .before .before in
-    (unshifted _ ∙ c .before .before .shr .ensures ∙ across-part (s .args .t .high * 2 ^ 64 + s .args .t .low) (s .args .t .shift) (s .args .w) (omega arith), across-lost (s .args .t .high * 2 ^ 64 + s .args .t .low) (s .args .t .shift) (s .args .w) (omega arith) (omega arith) false (sym (c .if4 .left) ∙ c .before .any-below .ensures))
+    let k = c .before .before .shr in (
+      (
+        unshifted _ ∙ k .ensures ∙ across-part (m s) (s .args .t .shift) (s .args .w) (omega arith),
+        across-lost (m s) (s .args .t .shift) (s .args .w) (omega arith) (omega arith) false (sym (c .if4 .left) ∙ c .before .any-below .ensures),
+      ),
+      no-high (s .args .t .high) (s .args .t .low) _ _ _ (search needs) (k .ensures),
+    )
 
 pub window-part-spec : {M : Type 1} → statement M
 window-part-spec =

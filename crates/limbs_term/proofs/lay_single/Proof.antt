@@ -1,0 +1,36 @@
+-- `limbs_term::lay_single` meets its contract.
+use mathlib.Core.Path.{_≡_, refl}
+use native.Mathlib.Omega.{arith}
+use lib.Pow.{pow-pos}
+use borrow.Author.Needs.{needs}
+use Rattle.limbs.specs.Value.{term}
+use Rattle.limbs_term.proofs.Term.{term-words}
+use Rattle.limbs_term.proofs.Within.{at-word, inside-two, single-at-eleven, past-end}
+use Rattle.limbs_term.proofs.lay_single.Statement.{statement}
+use Rattle.limbs_term.proofs.lay_single.Tie as tie
+
+split-requires : tie.Need-split-requires
+split-requires c κs = search needs
+
+shl-word-requires : tie.Need-shl-word-requires
+shl-word-requires c κs = (c .split .ensures .small, pow-pos _)
+
+-- once the word is shifted: two words make the term
+whole : (k : tie.After-shl-word)
+    → at-word (k .before .split .result .word) (k .shl-word .result .word) (k .shl-word .result .carry) 0
+    ≡ term (k .before .before .args .low) 0 (k .before .before .args .up)
+whole k = term-words (k .before .before .args .low) 0 _ _ 0 (k .shl-word .result .carry) (k .before .split .ensures) (k .shl-word .ensures .0) (omega arith)
+
+returns : tie.Need-returns
+returns c = (c .if1 .taken, inside-two _ _ _ _ (c .if1 .taken) (search needs) (search needs) (whole (c .before .before)), refl)
+
+returns-2 : tie.Need-returns-2
+returns-2 c = (search needs, single-at-eleven _ _ _ _ (c .if2 .taken) (search needs) (whole (c .before .before .before .before)), refl)
+
+returns-3 : tie.Need-returns-3
+returns-3 c =
+    let k = c .before .before .before .before in
+    (search needs, past-end (k .before .split .result .word) _ _ 0 _ (search needs) (whole k), refl)
+
+pub lay-single-spec : {M : Type 1} → statement M
+lay-single-spec = tie.close (tie.spec split-requires shl-word-requires returns returns-2 returns-3)

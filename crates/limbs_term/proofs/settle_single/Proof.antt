@@ -1,0 +1,21 @@
+-- `limbs_term::settle_single` meets its contract.
+use mathlib.Core.Path.{ap, _∙_}
+use borrow.Author.Needs.{needs}
+use Rattle.limbs_term.specs.Placed.{flip}
+use Rattle.limbs_term.proofs.Within.{settles}
+use Rattle.limbs_term.proofs.settle_single.Statement.{statement}
+use Rattle.limbs_term.proofs.settle_single.Tie as tie
+
+lay-single-requires : tie.Need-lay-single-requires
+lay-single-requires c κs = search needs
+
+turned-requires : tie.Need-turned-requires
+turned-requires c κs = search needs
+
+returns : tie.Need-returns
+returns c =
+    let l = c .before .lay-single .ensures in
+    (settles _ _ _ _ _ (l .0) (l .1) (c .turned .ensures), c .turned .ensures .third ∙ ap (flip (c .before .before .args .negative)) (l .2))
+
+pub settle-single-spec : {M : Type 1} → statement M
+settle-single-spec = tie.close (tie.spec lay-single-requires turned-requires returns)

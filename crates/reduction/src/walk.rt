@@ -1,0 +1,259 @@
+// A total: one walk over its items for the scan, and one for each pass.
+use crate::pass::element_term;
+use crate::pass::finished;
+use crate::pass::is_empty;
+use crate::pass::pair_term;
+use crate::pass::start as middle;
+use crate::total::Answer;
+use crate::total::finish;
+use crate::total::special;
+use arithmetic::Term;
+use format::Format;
+use format::digits;
+use format::env::Settings;
+use limbs::word::add_word;
+use limbs_term::goes_on;
+use limbs_term::move_term;
+use limbs_term::settle;
+use limbs_term::settle_single;
+use scan::Early;
+use scan::decided;
+use scan::walk::scan;
+use values::Source;
+use values::Walk;
+use values::element;
+use window::ExactSum;
+use window::Pass;
+use window::Verdict;
+use window::advance;
+use window::larger;
+use window::start;
+use window::window_part;
+ghost use mathlib.Core.Path.{_≡_};
+ghost use Prim.Native.Nat.{_<_, _≤_};
+ghost use lib.ListN.{getD};
+ghost use Rattle.totals_spec.specs.Format as spec;
+ghost use Rattle.totals_spec.specs.Settings as env;
+ghost use Rattle.totals_spec.specs.Terms as terms;
+ghost use Rattle.totals_spec.specs.Totals as totals;
+ghost use Rattle.totals_spec.specs.Bounds.{FormatBounds};
+ghost use Rattle.format.specs.Joined.{formatOf, settingsOf};
+ghost use Rattle.values.specs.Sources.{Within, elements};
+ghost use Rattle.values.specs.Walks.{isDot, items};
+ghost use Rattle.arithmetic.specs.Joined.{StandsFor};
+ghost use Rattle.window.specs.Joined.{Passed};
+ghost use Rattle.reduction.specs.Held.{Sums};
+ghost use Rattle.reduction.specs.Answered.{answerOf, productsIn, firstIn, Accepted, answerIn};
+
+// The term of the item i.
+fn term_at(
+    f: Format,
+    c: Settings,
+    k: Walk,
+    left_words: &[u64],
+    left_bytes: &[u8],
+    right_words: &[u64],
+    right_bytes: &[u8],
+    i: usize,
+) -> Term
+    requires { ⌜ FormatBounds (formatOf f) × Within (k .source) (now «left_words») (now «left_bytes») × Within (k .source) (now «right_words») (now «right_bytes») × (i < k .source .count) ⌝ }
+    ensures { λ r. ⌜ StandsFor r (getD (items (formatOf f) (settingsOf c) k (now («left_words» .entry)) (now («left_bytes» .entry)) (now («right_words» .entry)) (now («right_bytes» .entry))) i terms.nanItem) ⌝ }
+{
+    let source = k.source;
+    let x = element(source, left_words, left_bytes, i);
+    if k.summand == 3 {
+        return pair_term(f, c, x, element(source, right_words, right_bytes, i));
+    }
+    element_term(f, c, k.summand, x)
+}
+
+// One pass at the edge w over the values or magnitudes of a list: terms of one word, which reach two words of the window.
+fn pass_singles(
+    f: Format,
+    c: Settings,
+    u: u64,
+    source: Source,
+    words: &[u64],
+    bytes: &[u8],
+    w: u64,
+) -> Pass
+    requires { ⌜ FormatBounds (formatOf f) × Within source (now words) (now bytes) × (u < 2) ⌝ }
+    ensures { λ r. ⌜ Passed (totals.sumTerms (formatOf f) (settingsOf c) (env.summandOf u) (elements source (now (words .entry)) (now (bytes .entry)))) w r ⌝ }
+{
+    let mut total = middle();
+    let mut lost: u64 = 0;
+    let mut i: usize = 0;
+    while i < source.count {
+        let t = element_term(f, c, u, element(source, words, bytes, i));
+        i += 1;
+        let p = window_part(t, w);
+        lost = larger(lost, p.lost);
+        if is_empty(p) {
+            continue;
+        }
+        let q = settle_single(p.low, p.up, t.negative);
+        let at = q.at;
+        let x = add_word(total[at], q.w0, q.carry);
+        let y = add_word(total[at + 1], q.w1, x.carry);
+        if goes_on(10, at, q.carry, y.carry) {
+            let next = move_term(total, p.low, p.high, p.up, t.negative);
+            total = next;
+            continue;
+        }
+        total[at] = x.word;
+        total[at + 1] = y.word;
+    }
+    finished(total, lost)
+}
+
+// The same over products: terms of two words, which reach three.
+fn pass_products(
+    f: Format,
+    c: Settings,
+    k: Walk,
+    left_words: &[u64],
+    left_bytes: &[u8],
+    right_words: &[u64],
+    right_bytes: &[u8],
+    w: u64,
+) -> Pass
+    requires { ⌜ FormatBounds (formatOf f) × Within (k .source) (now «left_words») (now «left_bytes») × Within (k .source) (now «right_words») (now «right_bytes») ⌝ }
+    ensures { λ r. ⌜ Passed (terms.terms (items (formatOf f) (settingsOf c) k (now («left_words» .entry)) (now («left_bytes» .entry)) (now («right_words» .entry)) (now («right_bytes» .entry)))) w r ⌝ }
+{
+    let source = k.source;
+    let mut total = middle();
+    let mut lost: u64 = 0;
+    let mut i: usize = 0;
+    while i < source.count {
+        let t = term_at(f, c, k, left_words, left_bytes, right_words, right_bytes, i);
+        i += 1;
+        let p = window_part(t, w);
+        lost = larger(lost, p.lost);
+        if is_empty(p) {
+            continue;
+        }
+        let q = settle(p.low, p.high, p.up, t.negative);
+        let at = q.at;
+        let x = add_word(total[at], q.w0, q.carry);
+        let y = add_word(total[at + 1], q.w1, x.carry);
+        let z = add_word(total[at + 2], q.w2, y.carry);
+        if goes_on(9, at, q.carry, z.carry) {
+            let next = move_term(total, p.low, p.high, p.up, t.negative);
+            total = next;
+            continue;
+        }
+        total[at] = x.word;
+        total[at + 1] = y.word;
+        total[at + 2] = z.word;
+    }
+    finished(total, lost)
+}
+
+fn pass(
+    f: Format,
+    c: Settings,
+    k: Walk,
+    left_words: &[u64],
+    left_bytes: &[u8],
+    right_words: &[u64],
+    right_bytes: &[u8],
+    w: u64,
+) -> Pass
+    requires { ⌜ FormatBounds (formatOf f) × Within (k .source) (now «left_words») (now «left_bytes») × Within (k .source) (now «right_words») (now «right_bytes») ⌝ }
+    ensures { λ r. ⌜ Passed (terms.terms (items (formatOf f) (settingsOf c) k (now («left_words» .entry)) (now («left_bytes» .entry)) (now («right_words» .entry)) (now («right_bytes» .entry)))) w r ⌝ }
+{
+    if k.summand < 2 {
+        let source = k.source;
+        return pass_singles(f, c, k.summand, source, left_words, left_bytes, w);
+    }
+    pass_products(f, c, k, left_words, left_bytes, right_words, right_bytes, w)
+}
+
+// The exact sum of the terms, the highest of whose bits lies at `top`: pass after pass until one of them decides.
+fn exact(
+    f: Format,
+    c: Settings,
+    k: Walk,
+    left_words: &[u64],
+    left_bytes: &[u8],
+    right_words: &[u64],
+    right_bytes: &[u8],
+    top: u64,
+) -> ExactSum
+    requires { ⌜ FormatBounds (formatOf f) × Within (k .source) (now «left_words») (now «left_bytes») × Within (k .source) (now «right_words») (now «right_bytes») × (k .source .count ≤ totals.limit) ⌝ }
+    requires { ⌜ (top ≡ terms.topOf (terms.terms (items (formatOf f) (settingsOf c) k (now «left_words») (now «left_bytes») (now «right_words») (now «right_bytes»)))) × (0 < top) ⌝ }
+    ensures { λ r. ⌜ Sums (spec.digits (formatOf f)) (terms.terms (items (formatOf f) (settingsOf c) k (now («left_words» .entry)) (now («left_bytes» .entry)) (now («right_words» .entry)) (now («right_bytes» .entry)))) r ⌝ }
+{
+    let p = digits(f);
+    let mut at = start(top);
+    let outcome = loop {
+        let q = pass(
+            f,
+            c,
+            k,
+            left_words,
+            left_bytes,
+            right_words,
+            right_bytes,
+            at.edge,
+        );
+        let s = advance(p, at, q);
+        let next = s.chain;
+        at = next;
+        let v = s.verdict;
+        if let Verdict::Done(o) = v {
+            break o;
+        }
+    };
+    ExactSum { outcome, chain: at }
+}
+
+// Whether the terms are products.
+fn products(u: u64) -> bool
+    ensures { λ r. ⌜ r ≡ productsIn u ⌝ }
+{
+    u >= 2
+}
+
+// Whether an infinity comes before a quiet NaN.
+fn infinity_first(u: u64) -> bool
+    ensures { λ r. ⌜ r ≡ firstIn u ⌝ }
+{
+    if u == 3 {
+        return false;
+    }
+    u != 0
+}
+
+// The total of a walk that is accepted.
+pub fn total(
+    f: Format,
+    c: Settings,
+    k: Walk,
+    left_words: &[u64],
+    left_bytes: &[u8],
+    right_words: &[u64],
+    right_bytes: &[u8],
+) -> Answer
+    requires { ⌜ Within (k .source) (now «left_words») (now «left_bytes») × Within (k .source) (now «right_words») (now «right_bytes») ⌝ }
+    requires { ⌜ Accepted (isDot k) (formatOf f) (settingsOf c) (k .summand) (elements (k .source) (now «left_words») (now «left_bytes»)) (elements (k .source) (now «right_words») (now «right_bytes»)) ⌝ }
+    ensures { λ r. ⌜ answerOf r ≡ answerIn (isDot k) (formatOf f) (settingsOf c) (env.summandOf (k .summand)) (elements (k .source) (now («left_words» .entry)) (now («left_bytes» .entry))) (elements (k .source) (now («right_words» .entry)) (now («right_bytes» .entry))) ⌝ }
+{
+    let s = scan(f, c, k, left_words, left_bytes, right_words, right_bytes);
+    match decided(c, infinity_first(k.summand), s) {
+        Early::Given(v, invalid) => special(f, s.subnormal, v, invalid),
+        Early::Terms => {
+            let e = exact(
+                f,
+                c,
+                k,
+                left_words,
+                left_bytes,
+                right_words,
+                right_bytes,
+                s.top,
+            );
+            finish(f, c, products(k.summand), s.subnormal, e)
+        }
+    }
+}

@@ -1,0 +1,34 @@
+-- `scan::walk::scan` meets its contract.
+use mathlib.Core.Path.{sym, subst}
+use mathlib.Core.Bool.{Bool}
+use borrow.Author.Needs.{needs}
+use borrow.Author.Tests.{eq-eqb, ne-eqb}
+use Rattle.totals_spec.specs.Settings.{summandOf}
+use Rattle.format.specs.Joined.{formatOf, settingsOf}
+use Rattle.values.specs.Sources.{elements}
+use Rattle.scan.specs.declared.Scan.{Scan}
+use Rattle.scan.specs.Walked.{GatheredIn}
+use Rattle.scan.proofs.walk.scan.Statement.{statement}
+use Rattle.scan.proofs.walk.scan.Tie as tie
+
+-- what is to be shown, of a walk over pairs or over one list
+abbrev Is : tie.Start → Scan → Bool → Type 0
+Is s r b =
+    let a = s .args in
+    GatheredIn b (formatOf (a .f)) (settingsOf (a .c)) (summandOf (a .k .summand)) (elements (a .k .source) (a .left-words .now) (a .left-bytes .now))
+    (elements (a .k .source) (a .right-words .now) (a .right-bytes .now)) r
+
+scan-pairs-requires : tie.Need-scan-pairs-requires
+scan-pairs-requires c κs = search needs
+
+returns : tie.Need-returns
+returns c = subst (Is (c .before .before .before .before .before .before .before .before) (c .scan-pairs .result)) (sym (eq-eqb _ 3 (c .before .if1 .taken))) (c .scan-pairs .ensures)
+
+scan-list-requires : tie.Need-scan-list-requires
+scan-list-requires c κs = search needs
+
+returns-2 : tie.Need-returns-2
+returns-2 c = subst (Is (c .before .before .before .before .before .before .before .before) (c .scan-list .result)) (sym (ne-eqb _ 3 (c .before .if1 .left))) (c .scan-list .ensures)
+
+pub scan-spec : {M : Type 1} → statement M
+scan-spec = tie.close (tie.spec scan-pairs-requires returns scan-list-requires returns-2)

@@ -1,0 +1,51 @@
+-- The elements of a source, by their index; and a whole list as a source.
+use mathlib.Core.Path.{_≡_, refl, sym, ap, _∙_}
+use mathlib.Core.List.{List}
+use Prim.Native.Nat.{ℕ, zero, suc, _+_, _*_, _<_}
+use native.Mathlib.Nat.{le-of-suc-le-suc, not-suc-le-zero, add-zero, zero-mul, mul-one, zero-add}
+use native.Mathlib.Omega.{arith}
+use lib.ListN.{length, getD}
+use lib.Seq.{ext-getD}
+use Rattle.totals_spec.specs.Bytes.{valuesIn}
+use Rattle.values.specs.declared.Source.{Source}
+use Rattle.values.specs.Sources.{strided, values, elements, Within, Whole}
+
+pub strided-length : (at step n : ℕ) (l : List ℕ) → length (strided at step n l) ≡ n
+strided-length at step zero l = refl
+strided-length at step (suc n) l = ap suc (strided-length (at + step) step n l)
+
+pub strided-at : (at step n : ℕ) (l : List ℕ) (i : ℕ) → i < n → getD (strided at step n l) i 0 ≡ getD l (at + i * step) 0
+strided-at at step zero l i h = absurd (not-suc-le-zero h)
+strided-at at step (suc n) l zero h = ap (λ (k : ℕ). getD l k 0) (sym (ap (λ (m : ℕ). at + m) (zero-mul step) ∙ add-zero at))
+strided-at at step (suc n) l (suc i) h = strided-at (at + step) step n l i (le-of-suc-le-suc h) ∙ ap (λ (k : ℕ). getD l k 0) (place at i step)
+  where
+    place : (at i step : ℕ) → at + step + i * step ≡ at + suc i * step
+    place at i step = omega arith
+
+-- every element of a list, in its order, is the list
+pub strided-all : (l : List ℕ) → strided 0 1 (length l) l ≡ l
+strided-all l =
+    ext-getD 0 _ l (strided-length 0 1 (length l) l)
+    (λ i h. strided-at 0 1 (length l) l i (rw (strided-length 0 1 (length l) l) at h) ∙ ap (λ (k : ℕ). getD l k 0) (zero-add (i * 1) ∙ mul-one i))
+
+pub elements-length : (s : Source) (words bytes : List ℕ) → length (elements s words bytes) ≡ s .count
+unfolding elements
+elements-length s words bytes = strided-length (s .start) (s .step) (s .count) _
+
+-- ---- a whole list
+
+module _ {layout count : ℕ} {s : Source} (h : Whole layout count s) (words bytes l : List ℕ) (e : values s words bytes ≡ l) (n : count ≡ length l) where
+  pub whole-within : Within s words bytes
+  whole-within = record { there = λ i k. rw (e, h .start-is, h .step-is) (omega (arith, k, h .count-is, n)) }
+
+  pub whole-elements : elements s words bytes ≡ l
+  unfolding elements
+  whole-elements = rw (e, h .start-is, h .step-is, h .count-is ∙ n) (strided-all l)
+
+-- of words, and of values in bytes
+module _ {count : ℕ} {s : Source} (words bytes : List ℕ) where
+  pub in-words : Whole 0 count s → values s words bytes ≡ words
+  in-words h = rw (h .layout-is)
+
+  pub in-bytes : Whole 1 count s → values s words bytes ≡ valuesIn bytes
+  in-bytes h = rw (h .layout-is)

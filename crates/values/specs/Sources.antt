@@ -1,0 +1,35 @@
+-- The elements of a source: a list, whatever it is read from.
+use mathlib.Core.Path.{_≡_}
+use mathlib.Core.Bool.{Bool, true, false}
+use mathlib.Core.List.{List, [], _∷_}
+use Prim.Native.Nat.{ℕ, zero, suc, _+_, _*_, _<_}
+use lib.Dec.{eqb}
+use lib.ListN.{length, getD}
+use Rattle.totals_spec.specs.Bytes.{valuesIn}
+use Rattle.values.specs.declared.Source.{Source}
+
+-- n elements, every step-th from `at` on
+abbrev pub strided : ℕ → ℕ → ℕ → List ℕ → List ℕ
+strided at step zero l = []
+strided at step (suc n) l = getD l at 0 ∷ strided (at + step) step n l
+
+abbrev pub laidOut : Bool → List ℕ → List ℕ → List ℕ
+laidOut true words bytes = words
+laidOut false words bytes = valuesIn bytes
+
+abbrev pub values : Source → List ℕ → List ℕ → List ℕ
+values s words bytes = laidOut (eqb (s .layout) 0) words bytes
+
+unfoldable pub elements : Source → List ℕ → List ℕ → List ℕ
+elements s words bytes = strided (s .start) (s .step) (s .count) (values s words bytes)
+
+-- each of them is there
+pub record Within (s : Source) (words bytes : List ℕ) : Type 0 where
+  pub there : (i : ℕ) → i < s .count → s .start + i * s .step < length (values s words bytes)
+
+-- they are all the values there are
+pub record Whole (layout count : ℕ) (s : Source) : Type 0 where
+  pub layout-is : s .layout ≡ layout
+  pub start-is : s .start ≡ 0
+  pub step-is : s .step ≡ 1
+  pub count-is : s .count ≡ count

@@ -1,0 +1,22 @@
+-- The items of a walk: those of the elements of one list, or of the pairs of two.
+use mathlib.Core.Bool.{Bool, true, false}
+use mathlib.Core.List.{List, map}
+use Prim.Native.Nat.{ℕ}
+use lib.Dec.{eqb}
+use Rattle.totals_spec.specs.Format.{Format}
+use Rattle.totals_spec.specs.Settings.{Settings, Summand, summandOf}
+use Rattle.totals_spec.specs.Terms.{Item, item, pairItem}
+use Rattle.totals_spec.specs.Totals.{pairs}
+use Rattle.values.specs.declared.Walk.{Walk}
+use Rattle.values.specs.Sources.{elements}
+
+abbrev pub isDot : Walk → Bool
+isDot k = eqb (k .summand) 3
+
+abbrev pub itemsOf : Bool → Format → Settings → Summand → List ℕ → List ℕ → List Item
+itemsOf true f c u x y = map (pairItem f c) (pairs x y)
+itemsOf false f c u x y = map (item f c u) x
+
+-- the same of the slices that hold the left and the right list
+abbrev pub items : Format → Settings → Walk → List ℕ → List ℕ → List ℕ → List ℕ → List Item
+items f c k lw lb rw rb = itemsOf (isDot k) f c (summandOf (k .summand)) (elements (k .source) lw lb) (elements (k .source) rw rb)
