@@ -4,7 +4,7 @@ use mathlib.Core.Logic.{_⊎_, inl, inr}
 use mathlib.Core.Bool.{Bool, true, false, _&&_, cond, true≢false}
 use mathlib.Core.List.{[], _∷_}
 use Prim.Native.Nat.{ℕ, zero, suc, _+_, _-_, _*_, _/_, _^_, _≤_, _<_, max}
-use native.Mathlib.Nat.{mod-lt, lt-of-lt-of-le, zero-mul, zero-add, pow-suc, zero-max, max-zero, suc-max-suc}
+use native.Mathlib.Nat.{mul-pos, mod-lt, lt-of-lt-of-le, zero-mul, zero-add, pow-suc, zero-max, max-zero, suc-max-suc}
 use native.Mathlib.Omega.{arith}
 use lib.Ieee.{size}
 use lib.Pow.{pow-pos, pow-mono}
@@ -46,9 +46,12 @@ field-small f b h = lt-of-lt-of-le (mod-lt (b / 2 ^ spec.fractionBits f) (pow-po
 pub fraction-le : (f : spec.Format) → FormatBounds f → 2 ^ spec.fractionBits f ≤ 2 ^ 62
 fraction-le f h = pow-mono {j = 62} (omega (arith, h .e-ge, h .w-le))
 
+pub significand-pos : (f : spec.Format) (b : ℕ) → 0 < 2 ^ spec.fractionBits f + dec.fractionOf f b
+significand-pos f b = omega (arith, pow-pos (spec.fractionBits f))
+
 -- ---- what is no term
 
-pub none-stands : (u : env.Summand) (x : dec.Unpacked) (t : Term) → dec.isFinite x ≡ false → magnitude t ≡ 0 → t .shift < 1073741824 → StandsFor t (terms.itemOf u x)
+pub none-stands : (u : env.Summand) (x : dec.Unpacked) (t : Term) → dec.isFinite x ≡ false → magnitude t ≡ 0 → t .shift ≡ 0 → StandsFor t (terms.itemOf u x)
 none-stands u (dec.finite s k m) t e z h = absurd (true≢false e)
 none-stands env.value (dec.zeroOf s) t e z h = (z, h)
 none-stands env.value (dec.infinity s) t e z h = (z, h)
@@ -99,12 +102,12 @@ sign-dropped (suc zero) s h = refl
 sign-dropped (suc (suc n)) s h = refl
 
 -- a number's own term, where it is not squared
-pub single-of : (u : ℕ) (s b : Bool) (k m : ℕ) → u < 2 → k < 268435456 → b ≡ (isValue (env.summandOf u) && s)
+pub single-of : (u : ℕ) (s b : Bool) (k m : ℕ) → u < 2 → k < 268435456 → 0 < m → b ≡ (isValue (env.summandOf u) && s)
     → StandsFor (record { negative = b; low = m; high = 0; shift = k + 1024 }) (terms.itemOf (env.summandOf u) (dec.finite s k m))
 unfolding magnitude terms.single
-single-of zero s b k m h g e = (ap (λ (n : ℕ). n * 2 ^ (k + 1024)) (zero-add m), e, omega arith)
-single-of (suc zero) s b k m h g e = (ap (λ (n : ℕ). n * 2 ^ (k + 1024)) (zero-add m), e, omega arith)
-single-of (suc (suc n)) s b k m h g e = absurd (two-le n h)
+single-of zero s b k m h g z e = (ap (λ (n : ℕ). n * 2 ^ (k + 1024)) (zero-add m), e, omega arith, mul-pos z (pow-pos (k + 1024)))
+single-of (suc zero) s b k m h g z e = (ap (λ (n : ℕ). n * 2 ^ (k + 1024)) (zero-add m), e, omega arith, mul-pos z (pow-pos (k + 1024)))
+single-of (suc (suc n)) s b k m h g z e = absurd (two-le n h)
 
 -- ---- items, by the summand
 

@@ -55,7 +55,7 @@ plain-fields f x y r h p e z c = (
 
 -- ---- a pair of which one is no finite number is no term
 
-pub none-left : (x y : dec.Unpacked) (t : Term) → dec.isFinite x ≡ false → magnitude t ≡ 0 → t .shift < 1073741824 → StandsFor t (terms.pairOf x y)
+pub none-left : (x y : dec.Unpacked) (t : Term) → dec.isFinite x ≡ false → magnitude t ≡ 0 → t .shift ≡ 0 → StandsFor t (terms.pairOf x y)
 none-left (dec.finite s k m) y t e z h = absurd (true≢false e)
 none-left (dec.nan s g m) y t e z h = (z, h)
 none-left (dec.zeroOf s) (dec.nan r g n) t e z h = (z, h)
@@ -67,8 +67,15 @@ none-left (dec.infinity s) (dec.zeroOf r) t e z h = (z, h)
 none-left (dec.infinity s) (dec.finite r j n) t e z h = (z, h)
 none-left (dec.infinity s) (dec.infinity r) t e z h = (z, h)
 
-pub none-right : (s : Bool) (k m : ℕ) (y : dec.Unpacked) (t : Term) → dec.isFinite y ≡ false → magnitude t ≡ 0 → t .shift < 1073741824 → StandsFor t (terms.pairOf (dec.finite s k m) y)
+pub none-right : (s : Bool) (k m : ℕ) (y : dec.Unpacked) (t : Term) → dec.isFinite y ≡ false → magnitude t ≡ 0 → t .shift ≡ 0 → StandsFor t (terms.pairOf (dec.finite s k m) y)
 none-right s k m (dec.finite r j n) t e z h = absurd (true≢false e)
 none-right s k m (dec.nan r g n) t e z h = (z, h)
 none-right s k m (dec.zeroOf r) t e z h = (z, h)
 none-right s k m (dec.infinity r) t e z h = (z, h)
+
+-- whichever of the two it is
+pub none-either : (x y : dec.Unpacked) (t : Term) → dec.isFinite y ≡ false → magnitude t ≡ 0 → t .shift ≡ 0 → StandsFor t (terms.pairOf x y)
+none-either (dec.finite s k m) y t e z h = none-right s k m y t e z h
+none-either (dec.nan s g m) y t e z h = none-left (dec.nan s g m) y t refl z h
+none-either (dec.zeroOf s) y t e z h = none-left (dec.zeroOf s) y t refl z h
+none-either (dec.infinity s) y t e z h = none-left (dec.infinity s) y t refl z h

@@ -16,13 +16,13 @@ use Rattle.arithmetic.specs.declared.Item.the-variants as item
 unfoldable pub magnitude : Term → ℕ
 magnitude t = (t .high * 2 ^ 64 + t .low) * 2 ^ (t .shift)
 
--- the code's term of an item: what is no term has magnitude 0
+-- the code's term of an item: a term is above 0, and what is no term has magnitude 0 and no shift
 abbrev pub StandsFor : Term → terms.Item → Type 0
-StandsFor t (terms.term s) = (magnitude t ≡ s .mag) × (t .negative ≡ s .neg) × (t .shift < 1073741824)
-StandsFor t terms.nanItem = (magnitude t ≡ 0) × (t .shift < 1073741824)
-StandsFor t terms.invalidItem = (magnitude t ≡ 0) × (t .shift < 1073741824)
-StandsFor t (terms.infinite s) = (magnitude t ≡ 0) × (t .shift < 1073741824)
-StandsFor t (terms.zeroItem s) = (magnitude t ≡ 0) × (t .shift < 1073741824)
+StandsFor t (terms.term s) = (magnitude t ≡ s .mag) × (t .negative ≡ s .neg) × (t .shift < 1073741824) × (0 < s .mag)
+StandsFor t terms.nanItem = (magnitude t ≡ 0) × (t .shift ≡ 0)
+StandsFor t terms.invalidItem = (magnitude t ≡ 0) × (t .shift ≡ 0)
+StandsFor t (terms.infinite s) = (magnitude t ≡ 0) × (t .shift ≡ 0)
+StandsFor t (terms.zeroItem s) = (magnitude t ≡ 0) × (t .shift ≡ 0)
 
 -- a decoded value of a format with at most 28 exponent bits
 abbrev pub Bounded : dec.Unpacked → Type 0

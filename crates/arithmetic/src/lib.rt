@@ -24,7 +24,7 @@ ghost use Rattle.totals_spec.specs.Totals as totals;
 ghost use Rattle.format.specs.Joined.{formatOf, settingsOf, unpackedOf};
 ghost use Rattle.arithmetic.specs.Joined.{itemOf, StandsFor, Bounded, plainNumber, plainProduct, BothPlain, PlainField, PlainFields, fieldTop, fieldsTop};
 
-// (high * 2^64 + low) * 2^shift units; low and high are 0 for what is no term.
+// (high * 2^64 + low) * 2^shift units; low, high and shift are 0 for what is no term.
 pub struct Term {
     pub negative: bool,
     pub low: u64,
@@ -42,20 +42,20 @@ pub enum Item {
     Top(u64),
 }
 
-fn no_term() -> Term
-    ensures { λ r. ⌜ (r .low ≡ 0) × (r .high ≡ 0) × (r .shift ≡ 1024) ⌝ }
+pub fn no_term() -> Term
+    ensures { λ r. ⌜ (r .low ≡ 0) × (r .high ≡ 0) × (r .shift ≡ 0) ⌝ }
 {
     Term {
         negative: false,
         low: 0,
         high: 0,
-        shift: 1024,
+        shift: 0,
     }
 }
 
 // The product of m * 2^k and n * 2^j.
 pub fn product(negative: bool, k: u64, m: u64, j: u64, n: u64) -> Term
-    requires { ⌜ (k < 268435456) × (j < 268435456) ⌝ }
+    requires { ⌜ (k < 268435456) × (j < 268435456) × (0 < m) × (0 < n) ⌝ }
     ensures { λ r. ⌜ StandsFor r (terms.term (terms.product negative k m j n)) ⌝ }
 {
     let p = widening_mul(m, n);
@@ -79,7 +79,7 @@ fn summand_sign(u: u64, negative: bool) -> bool
 
 // The term of a number, by the summand: 0 value, 1 magnitude, 2 and above square.
 fn summand_term(u: u64, negative: bool, k: u64, m: u64) -> Term
-    requires { ⌜ k < 268435456 ⌝ }
+    requires { ⌜ (k < 268435456) × (0 < m) ⌝ }
     ensures { λ r. ⌜ StandsFor r (terms.itemOf (env.summandOf u) (dec.finite negative k m)) ⌝ }
     ensures { λ r. ⌜ (u < 2 → r .high ≡ 0) ⌝ }
 {

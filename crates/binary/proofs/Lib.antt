@@ -1,2 +1,3 @@
+pub mod Blank
 mod Cases
 pub mod Encodable

@@ -31,6 +31,10 @@ Plain true f b =
     × (isPlain f b ≡ true)
 Plain false f b = isPlain f b ≡ false
 
+-- all bits but the sign are 0
+abbrev pub isBlank : spec.Format → ℕ → Bool
+isBlank f b = eqb (fieldOf f b) 0 && eqb (fractionOf f b) 0
+
 -- the running choice: no NaN yet is a zero, as in `chosenOf`
 abbrev pub nanOf : Nan → Unpacked
 nanOf n = cond (n .some) (nan (n .negative) (n .signaling) (n .payload)) (zeroOf false)

@@ -20,7 +20,7 @@ ghost use Rattle.totals_spec.specs.Decode as dec;
 ghost use Rattle.totals_spec.specs.Encode as enc;
 ghost use Rattle.format.specs.Joined.{formatOf, settingsOf, unpackedOf};
 ghost use Rattle.format.specs.Fits.{Encodes};
-ghost use Rattle.binary.specs.Joined.{topOf, nanPattern, Plain};
+ghost use Rattle.binary.specs.Joined.{topOf, nanPattern, isBlank, Plain};
 
 // The sign bit.
 pub fn sign_of(f: Format, b: u64) -> bool
@@ -136,6 +136,17 @@ pub fn is_plain(f: Format, b: u64) -> bool
     ensures { λ r. ⌜ Plain r (formatOf f) b ⌝ }
 {
     std::num::wrapping_sub_u64(field_of(f, b), 1) < field_max(f) - 1
+}
+
+// Whether all bits but the sign are 0: a zero, or Fnuz's NaN.
+pub fn is_blank(f: Format, b: u64) -> bool
+    requires { ⌜ FormatBounds (formatOf f) ⌝ }
+    ensures { λ r. ⌜ r ≡ isBlank (formatOf f) b ⌝ }
+{
+    if field_of(f, b) != 0 {
+        return false;
+    }
+    fraction_of(f, b) == 0
 }
 
 // Whether an encoding, decoded as v, is a subnormal number.

@@ -1,12 +1,12 @@
 -- A term's words added in place to a window, and what the carry out of them says.
 use mathlib.Core.Path.{_≡_, refl, sym, ap, _∙_}
-use mathlib.Core.Bool.{Bool, true, false}
+use mathlib.Core.Bool.{Bool, true, false, cond}
 use mathlib.Core.List.{List}
 use Prim.Native.Nat.{ℕ, _+_, _-_, _*_, _%_, _^_, _<_, _≤_}
-use native.Mathlib.Nat.{sub-add-cancel, zero-add, zero-mul, one-mul, add-mod-mod, mod-mod}
+use native.Mathlib.Nat.{sub-add-cancel, add-zero, mod-eq-of-lt, zero-add, zero-mul, one-mul, add-mod-mod, mod-mod}
 use native.Mathlib.Omega.{arith}
-use borrow.Author.Tests.{eqb-true, eqb-false}
-use lib.Dec.{eqb}
+use borrow.Author.Tests.{eqb-true, eqb-false, ltb-false}
+use lib.Dec.{eqb, ltb}
 use lib.ListN.{getD, set}
 use lib.Seq.{getD-set-other}
 use lib.Pow.{pow-pos, pow-add}
@@ -15,7 +15,7 @@ use Rattle.limbs.specs.Value.{Words, value, moved}
 use Rattle.limbs.proofs.Words.{words-set, inside, value-lt}
 use Rattle.limbs.proofs.Step.{put, put-last, added, far, none, minus-is, wrapped}
 use Rattle.limbs_term.specs.declared.Placed.{Placed}
-use Rattle.limbs_term.specs.Placed.{flip, sum, Makes, Settles}
+use Rattle.limbs_term.specs.Placed.{flip, sum, Makes, Room, Settles}
 
 -- ---- numbers
 
@@ -32,6 +32,19 @@ whole-word c w e f = omega arith
 -- what `add_word` says
 abbrev Adds : ℕ → ℕ → ℕ → Sum → Type 0
 Adds a b c r = (r .word + r .carry * 2 ^ 64 ≡ a + b + c) × (r .carry ≤ 1)
+
+-- what `goes_on` says of a word that was `old`, where nothing goes on
+abbrev Stays : Bool → ℕ → ℕ → Type 0
+Stays neg old new = ltb (flip neg new) (flip neg old) ≡ false
+
+-- then the carry out of it is that of the sign
+carry-out : (neg : Bool) (old w c : ℕ) (r : Sum) → Room neg w → old < 2 ^ 64 → r .word < 2 ^ 64 → c ≤ 1 → Adds old w c r → Stays neg old (r .word) → r .carry ≡ cond neg 1 0
+carry-out false old w c r h f g k a s = omega (arith, ltb-false (r .word) old s)
+carry-out true old w c r h f g k a s = omega (arith, ltb-false (18446744073709551615 - r .word) (18446744073709551615 - old) s)
+
+sign-carry : (neg : Bool) (p : Placed) (t : ℕ) → Makes neg p t → cond neg 1 0 ≡ p .carry
+sign-carry false p t m = sym (m .0)
+sign-carry true p t m = sym (m .0)
 
 -- ---- the first two words, and the third
 
@@ -124,10 +137,22 @@ none-small : (neg : Bool) {x : ℕ} → x ≡ flip neg 0 → x < 2 ^ 64
 none-small false e = omega arith
 none-small true e = omega arith
 
+-- a term that is nothing within the window changes nothing
+pub past-moved : (neg : Bool) {l : List ℕ} (t : ℕ) → Words 12 l → t % 2 ^ 768 ≡ 0 → value l ≡ moved neg (value l) t
+past-moved neg {l} t w e = go neg ∙ moved-mod neg (value l) t
+  where
+    go : (neg : Bool) → value l ≡ moved neg (value l) (t % 2 ^ 768)
+    go false = rw e (sym (ap (λ (n : ℕ). n % 2 ^ 768) (add-zero (value l)) ∙ mod-eq-of-lt (value-lt w)))
+    go true = minus-is (2 ^ 768) (value l) (value l) _ 0 (pow-pos 768) (value-lt w) (ap (λ (n : ℕ). value l + n) (e ∙ sym (zero-mul (2 ^ 768))))
+
 module _ {l : List ℕ} (w : Words 12 l) {neg : Bool} {t : ℕ} {p : Placed} where
   -- two words, of a term of one word
-  module _ (s : Settles 10 neg t p) (none : p .w2 ≡ flip neg 0) {x y : Sum} (fx : x .word < 2 ^ 64) (fy : y .word < 2 ^ 64)
-      (ex : Adds (getD l (p .at) 0) (p .w0) (p .carry) x) (ey : Adds (getD l (p .at + 1) 0) (p .w1) (x .carry) y) (out : p .at < 10 → y .carry ≡ p .carry) where
+  module _ (s : Settles 10 (p .w1) neg t p) (none : p .w2 ≡ flip neg 0) {x y : Sum} (fx : x .word < 2 ^ 64) (fy : y .word < 2 ^ 64)
+      (ex : Adds (getD l (p .at) 0) (p .w0) (p .carry) x) (ey : Adds (getD l (p .at + 1) 0) (p .w1) (x .carry) y)
+      (stays : Stays neg (getD l (p .at + 1) 0) (y .word)) where
+    out : p .at < 10 → y .carry ≡ p .carry
+    out h = carry-out neg _ _ _ y (s .room h) (w .fit _) fy (ex .1) ey stays ∙ sign-carry neg p _ (s .exact)
+
     low : p .at < 11
     low = omega (arith, s .word)
 
@@ -141,9 +166,12 @@ module _ {l : List ℕ} (w : Words 12 l) {neg : Bool} {t : ℕ} {p : Placed} whe
     two-moved = stored .1 ∙ moved-mod neg (value l) t
 
   -- three words
-  module _ (s : Settles 9 neg t p) {x y z : Sum} (fx : x .word < 2 ^ 64) (fy : y .word < 2 ^ 64) (fz : z .word < 2 ^ 64)
+  module _ (s : Settles 9 (p .w2) neg t p) {x y z : Sum} (fx : x .word < 2 ^ 64) (fy : y .word < 2 ^ 64) (fz : z .word < 2 ^ 64)
       (ex : Adds (getD l (p .at) 0) (p .w0) (p .carry) x) (ey : Adds (getD l (p .at + 1) 0) (p .w1) (x .carry) y)
-      (ez : Adds (getD l (p .at + 2) 0) (p .w2) (y .carry) z) (out : p .at < 9 → z .carry ≡ p .carry) where
+      (ez : Adds (getD l (p .at + 2) 0) (p .w2) (y .carry) z) (stays : Stays neg (getD l (p .at + 2) 0) (z .word)) where
+    out₃ : p .at < 9 → z .carry ≡ p .carry
+    out₃ h = carry-out neg _ _ _ z (s .room h) (w .fit _) fz (ey .1) ez stays ∙ sign-carry neg p _ (s .exact)
+
     low₃ : p .at < 11
     low₃ = omega (arith, s .word)
 
@@ -163,7 +191,7 @@ module _ {l : List ℕ} (w : Words 12 l) {neg : Bool} {t : ℕ} {p : Placed} whe
         at-nine e = ap (λ (n : ℕ). value after + z .carry * 2 ^ (64 * (n + 3))) (sym e) ∙ three l w p low₃ x y fx fy (ex .0) (ey .0) other z fz (ez .0)
 
         go : (neg : Bool) → Makes neg p (t % 2 ^ 768) → (b : Bool) → eqb (p .at) 9 ≡ b → value after ≡ moved neg (value l) (t % 2 ^ 768)
-        go neg m false b = even l w p low₃ x y fx fy (ex .0) (ey .0) other z fz (ez .0) neg _ m (out (omega (arith, s .word, eqb-false (p .at) 9 b))) .1
+        go neg m false b = even l w p low₃ x y fx fy (ex .0) (ey .0) other z fz (ez .0) neg _ m (out₃ (omega (arith, s .word, eqb-false (p .at) 9 b))) .1
         go false m true b = wrapped (2 ^ 768) _ _ (z .carry) (value-lt three-stored) (at-nine (eqb-true (p .at) 9 b) ∙ ap (λ (n : ℕ). value l + n) (m .1))
         go true m true b =
             minus-is (2 ^ 768) _ (value l) _ (1 - z .carry) (pow-pos 768) (value-lt three-stored)

@@ -1,5 +1,5 @@
 -- A term's words after its shift, and their complement.
-use mathlib.Core.Path.{_≡_, sym, ap, _∙_}
+use mathlib.Core.Path.{_≡_, refl, sym, ap, _∙_}
 use mathlib.Core.Bool.{Bool, true, false, cond}
 use Prim.Native.Nat.{ℕ, _+_, _-_, _*_, _%_, _^_, _<_, _≤_}
 use native.Mathlib.Nat.{add-mul, mul-assoc, add-comm, zero-add, mod-eq-of-lt}
@@ -10,7 +10,9 @@ use Rattle.limbs.specs.declared.word.Place.{Place}
 use Rattle.limbs.specs.Splits.{Splits}
 use Rattle.limbs.specs.Value.{term}
 use Rattle.limbs.proofs.Digits.{placed}
-use Rattle.limbs_term.specs.Placed.{flip, Makes}
+use Rattle.limbs_term.specs.declared.Laid.{Laid}
+use Rattle.limbs_term.specs.declared.Placed.{Placed}
+use Rattle.limbs_term.specs.Placed.{flip, laid, Makes}
 
 -- shifted by the place in the word, a term has the words w₀, w₁ and w₂
 pub term-words : (low high w₀ w₁ w₂ c : ℕ) {shift : ℕ} {p : Place} → Splits shift p → w₀ + c * 2 ^ 64 ≡ low * 2 ^ p .bit + 0 → w₁ + w₂ * 2 ^ 64 ≡ high * 2 ^ p .bit + c
@@ -62,7 +64,7 @@ pub one-if-small : (neg : Bool) {b : ℕ} → b ≡ cond neg 1 0 → b ≤ 1
 one-if-small false e = omega arith
 one-if-small true e = omega arith
 
-pub placed-as : (neg : Bool) (at w₀ w₁ w₂ v₀ v₁ v₂ b t : ℕ) → v₀ ≡ flip neg w₀ → v₁ ≡ flip neg w₁ → v₂ ≡ flip neg w₂ → b ≡ cond neg 1 0 → w₀ < 2 ^ 64 → w₁ < 2 ^ 64 → w₂ < 2 ^ 64
-    → (w₀ + (w₁ + w₂ * 2 ^ 64) * 2 ^ 64) * 2 ^ (64 * at) ≡ t → Makes neg (record { at = at; w0 = v₀; w1 = v₁; w2 = v₂; carry = b }) t
-placed-as false at w₀ w₁ w₂ v₀ v₁ v₂ b t e₀ e₁ e₂ e h₀ h₁ h₂ f = (e, rw (e₀, e₁, e₂, e) (ap (λ (x : ℕ). x * 2 ^ (64 * at)) (zero-add _) ∙ f))
-placed-as true at w₀ w₁ w₂ v₀ v₁ v₂ b t e₀ e₁ e₂ e h₀ h₁ h₂ f = (e, rw (e₀, e₁, e₂, e) (complemented at w₀ w₁ w₂ t h₀ h₁ h₂ f))
+pub placed-as : (neg : Bool) (l : Laid) (p : Placed) → p .at ≡ l .at → p .w0 ≡ flip neg (l .v0) → p .w1 ≡ flip neg (l .v1) → p .w2 ≡ flip neg (l .v2)
+    → p .carry ≡ cond neg 1 0 → l .v0 < 2 ^ 64 → l .v1 < 2 ^ 64 → l .v2 < 2 ^ 64 → Makes neg p (laid l)
+placed-as false l p a e₀ e₁ e₂ e h₀ h₁ h₂ = (e, rw (a, e₀, e₁, e₂, e) (ap (λ (x : ℕ). x * 2 ^ (64 * l .at)) (zero-add _)))
+placed-as true l p a e₀ e₁ e₂ e h₀ h₁ h₂ = (e, rw (a, e₀, e₁, e₂, e) (complemented (l .at) (l .v0) (l .v1) (l .v2) _ h₀ h₁ h₂ refl))

@@ -1,6 +1,6 @@
 -- A term's words within a window.
 use mathlib.Core.Path.{_≡_, sym, ap, _∙_}
-use mathlib.Core.Bool.{Bool}
+use mathlib.Core.Bool.{Bool, true, false}
 use Prim.Native.Nat.{ℕ, _+_, _-_, _*_, _%_, _^_, _<_, _≤_}
 use native.Mathlib.Nat.{lt-of-lt-of-le, mul-lt-mul-of-pos-right, mul-le-mul-right, mod-eq-of-lt, zero-add}
 use native.Mathlib.Omega.{arith}
@@ -9,7 +9,7 @@ use lib.Pow.{pow-pos, pow-add, pow-mono}
 use Rattle.limbs.proofs.Step.{wrapped, far}
 use Rattle.limbs_term.specs.declared.Laid.{Laid}
 use Rattle.limbs_term.specs.declared.Placed.{Placed}
-use Rattle.limbs_term.specs.Placed.{laid, Turns, Settles}
+use Rattle.limbs_term.specs.Placed.{flip, Room, Lays, Turns, Settles}
 
 -- the number of three words, the first of them at the word `at`
 abbrev pub at-word : ℕ → ℕ → ℕ → ℕ → ℕ
@@ -67,6 +67,24 @@ single-at-eleven at v₀ v₁ t h f₀ e =
 pub past-end : (at v₀ v₁ v₂ t : ℕ) → 12 ≤ at → at-word at v₀ v₁ v₂ ≡ t → 0 ≡ t % 2 ^ 768
 past-end at v₀ v₁ v₂ t h e = wrapped (2 ^ 768) 0 t ((v₀ + (v₁ + v₂ * 2 ^ 64) * 2 ^ 64) * 2 ^ (64 * (at - 12))) (lit< tt) (zero-add _ ∙ far 12 at (v₀ + (v₁ + v₂ * 2 ^ 64) * 2 ^ 64) h ∙ e)
 
+-- what a shift carries out of a word leaves room
+pub shifted-room : (offset x : ℕ) → offset < 64 → x < 2 ^ offset → Room false x
+shifted-room offset x h k = let p : 2 ^ offset ≤ 2 ^ 63 = pow-mono {j = 63} (omega arith) in omega arith
+
+-- and at the window's end nothing goes on
+pub ends : (end last : ℕ) → end < end → Room false last
+ends end last h = absurd (omega arith)
+
 -- a term's words, turned
-pub settles : (end : ℕ) (neg : Bool) (t : ℕ) (l : Laid) (p : Placed) → l .at ≤ end → laid l ≡ t % 2 ^ 768 → Turns neg l p → Settles end neg t p
-settles end neg t l p h e q = record { word = rw (q .word) h; small = q .small; exact = rw e at (q .exact) }
+turned-room : (neg : Bool) (v w : ℕ) → w ≡ flip neg v → Room false v → Room neg w
+turned-room false v w e h = omega arith
+turned-room true v w e h = omega arith
+
+pub settles : {end last last′ t : ℕ} {neg : Bool} {l : Laid} {p : Placed} → Lays end last t l → Turns neg l p → last′ ≡ flip neg last → Settles end last′ neg t p
+settles {end} {last} {last′} {t} {neg} {l} {p} h q e = record {
+  word = rw (q .word) (h .word);
+  small = q .small;
+  exact = rw (h .exact) at (q .exact);
+  past = λ o. h .past (sym (q .within) ∙ o);
+  room = λ o. turned-room neg last last′ e (h .room (rw (q .word) at o));
+}

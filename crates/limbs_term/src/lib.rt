@@ -5,17 +5,20 @@ use limbs_window::add;
 use limbs_window::shl;
 use limbs_window::sub;
 ghost use mathlib.Core.Path.{_≡_};
-ghost use mathlib.Core.Bool.{cond, false};
-ghost use Prim.Native.Nat.{_%_, _^_, _<_, _≤_};
+ghost use mathlib.Core.Bool.{cond};
+ghost use Prim.Native.Nat.{_^_};
+ghost use lib.Dec.{ltb};
 ghost use Rattle.limbs.specs.Value.{value, term, moved};
-ghost use Rattle.limbs_term.specs.Placed.{flip, laid, Turns, Settles};
+ghost use Rattle.limbs_term.specs.Placed.{flip, Lays, Turns, Settles};
 
-// A term's part within the window, in words from the word `at` on: what lies past the window's end is left off.
+// A term's part within the window, in words from the word `at` on: what lies past the window's end is left off, and where all of it does, it is not
+// inside.
 pub struct Laid {
     pub at: usize,
     pub v0: u64,
     pub v1: u64,
     pub v2: u64,
+    pub inside: bool,
 }
 
 // The words to add for a term from the word `at` on, and the carry into them: for a term that is taken off, the complement of its words, and 1.
@@ -25,6 +28,7 @@ pub struct Placed {
     pub w1: u64,
     pub w2: u64,
     pub carry: u64,
+    pub inside: bool,
 }
 
 fn one_if(negative: bool) -> u64
@@ -54,7 +58,7 @@ pub fn move_term(total: [u64; 12], low: u64, high: u64, shift: usize, negative: 
 
 // The three words of a term, the last of them the window's last at most.
 fn lay(low: u64, high: u64, up: usize) -> Laid
-    ensures { λ r. ⌜ (r .at ≤ 9) × (laid r ≡ term low high up % 2 ^ 768) ⌝ }
+    ensures { λ r. ⌜ Lays 9 (r .v2) (term low high up) r ⌝ }
 {
     let p = split(up);
     let s = shl_word(low, 0, p.bit);
@@ -65,6 +69,7 @@ fn lay(low: u64, high: u64, up: usize) -> Laid
             v0: s.word,
             v1: t.word,
             v2: t.carry,
+            inside: true,
         };
     }
     if p.word == 10 {
@@ -73,6 +78,7 @@ fn lay(low: u64, high: u64, up: usize) -> Laid
             v0: 0,
             v1: s.word,
             v2: t.word,
+            inside: true,
         };
     }
     if p.word == 11 {
@@ -81,6 +87,7 @@ fn lay(low: u64, high: u64, up: usize) -> Laid
             v0: 0,
             v1: 0,
             v2: s.word,
+            inside: true,
         };
     }
     Laid {
@@ -88,12 +95,13 @@ fn lay(low: u64, high: u64, up: usize) -> Laid
         v0: 0,
         v1: 0,
         v2: 0,
+        inside: false,
     }
 }
 
 // The same of a term of one word, which reaches two.
 fn lay_single(low: u64, up: usize) -> Laid
-    ensures { λ r. ⌜ (r .at ≤ 10) × (laid r ≡ term low 0 up % 2 ^ 768) × (r .v2 ≡ 0) ⌝ }
+    ensures { λ r. ⌜ Lays 10 (r .v1) (term low 0 up) r × (r .v2 ≡ 0) ⌝ }
 {
     let p = split(up);
     let s = shl_word(low, 0, p.bit);
@@ -103,6 +111,7 @@ fn lay_single(low: u64, up: usize) -> Laid
             v0: s.word,
             v1: s.carry,
             v2: 0,
+            inside: true,
         };
     }
     if p.word == 11 {
@@ -111,6 +120,7 @@ fn lay_single(low: u64, up: usize) -> Laid
             v0: 0,
             v1: s.word,
             v2: 0,
+            inside: true,
         };
     }
     Laid {
@@ -118,6 +128,7 @@ fn lay_single(low: u64, up: usize) -> Laid
         v0: 0,
         v1: 0,
         v2: 0,
+        inside: false,
     }
 }
 
@@ -133,30 +144,28 @@ fn turned(p: Laid, negative: bool) -> Placed
         w1,
         w2,
         carry: one_if(negative),
+        inside: p.inside,
     }
 }
 
 // The words to add for a term that is added or taken off, to a window's three words from `at` on.
 pub fn settle(low: u64, high: u64, up: usize, negative: bool) -> Placed
-    ensures { λ r. ⌜ Settles 9 negative (term low high up) r ⌝ }
+    ensures { λ r. ⌜ Settles 9 (r .w2) negative (term low high up) r ⌝ }
 {
     turned(lay(low, high, up), negative)
 }
 
 // The same of a term of one word, to a window's two words from `at` on.
 pub fn settle_single(low: u64, up: usize, negative: bool) -> Placed
-    ensures { λ r. ⌜ Settles 10 negative (term low 0 up) r × (r .w2 ≡ flip negative 0) ⌝ }
+    ensures { λ r. ⌜ Settles 10 (r .w1) negative (term low 0 up) r × (r .w2 ≡ flip negative 0) ⌝ }
 {
     turned(lay_single(low, up), negative)
 }
 
-// Whether the carry out of the words that are added from the word `at` on goes on into the window's next word, where there is one: `end` is the
-// highest that `at` can be.
-pub fn goes_on(end: usize, at: usize, carry: u64, out: u64) -> bool
-    ensures { λ r. ⌜ (r ≡ false → at < end → out ≡ carry) ⌝ }
+// Whether a carry goes on out of the last word that a term is added to, or a borrow where it is taken off: the word then lies on the other side of what
+// it was.
+pub fn goes_on(negative: bool, old: u64, new: u64) -> bool
+    ensures { λ r. ⌜ r ≡ ltb (flip negative new) (flip negative old) ⌝ }
 {
-    if at >= end {
-        return false;
-    }
-    out != carry
+    flipped(negative, new) < flipped(negative, old)
 }

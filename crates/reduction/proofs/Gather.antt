@@ -11,7 +11,7 @@ use lib.Seq.{take-suc, take-length}
 use lib.Pow.{pow-pos}
 use Rattle.limbs.specs.Value.{Words, value, moved, term}
 use Rattle.limbs.proofs.Words.{alike, value-lt}
-use Rattle.limbs.proofs.Step.{minus-is}
+use Rattle.limbs_term.proofs.Stored.{past-moved}
 use Rattle.totals_spec.specs.Basics.{total, greatest, keep}
 use Rattle.totals_spec.specs.Format as spec
 use Rattle.totals_spec.specs.Settings as env
@@ -26,7 +26,7 @@ use Rattle.window.specs.declared.Pass.{Pass}
 use Rattle.arithmetic.specs.Joined.{magnitude, StandsFor, plainNumber, plainProduct, BothPlain}
 use Rattle.arithmetic.proofs.Elements.{plainly, plain-item}
 use Rattle.arithmetic.proofs.Pairs.{both-plainly, plain-pair}
-use Rattle.window.specs.Joined.{Passed}
+use Rattle.window.specs.Joined.{PartAt, Passed}
 use Rattle.window.proofs.Parted.{lost-of-zero}
 use Rattle.reduction.specs.Held.{middle, Held}
 
@@ -89,13 +89,13 @@ adds w t terms.invalidItem h = adds-none w t terms.invalidItem refl (h .0)
 adds w t (terms.infinite s) h = adds-none w t (terms.infinite s) refl (h .0)
 adds w t (terms.zeroItem s) h = adds-none w t (terms.zeroItem s) refl (h .0)
 
--- the shift of a term that stands for an item is small
-pub shift-small : (t : Term) (i : terms.Item) → StandsFor t i → t .shift < 1073741824
-shift-small t (terms.term s) h = h .2
-shift-small t terms.nanItem h = h .1
-shift-small t terms.invalidItem h = h .1
-shift-small t (terms.infinite s) h = h .1
-shift-small t (terms.zeroItem s) h = h .1
+-- what a term that stands for an item is cut by: its shift is small, and what is no term has none
+pub cuttable : (t : Term) (i : terms.Item) → StandsFor t i → (t .shift < 2 ^ 62) × (magnitude t ≡ 0 → t .shift ≡ 0)
+cuttable t (terms.term s) h = (omega (arith, h .2), λ e. absurd (omega (arith, h .3, h .0, e)))
+cuttable t terms.nanItem h = (omega (arith, h .1), λ _. h .1)
+cuttable t terms.invalidItem h = (omega (arith, h .1), λ _. h .1)
+cuttable t (terms.infinite s) h = (omega (arith, h .1), λ _. h .1)
+cuttable t (terms.zeroItem s) h = (omega (arith, h .1), λ _. h .1)
 
 -- ---- the gathering of a list of items, and of one more
 
@@ -127,14 +127,8 @@ held-none w = record { window = sym (plain ∙ mod-eq-of-lt (subst (λ (n : ℕ)
         ap (λ (n : ℕ). residue half n 0) (add-zero (value middle) ∙ sym (zero-add (value middle))) ∙ residue-plus half half-pos 0 0 (value middle)
         ∙ ap (λ (n : ℕ). (n + value middle) % (half + half)) (residue-zero half half-pos) ∙ ap (λ (n : ℕ). n % (half + half)) (zero-add (value middle))
 
-pub start-words : {l : List ℕ} → l ≡ middle → Words 12 l
-start-words e = subst (Words 12) (sym e) middle-words
-
-pub held-start : (w : ℕ) {l : List ℕ} → l ≡ middle → Held [] w (value l) 0
-held-start w e = subst (λ (l : List ℕ). Held [] w (value l) 0) (sym e) (held-none w)
-
 -- without the start, the sum is left
-pub passed : (ts : List terms.Term) (w v lost : ℕ) (q : Pass) → Held ts w v lost → (value (q .total) ≡ moved true v (value middle)) × (q .lost ≡ lost) → Passed ts w q
+passed : (ts : List terms.Term) (w v lost : ℕ) (q : Pass) → Held ts w v lost → (value (q .total) ≡ moved true v (value middle)) × (q .lost ≡ lost) → Passed ts w q
 passed ts w v lost q h e =
     let a = lookAt ts w .plus in
     let b = lookAt ts w .minus in
@@ -143,15 +137,6 @@ passed ts w v lost q h e =
           ∙ ap (λ (n : ℕ). residue half n (b + value middle)) (add-zero (value middle + a) ∙ add-comm (value middle) a) ∙ residue-cancel half half-pos a b (value middle);
       lost = e .1 ∙ h .lost-is;
     }
-
--- ---- a term of which nothing reaches the edge
-
-unmoved : (neg : Bool) (l : List ℕ) (x : ℕ) → Words 12 l → x ≡ 0 → value l ≡ moved neg (value l) x
-unmoved false l x w e = sym (mod-eq-of-lt (value-lt w)) ∙ ap (λ (n : ℕ). n % 2 ^ 768) (sym (add-zero (value l)) ∙ ap (λ (n : ℕ). value l + n) (sym e))
-unmoved true l x w e = minus-is (2 ^ 768) (value l) (value l) x 0 (pow-pos 768) (value-lt w) (ap (λ (n : ℕ). value l + n) (e ∙ sym (zero-mul (2 ^ 768))))
-
-pub nothing-moved : (neg : Bool) (p : Part) {l : List ℕ} → Words 12 l → (p .low ≡ 0) × (p .high ≡ 0) → value l ≡ moved neg (value l) (term (p .low) (p .high) (p .up))
-nothing-moved neg p {l} w e = unmoved neg l _ w (ap₂ (λ (a b : ℕ). (b * 2 ^ 64 + a) * 2 ^ p .up) (e .0) (e .1) ∙ zero-mul (2 ^ p .up))
 
 -- ---- an element, or a pair, that is plainly normal
 
@@ -163,23 +148,55 @@ pub pair-stands : (f : spec.Format) (c : env.Settings) (x y : ℕ) (b : Bool) (t
     → StandsFor t (terms.term (plainProduct f x y)) → StandsFor t (terms.pairItem f c (x, y))
 pair-stands f c x y b t e h s = subst (λ (i : terms.Item). StandsFor t i) (plain-pair f c x y (both-plainly b f x y e h)) s
 
--- ---- a walk over a list of items
+-- ---- a pass over a list of items: after i of them, and one turn
 
-module _ (l : List terms.Item) (w : ℕ) where
-  -- the terms of one item more
-  terms-next : (i : ℕ) → i < length l → terms.terms (take (i + 1) l) ≡ terms.terms (take i l) ++ keep (terms.termOf (getD l i terms.nanItem)) []
-  terms-next i h =
-      ap (λ n. terms.terms (take n l)) (add-one i) ∙ ap terms.terms (take-suc l i terms.nanItem h)
-      ∙ picked-append terms.termOf (take i l) (getD l i terms.nanItem ∷ [])
+pub record Running (l : List terms.Item) (w i : ℕ) (total : List ℕ) (lost : ℕ) : Type 0 where
+  pub words : Words 12 total
+  pub held : Held (terms.terms (take i l)) w (value total) lost
 
-  -- one turn: t stands for the item i, and p is its part at the edge
-  pub held-next : (i v lost v′ lost′ : ℕ) (t : Term) (p : Part) → i < length l → StandsFor t (getD l i terms.nanItem) → Held (terms.terms (take i l)) w v lost
-      → (term (p .low) (p .high) (p .up) ≡ magnitude t / 2 ^ w) × (p .lost ≡ lostEnd w (magnitude t))
-      → lost′ ≡ max lost (p .lost) → v′ ≡ moved (t .negative) v (term (p .low) (p .high) (p .up)) → Held (terms.terms (take (i + 1) l)) w v′ lost′
-  held-next i v lost v′ lost′ t p h s k e el ev =
-      rw (terms-next i h)
-      (held-more (terms.terms (take i l)) w v lost v′ lost′ t (getD l i terms.nanItem) s k (ev ∙ ap (λ (x : ℕ). moved (t .negative) v x) (e .0)) (el ∙ ap (max lost) (e .1)))
+pub running-start : (l : List terms.Item) (w : ℕ) {total : List ℕ} → total ≡ middle → Running l w 0 total 0
+running-start l w e = record {
+  words = subst (Words 12) (sym e) middle-words;
+  held = subst (λ (r : List ℕ). Held [] w (value r) 0) (sym e) (held-none w);
+}
 
-  -- the end: all items
-  pub held-end : (i v lost : ℕ) → i ≡ length l → Held (terms.terms (take i l)) w v lost → Held (terms.terms l) w v lost
-  held-end i v lost e h = subst (λ (s : List terms.Item). Held (terms.terms s) w v lost) (ap (λ (n : ℕ). take n l) e ∙ take-length l) h
+pub running-end : (l : List terms.Item) (w i : ℕ) (total : List ℕ) (lost : ℕ) (q : Pass) → i ≡ length l → Running l w i total lost
+    → (value (q .total) ≡ moved true (value total) (value middle)) × (q .lost ≡ lost) → Passed (terms.terms l) w q
+running-end l w i total lost q e h =
+    passed (terms.terms l) w _ lost q (subst (λ (s : List terms.Item). Held (terms.terms s) w (value total) lost) (ap (λ (n : ℕ). take n l) e ∙ take-length l) (h .held))
+
+-- t stands for the item i, p is its part at the edge, and `lost` is that of all i + 1
+pub record Turn (l : List terms.Item) (w i : ℕ) (total : List ℕ) (t : Term) (p : Part) (lost : ℕ) : Type 0 where
+  pub inside : i < length l
+  pub before : ℕ
+  pub so-far : Running l w i total before
+  pub stands : StandsFor t (getD l i terms.nanItem)
+  pub part : PartAt w t p
+  pub larger : lost ≡ max before (p .lost)
+
+-- the terms of one item more
+terms-next : (l : List terms.Item) (i : ℕ) → i < length l → terms.terms (take (i + 1) l) ≡ terms.terms (take i l) ++ keep (terms.termOf (getD l i terms.nanItem)) []
+terms-next l i h =
+    ap (λ n. terms.terms (take n l)) (add-one i) ∙ ap terms.terms (take-suc l i terms.nanItem h)
+    ∙ picked-append terms.termOf (take i l) (getD l i terms.nanItem ∷ [])
+
+module _ {l : List terms.Item} {w i : ℕ} {total : List ℕ} {t : Term} {p : Part} {lost : ℕ} (k : Turn l w i total t p lost) where
+  abbrev part : ℕ
+  part = term (p .low) (p .high) (p .up)
+
+  -- with the part moved into the window
+  pub turn-moved : {r : List ℕ} → Words 12 r → value r ≡ moved (t .negative) (value total) part → Running l w (i + 1) r lost
+  turn-moved f e = record {
+    words = f;
+    held =
+        rw (terms-next l i (k .inside))
+        (held-more (terms.terms (take i l)) w (value total) (k .before) _ lost t (getD l i terms.nanItem) (k .stands) (k .so-far .held)
+        (e ∙ ap (moved (t .negative) (value total)) (k .part .exact)) (k .larger ∙ ap (max (k .before)) (k .part .lost-is)));
+  }
+
+  -- where there is no part within the window
+  pub turn-past : part % 2 ^ 768 ≡ 0 → Running l w (i + 1) total lost
+  turn-past e = turn-moved (k .so-far .words) (past-moved (t .negative) part (k .so-far .words) e)
+
+  pub turn-none : p .some ≡ false → Running l w (i + 1) total lost
+  turn-none e = turn-past (ap (λ (n : ℕ). n % 2 ^ 768) (k .part .none e))

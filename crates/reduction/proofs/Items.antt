@@ -1,5 +1,5 @@
 -- The items of a walk, one by one; and what a walk that is accepted has shown, over the pairs of a dot or over the elements of one list.
-use mathlib.Core.Path.{_≡_, refl, sym, ap, ap₂, _∙_}
+use mathlib.Core.Path.{_≡_, refl, sym, ap, ap₂, _∙_, subst}
 use mathlib.Core.Bool.{Bool, true, false, not}
 use mathlib.Core.List.{List, [], _∷_, map}
 use Prim.Native.Nat.{ℕ, zero, suc, _≤_, _<_}
@@ -18,6 +18,8 @@ use Rattle.totals_spec.specs.Settled.{chainTotal}
 use Rattle.totals_spec.proofs.Order.{pairs-length}
 use Rattle.totals_spec.proofs.Accepts.{sum-accepts, dot-accepts}
 use Rattle.totals_spec.proofs.ByChain.{sum-by-chain, dot-by-chain}
+use Rattle.arithmetic.specs.declared.Term.{Term}
+use Rattle.arithmetic.specs.Joined.{StandsFor}
 use Rattle.arithmetic.proofs.Pairs.{pairs-at}
 use Rattle.values.specs.declared.Walk.{Walk}
 use Rattle.values.specs.Sources.{elements}
@@ -32,19 +34,21 @@ mapped g [] i d e h = absurd (not-suc-le-zero h)
 mapped g (x ∷ l) zero d e h = refl
 mapped g (x ∷ l) (suc i) d e h = mapped g l i d e (le-of-suc-le-suc h)
 
+-- the term of the element i, or of the pair i, stands for the item i
+module _ (f : Format) (c : Settings) (x : List ℕ) (t : Term) (i : ℕ) (h : i < length x) where
+  pub element-stands : (u : Summand) (s : ℕ) → s ≡ getD x i 0 → StandsFor t (item f c u s) → StandsFor t (getD (map (item f c u) x) i nanItem)
+  element-stands u s e = subst (StandsFor t) (ap (item f c u) e ∙ sym (mapped (item f c u) x i 0 nanItem h))
+
+  pub pair-stands-at : (y : List ℕ) (s r : ℕ) → length y ≡ length x → s ≡ getD x i 0 → r ≡ getD y i 0 → StandsFor t (pairItem f c (s, r))
+      → StandsFor t (getD (map (pairItem f c) (pairs x y)) i nanItem)
+  pair-stands-at y s r n e g =
+      subst (StandsFor t)
+      (ap (pairItem f c) (ap₂ (λ a b. (a, b)) e g ∙ sym (pairs-at x y i n h)) ∙ sym (mapped (pairItem f c) (pairs x y) i (0, 0) nanItem (rw (pairs-length x y (sym n)) h)))
+
 module _ (f : Format) (c : Settings) (u : Summand) (x y : List ℕ) where
   pub items-length : (b : Bool) → length y ≡ length x → length (itemsOf b f c u x y) ≡ length x
   items-length true e = length-map (pairs x y) (pairItem f c) ∙ pairs-length x y (sym e)
   items-length false e = length-map x (item f c u)
-
-  -- the item i, of the element s, or of the pair of s and t
-  pub element-item : (b : Bool) (i s : ℕ) → b ≡ false → i < length x → s ≡ getD x i 0 → item f c u s ≡ getD (itemsOf b f c u x y) i nanItem
-  element-item b i s z h e = rw z (ap (item f c u) e ∙ sym (mapped (item f c u) x i 0 nanItem h))
-
-  pub pair-item : (b : Bool) (i s t : ℕ) → b ≡ true → length y ≡ length x → i < length x → s ≡ getD x i 0 → t ≡ getD y i 0
-      → pairItem f c (s, t) ≡ getD (itemsOf b f c u x y) i nanItem
-  pair-item b i s t z n h e g =
-      rw z (ap (pairItem f c) (ap₂ (λ a b. (a, b)) e g ∙ sym (pairs-at x y i n h)) ∙ sym (mapped (pairItem f c) (pairs x y) i (0, 0) nanItem (rw (pairs-length x y (sym n)) h)))
 
   pub items-base : (b : Bool) → FormatBounds f → length y ≡ length x → length x ≤ limit → 0 < topOf (terms (itemsOf b f c u x y)) → Base (digits f) (terms (itemsOf b f c u x y))
   items-base true h e n g = dot-base f c x y h e n g

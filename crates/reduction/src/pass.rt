@@ -3,16 +3,16 @@ use arithmetic::Term;
 use arithmetic::both_plain;
 use arithmetic::looked_pair;
 use arithmetic::looked_term;
+use arithmetic::no_term;
 use arithmetic::plain_product;
 use arithmetic::plain_term;
+use binary::is_blank;
 use binary::is_plain;
 use format::Format;
 use format::env::Settings;
 use limbs_window::sub;
-use window::Part;
 use window::Pass;
 ghost use mathlib.Core.Path.{_≡_};
-ghost use mathlib.Core.Bool.{true};
 ghost use Prim.Native.Nat.{_<_};
 ghost use Rattle.limbs.specs.Value.{value, minus};
 ghost use Rattle.totals_spec.specs.Settings as env;
@@ -37,16 +37,6 @@ pub fn finished(total: [u64; 12], lost: u64) -> Pass
     Pass { lost, total: t }
 }
 
-// Whether a term has no part at or above the edge.
-pub fn is_empty(p: Part) -> bool
-    ensures { λ r. ⌜ (r ≡ true → (p .low ≡ 0) × (p .high ≡ 0)) ⌝ }
-{
-    if p.low != 0 {
-        return false;
-    }
-    p.high == 0
-}
-
 // The term of an element of a list. That of a value or a magnitude has one word.
 pub fn element_term(f: Format, c: Settings, u: u64, x: u64) -> Term
     requires { ⌜ FormatBounds (formatOf f) ⌝ }
@@ -59,13 +49,19 @@ pub fn element_term(f: Format, c: Settings, u: u64, x: u64) -> Term
     looked_term(f, c, u, x)
 }
 
-// The term of a pair of a dot.
+// The term of a pair of a dot. Pairs with a zero, as of missing months, are common enough to be told at once.
 pub fn pair_term(f: Format, c: Settings, x: u64, y: u64) -> Term
     requires { ⌜ FormatBounds (formatOf f) ⌝ }
     ensures { λ r. ⌜ StandsFor r (terms.pairItem (formatOf f) (settingsOf c) (x, y)) ⌝ }
 {
     if both_plain(f, x, y) {
         return plain_product(f, x, y);
+    }
+    if is_blank(f, x) {
+        return no_term();
+    }
+    if is_blank(f, y) {
+        return no_term();
     }
     looked_pair(f, c, x, y)
 }

@@ -1,13 +1,11 @@
 // A total: one walk over its items for the scan, and one for each pass.
 use crate::pass::element_term;
 use crate::pass::finished;
-use crate::pass::is_empty;
 use crate::pass::pair_term;
 use crate::pass::start as middle;
 use crate::total::Answer;
 use crate::total::finish;
 use crate::total::special;
-use arithmetic::Term;
 use format::Format;
 use format::digits;
 use format::env::Settings;
@@ -31,7 +29,6 @@ use window::start;
 use window::window_part;
 ghost use mathlib.Core.Path.{_≡_};
 ghost use Prim.Native.Nat.{_<_, _≤_};
-ghost use lib.ListN.{getD};
 ghost use Rattle.totals_spec.specs.Format as spec;
 ghost use Rattle.totals_spec.specs.Settings as env;
 ghost use Rattle.totals_spec.specs.Terms as terms;
@@ -40,34 +37,12 @@ ghost use Rattle.totals_spec.specs.Bounds.{FormatBounds};
 ghost use Rattle.format.specs.Joined.{formatOf, settingsOf};
 ghost use Rattle.values.specs.Sources.{Within, elements};
 ghost use Rattle.values.specs.Walks.{isDot, items};
-ghost use Rattle.arithmetic.specs.Joined.{StandsFor};
 ghost use Rattle.window.specs.Joined.{Passed};
 ghost use Rattle.reduction.specs.Held.{Sums};
 ghost use Rattle.reduction.specs.Answered.{answerOf, productsIn, firstIn, Accepted, answerIn};
 
-// The term of the item i.
-fn term_at(
-    f: Format,
-    c: Settings,
-    k: Walk,
-    left_words: &[u64],
-    left_bytes: &[u8],
-    right_words: &[u64],
-    right_bytes: &[u8],
-    i: usize,
-) -> Term
-    requires { ⌜ FormatBounds (formatOf f) × Within (k .source) (now «left_words») (now «left_bytes») × Within (k .source) (now «right_words») (now «right_bytes») × (i < k .source .count) ⌝ }
-    ensures { λ r. ⌜ StandsFor r (getD (items (formatOf f) (settingsOf c) k (now («left_words» .entry)) (now («left_bytes» .entry)) (now («right_words» .entry)) (now («right_bytes» .entry))) i terms.nanItem) ⌝ }
-{
-    let source = k.source;
-    let x = element(source, left_words, left_bytes, i);
-    if k.summand == 3 {
-        return pair_term(f, c, x, element(source, right_words, right_bytes, i));
-    }
-    element_term(f, c, k.summand, x)
-}
-
-// One pass at the edge w over the values or magnitudes of a list: terms of one word, which reach two words of the window.
+// One pass at the edge w over the values or magnitudes of a list: terms of one word, which reach two words of the window. Only these are stored, unless a
+// carry goes on.
 fn pass_singles(
     f: Format,
     c: Settings,
@@ -88,14 +63,17 @@ fn pass_singles(
         i += 1;
         let p = window_part(t, w);
         lost = larger(lost, p.lost);
-        if is_empty(p) {
+        if !p.some {
             continue;
         }
         let q = settle_single(p.low, p.up, t.negative);
+        if !q.inside {
+            continue;
+        }
         let at = q.at;
         let x = add_word(total[at], q.w0, q.carry);
         let y = add_word(total[at + 1], q.w1, x.carry);
-        if goes_on(10, at, q.carry, y.carry) {
+        if goes_on(t.negative, total[at + 1], y.word) {
             let next = move_term(total, p.low, p.high, p.up, t.negative);
             total = next;
             continue;
@@ -106,38 +84,77 @@ fn pass_singles(
     finished(total, lost)
 }
 
-// The same over products: terms of two words, which reach three.
-fn pass_products(
+// The same over squares: terms of two words, which reach three. The two loops over products are apart, so that neither tests for the other in each turn.
+fn pass_squares(f: Format, c: Settings, source: Source, words: &[u64], bytes: &[u8], w: u64) -> Pass
+    requires { ⌜ FormatBounds (formatOf f) × Within source (now words) (now bytes) ⌝ }
+    ensures { λ r. ⌜ Passed (totals.sumTerms (formatOf f) (settingsOf c) env.square (elements source (now (words .entry)) (now (bytes .entry)))) w r ⌝ }
+{
+    let mut total = middle();
+    let mut lost: u64 = 0;
+    let mut i: usize = 0;
+    while i < source.count {
+        let t = element_term(f, c, 2, element(source, words, bytes, i));
+        i += 1;
+        let p = window_part(t, w);
+        lost = larger(lost, p.lost);
+        if !p.some {
+            continue;
+        }
+        let q = settle(p.low, p.high, p.up, t.negative);
+        if !q.inside {
+            continue;
+        }
+        let at = q.at;
+        let x = add_word(total[at], q.w0, q.carry);
+        let y = add_word(total[at + 1], q.w1, x.carry);
+        let z = add_word(total[at + 2], q.w2, y.carry);
+        if goes_on(t.negative, total[at + 2], z.word) {
+            let next = move_term(total, p.low, p.high, p.up, t.negative);
+            total = next;
+            continue;
+        }
+        total[at] = x.word;
+        total[at + 1] = y.word;
+        total[at + 2] = z.word;
+    }
+    finished(total, lost)
+}
+
+// And over the products of pairs.
+fn pass_pairs(
     f: Format,
     c: Settings,
-    k: Walk,
+    source: Source,
     left_words: &[u64],
     left_bytes: &[u8],
     right_words: &[u64],
     right_bytes: &[u8],
     w: u64,
 ) -> Pass
-    requires { ⌜ FormatBounds (formatOf f) × Within (k .source) (now «left_words») (now «left_bytes») × Within (k .source) (now «right_words») (now «right_bytes») ⌝ }
-    ensures { λ r. ⌜ Passed (terms.terms (items (formatOf f) (settingsOf c) k (now («left_words» .entry)) (now («left_bytes» .entry)) (now («right_words» .entry)) (now («right_bytes» .entry)))) w r ⌝ }
+    requires { ⌜ FormatBounds (formatOf f) × Within source (now «left_words») (now «left_bytes») × Within source (now «right_words») (now «right_bytes») ⌝ }
+    ensures { λ r. ⌜ Passed (totals.dotTerms (formatOf f) (settingsOf c) (elements source (now («left_words» .entry)) (now («left_bytes» .entry))) (elements source (now («right_words» .entry)) (now («right_bytes» .entry)))) w r ⌝ }
 {
-    let source = k.source;
     let mut total = middle();
     let mut lost: u64 = 0;
     let mut i: usize = 0;
     while i < source.count {
-        let t = term_at(f, c, k, left_words, left_bytes, right_words, right_bytes, i);
+        let x = element(source, left_words, left_bytes, i);
+        let t = pair_term(f, c, x, element(source, right_words, right_bytes, i));
         i += 1;
         let p = window_part(t, w);
         lost = larger(lost, p.lost);
-        if is_empty(p) {
+        if !p.some {
             continue;
         }
         let q = settle(p.low, p.high, p.up, t.negative);
+        if !q.inside {
+            continue;
+        }
         let at = q.at;
         let x = add_word(total[at], q.w0, q.carry);
         let y = add_word(total[at + 1], q.w1, x.carry);
         let z = add_word(total[at + 2], q.w2, y.carry);
-        if goes_on(9, at, q.carry, z.carry) {
+        if goes_on(t.negative, total[at + 2], z.word) {
             let next = move_term(total, p.low, p.high, p.up, t.negative);
             total = next;
             continue;
@@ -162,11 +179,23 @@ fn pass(
     requires { ⌜ FormatBounds (formatOf f) × Within (k .source) (now «left_words») (now «left_bytes») × Within (k .source) (now «right_words») (now «right_bytes») ⌝ }
     ensures { λ r. ⌜ Passed (terms.terms (items (formatOf f) (settingsOf c) k (now («left_words» .entry)) (now («left_bytes» .entry)) (now («right_words» .entry)) (now («right_bytes» .entry)))) w r ⌝ }
 {
+    let source = k.source;
     if k.summand < 2 {
-        let source = k.source;
         return pass_singles(f, c, k.summand, source, left_words, left_bytes, w);
     }
-    pass_products(f, c, k, left_words, left_bytes, right_words, right_bytes, w)
+    if k.summand == 3 {
+        return pass_pairs(
+            f,
+            c,
+            source,
+            left_words,
+            left_bytes,
+            right_words,
+            right_bytes,
+            w,
+        );
+    }
+    pass_squares(f, c, source, left_words, left_bytes, w)
 }
 
 // The exact sum of the terms, the highest of whose bits lies at `top`: pass after pass until one of them decides.

@@ -19,9 +19,6 @@ pub lost-of-zero : (w : ℕ) → lostEnd w 0 ≡ 0
 unfolding lostEnd
 lost-of-zero w = rw (lt-ltb _ _ (pow-pos w)) size-zero
 
-no-bits : (x : ℕ) → size x ≡ 0 → x ≡ 0
-no-bits x e = let h : x < 1 = subst (λ (n : ℕ). x < 2 ^ n) e (size-lt x) in omega arith
-
 module _ (x s w : ℕ) where
   -- ---- at w or above
   pub above-part : w ≤ s → x * 2 ^ (s - w) ≡ x * 2 ^ s / 2 ^ w
@@ -46,19 +43,18 @@ module _ (x s w : ℕ) where
   pub below-part : s + size x ≤ w → 0 ≡ x * 2 ^ s / 2 ^ w
   below-part h = sym (div-eq-of-lt (under h))
 
-  pub below-none : size x ≡ 0 → 0 ≡ lostEnd w (x * 2 ^ s)
-  below-none e = sym (ap (lostEnd w) (ap (λ (n : ℕ). n * 2 ^ s) (no-bits x e) ∙ zero-mul (2 ^ s)) ∙ lost-of-zero w)
-
-  pub below-lost : s + size x ≤ w → (size x ≡ 0 → ⊥) → s + size x ≡ lostEnd w (x * 2 ^ s)
+  -- what is no term has no shift either
+  pub below-lost : s + size x ≤ w → (x * 2 ^ s ≡ 0 → s ≡ 0) → s + size x ≡ lostEnd w (x * 2 ^ s)
   unfolding lostEnd
-  below-lost h z = rw (lt-ltb _ _ (under h)) (sym (ap size (sym (add-zero (x * 2 ^ s))) ∙ size-above x 0 s pos (pow-pos s)))
+  below-lost h z = rw (lt-ltb _ _ (under h)) (go x refl)
     where
-      pos : 0 < x
-      pos = go x refl
-        where
-          go : (y : ℕ) → x ≡ y → 0 < x
-          go zero e = absurd (z (ap size e ∙ size-zero))
-          go (suc y) e = omega arith
+      go : (y : ℕ) → x ≡ y → s + size x ≡ size (x * 2 ^ s)
+      go zero e =
+          let m : x * 2 ^ s ≡ 0 = ap (λ (n : ℕ). n * 2 ^ s) e ∙ zero-mul (2 ^ s) in
+          rw (m, z m, e) (ap (λ (n : ℕ). 0 + n) size-zero ∙ sym size-zero)
+      go (suc y) e =
+          let pos : 0 < x = omega arith in
+          sym (ap size (sym (add-zero (x * 2 ^ s))) ∙ size-above x 0 s pos (pow-pos s))
 
   -- ---- across
   pub across-part : s ≤ w → x / 2 ^ (w - s) ≡ x * 2 ^ s / 2 ^ w

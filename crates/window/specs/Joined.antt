@@ -5,13 +5,16 @@ use mathlib.Core.List.{List}
 use Prim.Native.Nat.{ℕ, suc, _+_, _-_, _*_, _/_, _^_, _≤_, _<_}
 use lib.Dec.{ltb, eqb}
 use lib.Ieee.{size}
-use Rattle.limbs.specs.Value.{value}
+use Rattle.limbs.specs.Value.{value, term}
 use Rattle.totals_spec.specs.Basics as words
 use Rattle.totals_spec.specs.Terms as terms
 use Rattle.totals_spec.specs.Chain as chain
 use Rattle.totals_spec.specs.Settled as settled
 use Rattle.exact.specs.declared.Unrounded.{Unrounded}
 use Rattle.exact.specs.Joined.{Stands}
+use Rattle.arithmetic.specs.declared.Term.{Term}
+use Rattle.arithmetic.specs.Joined.{magnitude}
+use Rattle.window.specs.declared.Part.{Part}
 use Rattle.window.specs.declared.Pass.{Pass}
 use Rattle.window.specs.declared.Signed.{Signed}
 use Rattle.window.specs.declared.Chain.{Chain}
@@ -25,6 +28,13 @@ use Rattle.window.specs.declared.Nearness.{Nearness}
 use Rattle.window.specs.declared.Nearness.the-variants.{Low, High, Between}
 
 -- ---- a pass, and a chain
+
+-- the part of a term at or above the edge w, and the lost bit plus one
+pub record PartAt (w : ℕ) (t : Term) (r : Part) : Type 0 where
+  pub exact : term (r .low) (r .high) (r .up) ≡ magnitude t / 2 ^ w
+  pub lost-is : r .lost ≡ chain.lostEnd w (magnitude t)
+  pub none : r .some ≡ false → term (r .low) (r .high) (r .up) ≡ 0
+  pub one-word : t .high ≡ 0 → r .high ≡ 0
 
 -- a pass at the edge w over the terms ts
 pub record Passed (ts : List terms.Term) (w : ℕ) (q : Pass) : Type 0 where

@@ -11,26 +11,27 @@ ghost use Rattle.limbs.specs.Value.{value, bitLength, term};
 ghost use Rattle.totals_spec.specs.Basics.{flag};
 ghost use Rattle.totals_spec.specs.Chain as spec;
 ghost use Rattle.arithmetic.specs.Joined.{magnitude};
-ghost use Rattle.window.specs.Joined.{boundOf, sidedOf, exactOf, signedOf, nearBy, counted, Ready, Ends, Sides, Goes, Bounds, Follows, IsSum, Steps, Roundable, Leaves};
+ghost use Rattle.window.specs.Joined.{PartAt, boundOf, sidedOf, exactOf, signedOf, nearBy, counted, Ready, Ends, Sides, Goes, Bounds, Follows, IsSum, Steps, Roundable, Leaves};
 
-// The part of a term at or above an edge, to be added `up` bits above it, and the lost bit plus one.
+// The part of a term at or above an edge, to be added `up` bits above it, whether there is some, and the lost bit plus one.
 pub struct Part {
     pub low: u64,
     pub high: u64,
     pub up: usize,
+    pub some: bool,
     pub lost: u64,
 }
 
 pub fn window_part(t: Term, w: u64) -> Part
-    requires { ⌜ t .shift < 2 ^ 62 ⌝ }
-    ensures { λ r. ⌜ (term (r .low) (r .high) (r .up) ≡ magnitude t / 2 ^ w) × (r .lost ≡ spec.lostEnd w (magnitude t)) ⌝ }
-    ensures { λ r. ⌜ (t .high ≡ 0 → r .high ≡ 0) ⌝ }
+    requires { ⌜ (t .shift < 2 ^ 62) × (magnitude t ≡ 0 → t .shift ≡ 0) ⌝ }
+    ensures { λ r. ⌜ PartAt w t r ⌝ }
 {
     if t.shift >= w {
         return Part {
             low: t.low,
             high: t.high,
             up: (t.shift - w) as usize,
+            some: true,
             lost: 0,
         };
     }
@@ -40,7 +41,8 @@ pub fn window_part(t: Term, w: u64) -> Part
             low: 0,
             high: 0,
             up: 0,
-            lost: if n == 0 { 0 } else { t.shift + n },
+            some: false,
+            lost: t.shift + n,
         };
     }
     let down = (w - t.shift) as usize;
@@ -49,6 +51,7 @@ pub fn window_part(t: Term, w: u64) -> Part
         low: kept.low,
         high: kept.high,
         up: 0,
+        some: true,
         lost: if pair::any_below(t.low, t.high, down) {
             w
         } else {

@@ -1,16 +1,41 @@
 -- `arithmetic::looked_pair` meets its contract.
---
-use mathlib.Core.Path.{sym, ap, ap₂, _∙_, subst}
-use native.Mathlib.Omega.{arith}
+use mathlib.Core.Path.{_≡_, sym, ap, ap₂, _∙_, subst}
 use Rattle.totals_spec.specs.Decode as dec
 use Rattle.totals_spec.specs.Terms as terms
 use Rattle.format.specs.Joined.{formatOf, settingsOf, unpackedOf}
-use Rattle.arithmetic.specs.Joined.{StandsFor}
+use Rattle.arithmetic.specs.Joined.{StandsFor, Bounded}
 use Rattle.arithmetic.proofs.Elements.{operand-bounded, no-magnitude, other-arm}
-use Rattle.arithmetic.proofs.Pairs.{none-left, none-right}
+use Rattle.arithmetic.proofs.Pairs.{none-left, none-either}
 use borrow.Author.Needs.{needs}
 use Rattle.arithmetic.proofs.looked_pair.Statement.{statement}
 use Rattle.arithmetic.proofs.looked_pair.Tie as tie
+
+-- the two operands
+abbrev first : tie.Start → dec.Unpacked
+first s = dec.operand (formatOf (s .args .f)) (settingsOf (s .args .c)) (s .args .x)
+
+abbrev second : tie.Start → dec.Unpacked
+second s = dec.operand (formatOf (s .args .f)) (settingsOf (s .args .c)) (s .args .y)
+
+-- where the first is a number m × 2^k
+abbrev entry : tie.After-known-told → tie.Start
+entry k = k .before .before .before .before
+
+abbrev number : tie.After-known-told → dec.Unpacked
+number k = let n = k .before .v .given .0 in dec.finite (n .0) (n .1 .0) (n .1 .1 .0)
+
+is-number : (k : tie.After-known-told) → first (entry k) ≡ number k
+is-number k = sym (k .before .before .before .operand .ensures .0) ∙ ap unpackedOf (k .before .v .given .1)
+
+-- and the second
+abbrev entry₂ : tie.After-known-told2 → tie.Start
+entry₂ k = entry (k .before .before .before .before)
+
+abbrev number₂ : tie.After-known-told2 → dec.Unpacked
+number₂ k = let n = k .before .w .given .0 in dec.finite (n .0) (n .1 .0) (n .1 .1 .0)
+
+is-number₂ : (k : tie.After-known-told2) → second (entry₂ k) ≡ number₂ k
+is-number₂ k = sym (k .before .before .before .operand2 .ensures .0) ∙ ap unpackedOf (k .before .w .given .1)
 
 operand-requires : tie.Need-operand-requires
 operand-requires c κs = search needs
@@ -24,9 +49,10 @@ no-term-requires c κs = search needs
 returns : tie.Need-returns
 unfolding terms.pairItem
 returns c =
-    let a = c .before .before .before .args in
-    none-left (dec.operand (formatOf (a .f)) (settingsOf (a .c)) (a .x)) (dec.operand (formatOf (a .f)) (settingsOf (a .c)) (a .y)) (c .no-term .result)
-    (ap dec.isFinite (sym (c .before .before .operand .ensures .0)) ∙ other-arm (c .before .before .operand .result .value) (c .before .match .keys2)) (no-magnitude _ (c .no-term .ensures .0) (c .no-term .ensures .1)) (omega arith)
+    let o = c .before .before in
+    let n = c .no-term .ensures in
+    none-left (first (o .before)) (second (o .before)) _ (ap dec.isFinite (sym (o .operand .ensures .0)) ∙ other-arm (o .operand .result .value) (c .before .match .keys2))
+    (no-magnitude _ (n .0) (n .1)) (n .2)
 
 operand-requires-2 : tie.Need-operand-requires-2
 operand-requires-2 c κs = search needs
@@ -40,26 +66,25 @@ no-term-requires-2 c κs = search needs
 returns-2 : tie.Need-returns-2
 unfolding terms.pairItem
 returns-2 c =
-    let a = c .before .before .before .before .before .before .before .args in
-    let e = sym (ap unpackedOf (c .before .before .before .before .v .given .1)) ∙ c .before .before .before .before .before .before .operand .ensures .0 in
-    subst (λ (x : dec.Unpacked). StandsFor (c .no-term2 .result) (terms.pairOf x (dec.operand (formatOf (a .f)) (settingsOf (a .c)) (a .y)))) e
-    (none-right (c .before .before .before .before .v .given .0 .0) (c .before .before .before .before .v .given .0 .1 .0) (c .before .before .before .before .v .given .0 .1 .1 .0) (dec.operand (formatOf (a .f)) (settingsOf (a .c)) (a .y)) (c .no-term2 .result)
-    (ap dec.isFinite (sym (c .before .before .operand2 .ensures .0)) ∙ other-arm (c .before .before .operand2 .result .value) (c .before .match2 .keys2)) (no-magnitude _ (c .no-term2 .ensures .0) (c .no-term2 .ensures .1)) (omega arith))
+    let o = c .before .before in
+    let s = entry (o .before) in
+    let n = c .no-term2 .ensures in
+    none-either (first s) (second s) _ (ap dec.isFinite (sym (o .operand2 .ensures .0)) ∙ other-arm (o .operand2 .result .value) (c .before .match2 .keys2))
+    (no-magnitude _ (n .0) (n .1)) (n .2)
 
 product-requires : tie.Need-product-requires
 product-requires c κs =
-    let a = c .before .before .before .before .before .before .before .before .args in (
-      operand-bounded (formatOf (a .f)) (c .before .before .before .before .before .before .before .before .pre) (settingsOf (a .c)) (a .x) _ (sym (c .before .before .before .before .before .before .before .operand .ensures .0) ∙ ap unpackedOf (c .before .before .before .before .before .v .given .1)) .0,
-      operand-bounded (formatOf (a .f)) (c .before .before .before .before .before .before .before .before .pre) (settingsOf (a .c)) (a .y) _ (sym (c .before .before .before .operand2 .ensures .0) ∙ ap unpackedOf (c .before .w .given .1)) .0,
-    )
+    let s = entry₂ c in
+    let k = c .before .before .before .before in
+    let a : Bounded (number k) = operand-bounded _ (s .pre) _ (s .args .x) _ (is-number k) in
+    let b : Bounded (number₂ c) = operand-bounded _ (s .pre) _ (s .args .y) _ (is-number₂ c) in
+    (a .0, b .0, a .1, b .1)
 
 returns-3 : tie.Need-returns-3
 unfolding terms.pairItem
 returns-3 c =
-    let a = c .before .before .before .before .before .before .before .before .before .args in
-    let e = sym (ap unpackedOf (c .before .before .before .before .before .before .v .given .1)) ∙ c .before .before .before .before .before .before .before .before .operand .ensures .0 in
-    let d = sym (ap unpackedOf (c .before .before .w .given .1)) ∙ c .before .before .before .before .operand2 .ensures .0 in
-    subst (λ (x : terms.Item). StandsFor (c .product .result) x) (ap₂ terms.pairOf e d) (c .product .ensures)
+    let k = c .before .before .before .before .before in
+    subst (StandsFor (c .product .result)) (ap₂ terms.pairOf (sym (is-number k)) (sym (is-number₂ (c .before)))) (c .product .ensures)
 
 pub looked-pair-spec : {M : Type 1} → statement M
 looked-pair-spec =

@@ -7,10 +7,19 @@ use Rattle.totals_spec.specs.Decode as dec
 use Rattle.totals_spec.specs.Terms as terms
 use Rattle.format.specs.Joined.{formatOf}
 use Rattle.arithmetic.specs.Joined.{StandsFor, plainNumber}
-use Rattle.arithmetic.proofs.Elements.{field-small}
+use Rattle.arithmetic.proofs.Elements.{field-small, significand-pos}
 use borrow.Author.Needs.{needs}
 use Rattle.arithmetic.proofs.plain_term.Statement.{statement}
 use Rattle.arithmetic.proofs.plain_term.Tie as tie
+
+-- once sign, field and significand are read: the number
+abbrev entry : tie.After-plain-significand → tie.Start
+entry k = k .before .before .before
+
+number : (k : tie.After-plain-significand)
+    → dec.finite (k .before .before .sign-of .result) (k .before .field-of .result - 1) (k .plain-significand .result)
+    ≡ plainNumber (formatOf (entry k .args .f)) (entry k .args .b)
+number k = cc (k .before .before .sign-of .ensures, k .before .field-of .ensures, k .plain-significand .ensures)
 
 sign-of-requires : tie.Need-sign-of-requires
 sign-of-requires c κs = search needs
@@ -25,15 +34,16 @@ plain-significand-requires : tie.Need-plain-significand-requires
 plain-significand-requires c κs = search needs
 
 summand-term-requires : tie.Need-summand-term-requires
-summand-term-requires c κs = omega (arith, field-small (formatOf (c .before .before .before .args .f)) (c .before .before .before .args .b) (c .before .before .before .pre .0), c .before .field-of .ensures)
+summand-term-requires c κs =
+    let s = entry c in (
+      omega (arith, field-small (formatOf (s .args .f)) (s .args .b) (s .pre .0), c .before .field-of .ensures),
+      rw (c .plain-significand .ensures) (significand-pos (formatOf (s .args .f)) (s .args .b)),
+    )
 
 returns : tie.Need-returns
 returns c =
-    let a = c .before .before .before .before .args in
-    let e : dec.finite (c .before .before .before .sign-of .result) (c .before .before .field-of .result - 1) (c .before .plain-significand .result) ≡ plainNumber (formatOf (a .f)) (a .b) = cc (c .before .before .before .sign-of .ensures, c .before .before .field-of .ensures, c .before .plain-significand .ensures) in (
-      subst (λ (x : dec.Unpacked). StandsFor (c .summand-term .result) (terms.itemOf (env.summandOf (a .u)) x)) e (c .summand-term .ensures .0),
-      c .summand-term .ensures .1,
-    )
+    let r = c .summand-term in
+    (subst (λ x. StandsFor (r .result) (terms.itemOf (env.summandOf (entry (c .before) .args .u)) x)) (number (c .before)) (r .ensures .0), r .ensures .1)
 
 pub plain-term-spec : {M : Type 1} → statement M
 plain-term-spec =

@@ -2,7 +2,9 @@
 --
 use mathlib.Core.Path.{refl, ap}
 use Prim.Native.Nat.{ℕ, _+_, _*_, _^_}
+use native.Mathlib.Nat.{mul-pos}
 use native.Mathlib.Omega.{arith}
+use lib.Pow.{pow-pos}
 use Rattle.totals_spec.specs.Terms as terms
 use Rattle.arithmetic.specs.Joined.{magnitude}
 use borrow.Author.Needs.{needs}
@@ -20,7 +22,10 @@ add-t8 c = search needs
 
 returns : tie.Need-returns
 unfolding magnitude terms.product
-returns c = (ap (λ (x : ℕ). x * 2 ^ (c .before .args .k + c .before .args .j + 1024)) (c .widening-mul .ensures), refl, omega arith)
+returns c =
+    let s = c .before in
+    let units = s .args .k + s .args .j + 1024 in
+    (ap (λ (x : ℕ). x * 2 ^ units) (c .widening-mul .ensures), refl, omega arith, mul-pos (mul-pos (s .pre .2) (s .pre .3)) (pow-pos units))
 
 pub product-spec : {M : Type 1} → statement M
 product-spec = tie.close (tie.spec widening-mul-requires add-t7 add-t8 returns)

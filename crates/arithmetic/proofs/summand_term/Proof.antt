@@ -29,7 +29,7 @@ add-t6 c = search needs
 returns-2 : tie.Need-returns-2
 returns-2 c =
     let a = c .before .before .args in
-    (single-of (a .u) (a .negative) (c .summand-sign .result) (a .k) (a .m) (omega arith) (omega arith) (c .summand-sign .ensures), λ _. refl)
+    (single-of (a .u) (a .negative) (c .summand-sign .result) (a .k) (a .m) (omega arith) (omega arith) (omega arith) (c .summand-sign .ensures), λ _. refl)
 
 pub summand-term-spec : {M : Type 1} → statement M
 summand-term-spec =

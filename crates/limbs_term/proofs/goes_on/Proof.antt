@@ -1,14 +1,18 @@
 -- `limbs_term::goes_on` meets its contract.
+use mathlib.Core.Path.{ap₂}
+use lib.Dec.{ltb}
 use borrow.Author.Needs.{needs}
-use borrow.Author.Tests.{eqb-true, not-false}
 use Rattle.limbs_term.proofs.goes_on.Statement.{statement}
 use Rattle.limbs_term.proofs.goes_on.Tie as tie
 
-returns : tie.Need-returns
-returns c = search needs
+flipped-requires : tie.Need-flipped-requires
+flipped-requires c κs = search needs
 
-returns-2 : tie.Need-returns-2
-returns-2 c = λ e _. eqb-true _ _ (not-false _ e)
+flipped-requires-2 : tie.Need-flipped-requires-2
+flipped-requires-2 c κs = search needs
+
+returns : tie.Need-returns
+returns c = ap₂ ltb (c .before .flipped .ensures) (c .flipped2 .ensures)
 
 pub goes-on-spec : {M : Type 1} → statement M
-goes-on-spec = tie.close (tie.spec returns returns-2)
+goes-on-spec = tie.close (tie.spec flipped-requires flipped-requires-2 returns)

@@ -1,11 +1,12 @@
 -- `limbs_term::lay_single` meets its contract.
-use mathlib.Core.Path.{_≡_, refl}
+use mathlib.Core.Path.{_≡_, refl, sym}
+use mathlib.Core.Bool.{true≢false}
 use native.Mathlib.Omega.{arith}
 use lib.Pow.{pow-pos}
 use borrow.Author.Needs.{needs}
 use Rattle.limbs.specs.Value.{term}
 use Rattle.limbs_term.proofs.Term.{term-words}
-use Rattle.limbs_term.proofs.Within.{at-word, inside-two, single-at-eleven, past-end}
+use Rattle.limbs_term.proofs.Within.{at-word, inside-two, single-at-eleven, past-end, shifted-room, ends}
 use Rattle.limbs_term.proofs.lay_single.Statement.{statement}
 use Rattle.limbs_term.proofs.lay_single.Tie as tie
 
@@ -22,15 +23,27 @@ whole : (k : tie.After-shl-word)
 whole k = term-words (k .before .before .args .low) 0 _ _ 0 (k .shl-word .result .carry) (k .before .split .ensures) (k .shl-word .ensures .0) (omega arith)
 
 returns : tie.Need-returns
-returns c = (c .if1 .taken, inside-two _ _ _ _ (c .if1 .taken) (search needs) (search needs) (whole (c .before .before)), refl)
+returns c =
+    let k = c .before .before in (
+      record {
+        word = c .if1 .taken;
+        exact = inside-two _ _ _ _ (c .if1 .taken) (search needs) (search needs) (whole k);
+        past = λ e. absurd (true≢false e);
+        room = λ _. shifted-room _ _ (k .before .split .ensures .small) (k .shl-word .ensures .1);
+      },
+      refl,
+    )
 
 returns-2 : tie.Need-returns-2
-returns-2 c = (search needs, single-at-eleven _ _ _ _ (c .if2 .taken) (search needs) (whole (c .before .before .before .before)), refl)
+returns-2 c =
+    let e = single-at-eleven _ _ _ _ (c .if2 .taken) (search needs) (whole (c .before .before .before .before)) in
+    (record { word = search needs; exact = e; past = λ e. absurd (true≢false e); room = ends _ _ }, refl)
 
 returns-3 : tie.Need-returns-3
 returns-3 c =
-    let k = c .before .before .before .before in
-    (search needs, past-end (k .before .split .result .word) _ _ 0 _ (search needs) (whole k), refl)
+    let d = c .before .before .before in
+    let e = past-end (d .before .before .split .result .word) _ _ 0 _ (search needs) (whole (d .before)) in
+    (record { word = search needs; exact = e; past = λ _. sym e; room = ends 10 0 }, refl)
 
 pub lay-single-spec : {M : Type 1} → statement M
 lay-single-spec = tie.close (tie.spec split-requires shl-word-requires returns returns-2 returns-3)

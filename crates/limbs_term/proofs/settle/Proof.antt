@@ -11,7 +11,7 @@ turned-requires : tie.Need-turned-requires
 turned-requires c κs = search needs
 
 returns : tie.Need-returns
-returns c = settles _ _ _ _ _ (c .before .lay .ensures .0) (c .before .lay .ensures .1) (c .turned .ensures)
+returns c = settles (c .before .lay .ensures) (c .turned .ensures) (c .turned .ensures .third)
 
 pub settle-spec : {M : Type 1} → statement M
 settle-spec = tie.close (tie.spec lay-requires turned-requires returns)

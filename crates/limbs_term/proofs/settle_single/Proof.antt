@@ -15,7 +15,8 @@ turned-requires c κs = search needs
 returns : tie.Need-returns
 returns c =
     let l = c .before .lay-single .ensures in
-    (settles _ _ _ _ _ (l .0) (l .1) (c .turned .ensures), c .turned .ensures .third ∙ ap (flip (c .before .before .args .negative)) (l .2))
+    let t = c .turned .ensures in
+    (settles (l .0) t (t .second), t .third ∙ ap (flip (c .before .before .args .negative)) (l .1))
 
 pub settle-single-spec : {M : Type 1} → statement M
 settle-single-spec = tie.close (tie.spec lay-single-requires turned-requires returns)

@@ -22,11 +22,12 @@ returns c =
     let a = c .before .before .before .before .args in
     record {
       word = refl;
+      within = refl;
       small = one-if-small (a .negative) (c .one-if .ensures);
       exact =
-          placed-as (a .negative) (a .p .at) (a .p .v0) (a .p .v1) (a .p .v2) _ _ _ (c .one-if .result) _
-          (c .before .before .before .flipped .ensures) (c .before .before .flipped2 .ensures) (c .before .flipped3 .ensures) (c .one-if .ensures)
-          (search needs) (search needs) (search needs) refl;
+          placed-as (a .negative) (a .p) _ refl (c .before .before .before .flipped .ensures) (c .before .before .flipped2 .ensures)
+          (c .before .flipped3 .ensures) (c .one-if .ensures) (search needs) (search needs) (search needs);
+      second = c .before .before .flipped2 .ensures;
       third = c .before .flipped3 .ensures;
     }
 

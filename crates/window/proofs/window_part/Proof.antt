@@ -1,11 +1,12 @@
 -- `window::window_part` meets its contract.
-use mathlib.Core.Path.{refl, sym, ap, _∙_}
-use mathlib.Core.Bool.{true, false}
+use mathlib.Core.Path.{_≡_, refl, sym, ap, _∙_}
+use mathlib.Core.Bool.{Bool, true, false, cond, true≢false}
 use Prim.Native.Nat.{ℕ, _+_, _-_, _*_, _^_}
 use native.Mathlib.Omega.{arith}
 use borrow.Author.Needs.{needs}
 use Rattle.arithmetic.specs.Joined.{magnitude}
-use Rattle.window.proofs.Parted.{above-part, above-lost, below-part, below-none, below-lost, across-part, across-lost, unshifted, no-high}
+use Rattle.window.specs.Joined.{PartAt}
+use Rattle.window.proofs.Parted.{above-part, above-lost, below-part, below-lost, across-part, across-lost, unshifted, no-high}
 use Rattle.window.proofs.window_part.Statement.{statement}
 use Rattle.window.proofs.window_part.Tie as tie
 
@@ -19,8 +20,13 @@ sub-t13 c = search needs
 returns : tie.Need-returns
 unfolding magnitude
 returns c =
-    let s = c .before in
-    ((above-part (m s) (s .args .t .shift) (s .args .w) (c .if1 .taken), above-lost (m s) (s .args .t .shift) (s .args .w) (c .if1 .taken)), λ z. z)
+    let a = c .before .args in
+    record {
+      exact = above-part (m (c .before)) (a .t .shift) (a .w) (c .if1 .taken);
+      lost-is = above-lost (m (c .before)) (a .t .shift) (a .w) (c .if1 .taken);
+      none = λ e. absurd (true≢false e);
+      one-word = λ z. z;
+    }
 
 bit-length-requires : tie.Need-bit-length-requires
 bit-length-requires c κs = search needs
@@ -31,26 +37,21 @@ cast-n c = search needs
 add-if2 : tie.Need-add-if2
 add-if2 c = search needs
 
-add-t26 : tie.Need-add-t26
-add-t26 c = search needs
+add-t25 : tie.Need-add-t25
+add-t25 c = search needs
 
 returns-2 : tie.Need-returns-2
 unfolding magnitude
 returns-2 c =
-    let s = c .before .before .before .before in
-    ((below-part (m s) (s .args .t .shift) (s .args .w) (omega arith), below-none (m s) (s .args .t .shift) (s .args .w) (omega arith)), λ _. refl)
-
-returns-3 : tie.Need-returns-3
-unfolding magnitude
-returns-3 c =
-    let s = c .before .before .before .before in
-    let e = c .before .before .bit-length .ensures in (
-      (
-        below-part (m s) (s .args .t .shift) (s .args .w) (omega arith),
-        ap (λ (n : ℕ). s .args .t .shift + n) e ∙ below-lost (m s) (s .args .t .shift) (s .args .w) (omega arith) (λ z. c .if3 .left (e ∙ z)),
-      ),
-      λ _. refl,
-    )
+    let k = c .before in
+    let s = k .before .before in
+    let a = s .args in
+    record {
+      exact = below-part (m s) (a .t .shift) (a .w) (omega arith);
+      lost-is = ap (λ (n : ℕ). a .t .shift + n) (k .bit-length .ensures) ∙ below-lost (m s) (a .t .shift) (a .w) (omega arith) (s .pre .1);
+      none = λ _. refl;
+      one-word = λ _. refl;
+    }
 
 sub-down : tie.Need-sub-down
 sub-down c = search needs
@@ -61,29 +62,32 @@ shr-requires c κs = search needs
 any-below-requires : tie.Need-any-below-requires
 any-below-requires c κs = search needs
 
-returns-4 : tie.Need-returns-4
-unfolding magnitude
-returns-4 c =
-    let s = c .before .before .before .before .before .before in
-    let k = c .before .before .shr in (
-      (
-        unshifted _ ∙ k .ensures ∙ across-part (m s) (s .args .t .shift) (s .args .w) (omega arith),
-        across-lost (m s) (s .args .t .shift) (s .args .w) (omega arith) (omega arith) true (sym (c .if4 .taken) ∙ c .before .any-below .ensures),
-      ),
-      no-high (s .args .t .high) (s .args .t .low) _ _ _ (search needs) (k .ensures),
-    )
+-- a term across the edge
+abbrev below : tie.After-any-below → tie.Else1
+below k = k .before .before .before .before
 
-returns-5 : tie.Need-returns-5
+abbrev entry : tie.After-any-below → tie.Start
+entry k = below k .before
+
+across : (k : tie.After-any-below) (b : Bool) → k .any-below .result ≡ b
+    → PartAt (entry k .args .w) (entry k .args .t)
+    (record { low = k .before .shr .result .low; high = k .before .shr .result .high; up = 0; some = true; lost = cond b (entry k .args .w) 0 })
 unfolding magnitude
-returns-5 c =
-    let s = c .before .before .before .before .before .before in
-    let k = c .before .before .shr in (
-      (
-        unshifted _ ∙ k .ensures ∙ across-part (m s) (s .args .t .shift) (s .args .w) (omega arith),
-        across-lost (m s) (s .args .t .shift) (s .args .w) (omega arith) (omega arith) false (sym (c .if4 .left) ∙ c .before .any-below .ensures),
-      ),
-      no-high (s .args .t .high) (s .args .t .low) _ _ _ (search needs) (k .ensures),
-    )
+across k b e =
+    let a = entry k .args in
+    let kept = k .before .shr .ensures in
+    record {
+      exact = unshifted _ ∙ kept ∙ across-part (m (entry k)) (a .t .shift) (a .w) (omega arith);
+      lost-is = across-lost (m (entry k)) (a .t .shift) (a .w) (omega arith) (omega arith) b (sym e ∙ k .any-below .ensures);
+      none = λ e. absurd (true≢false e);
+      one-word = no-high (a .t .high) (a .t .low) _ _ _ (search needs) kept;
+    }
+
+returns-3 : tie.Need-returns-3
+returns-3 c = across (c .before) true (c .if3 .taken)
+
+returns-4 : tie.Need-returns-4
+returns-4 c = across (c .before) false (c .if3 .left)
 
 pub window-part-spec : {M : Type 1} → statement M
 window-part-spec =
@@ -94,11 +98,10 @@ window-part-spec =
     bit-length-requires
     cast-n
     add-if2
-    add-t26
+    add-t25
     returns-2
-    returns-3
     sub-down
     shr-requires
     any-below-requires
-    returns-4
-    returns-5)
+    returns-3
+    returns-4)

@@ -1,10 +1,22 @@
 -- `reduction::pass::pair_term` meets its contract.
+use mathlib.Core.Path.{sym, _∙_}
+use Rattle.totals_spec.specs.Decode as dec
+use Rattle.totals_spec.specs.Terms as terms
 use borrow.Author.Needs.{needs}
-use Rattle.arithmetic.proofs.Pairs.{both-plainly}
+use Rattle.binary.proofs.Blank.{operand-blank}
+use Rattle.arithmetic.proofs.Elements.{no-magnitude}
+use Rattle.arithmetic.proofs.Pairs.{both-plainly, none-left, none-either}
 use Rattle.format.specs.Joined.{formatOf, settingsOf}
 use Rattle.reduction.proofs.Gather.{pair-stands}
 use Rattle.reduction.proofs.pass.pair_term.Statement.{statement}
 use Rattle.reduction.proofs.pass.pair_term.Tie as tie
+
+-- the two operands
+abbrev first : tie.Start → dec.Unpacked
+first s = dec.operand (formatOf (s .args .f)) (settingsOf (s .args .c)) (s .args .x)
+
+abbrev second : tie.Start → dec.Unpacked
+second s = dec.operand (formatOf (s .args .f)) (settingsOf (s .args .c)) (s .args .y)
 
 both-plain-requires : tie.Need-both-plain-requires
 both-plain-requires c κs = search needs
@@ -14,14 +26,62 @@ plain-product-requires c κs = let h = both-plainly _ _ _ _ (c .if1 .taken) (c .
 
 returns : tie.Need-returns
 returns c =
-    let a = c .before .before .before .args in
-    pair-stands (formatOf (a .f)) (settingsOf (a .c)) (a .x) (a .y) _ _ (c .before .if1 .taken) (c .before .before .both-plain .ensures) (c .plain-product .ensures)
+    let k = c .before .before in
+    let a = k .before .args in
+    pair-stands (formatOf (a .f)) (settingsOf (a .c)) (a .x) (a .y) _ _ (c .before .if1 .taken) (k .both-plain .ensures) (c .plain-product .ensures)
+
+is-blank-requires : tie.Need-is-blank-requires
+is-blank-requires c κs = search needs
+
+no-term-requires : tie.Need-no-term-requires
+no-term-requires c κs = search needs
+
+abbrev entry : tie.After-is-blank → tie.Start
+entry b = b .before .before .before
+
+returns-2 : tie.Need-returns-2
+unfolding terms.pairItem
+returns-2 c =
+    let b = c .before .before in
+    let a = entry b .args in
+    let n = c .no-term .ensures in
+    none-left (first (entry b)) (second (entry b)) _
+    (operand-blank (formatOf (a .f)) (settingsOf (a .c)) (a .x) (sym (b .is-blank .ensures) ∙ c .before .if2 .taken)) (no-magnitude _ (n .0) (n .1)) (n .2)
+
+is-blank-requires-2 : tie.Need-is-blank-requires-2
+is-blank-requires-2 c κs = search needs
+
+no-term-requires-2 : tie.Need-no-term-requires-2
+no-term-requires-2 c κs = search needs
+
+returns-3 : tie.Need-returns-3
+unfolding terms.pairItem
+returns-3 c =
+    let b = c .before .before in
+    let s = entry (b .before .before) in
+    let a = s .args in
+    let n = c .no-term2 .ensures in
+    none-either (first s) (second s) _
+    (operand-blank (formatOf (a .f)) (settingsOf (a .c)) (a .y) (sym (b .is-blank2 .ensures) ∙ c .before .if3 .taken)) (no-magnitude _ (n .0) (n .1)) (n .2)
 
 looked-pair-requires : tie.Need-looked-pair-requires
 looked-pair-requires c κs = search needs
 
-returns-2 : tie.Need-returns-2
-returns-2 c = c .looked-pair .ensures
+returns-4 : tie.Need-returns-4
+returns-4 c = c .looked-pair .ensures
 
 pub pair-term-spec : {M : Type 1} → statement M
-pair-term-spec = tie.close (tie.spec both-plain-requires plain-product-requires returns looked-pair-requires returns-2)
+pair-term-spec =
+    tie.close
+    (tie.spec
+    both-plain-requires
+    plain-product-requires
+    returns
+    is-blank-requires
+    no-term-requires
+    returns-2
+    is-blank-requires-2
+    no-term-requires-2
+    returns-3
+    looked-pair-requires
+    returns-4)

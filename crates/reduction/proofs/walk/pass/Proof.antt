@@ -1,34 +1,61 @@
 -- `reduction::walk::pass` meets its contract.
-use mathlib.Core.Path.{sym, subst}
-use mathlib.Core.Bool.{Bool}
+use mathlib.Core.Path.{_≡_, sym, subst}
+use mathlib.Core.Bool.{Bool, true, false}
+use mathlib.Core.List.{List}
+use Prim.Native.Nat.{ℕ}
 use native.Mathlib.Omega.{arith}
 use borrow.Author.Needs.{needs}
-use borrow.Author.Tests.{ne-eqb}
+use borrow.Author.Tests.{eq-eqb, ne-eqb}
 use Rattle.totals_spec.specs.Settings.{summandOf}
 use Rattle.totals_spec.specs.Terms as terms
 use Rattle.format.specs.Joined.{formatOf, settingsOf}
+use Rattle.arithmetic.proofs.Elements.{square-of}
 use Rattle.values.specs.Sources.{elements}
-use Rattle.values.specs.Walks.{itemsOf}
+use Rattle.values.specs.Walks.{isDot, itemsOf}
+use Rattle.window.specs.declared.Pass.{Pass}
 use Rattle.window.specs.Joined.{Passed}
 use Rattle.reduction.proofs.walk.pass.Statement.{statement}
 use Rattle.reduction.proofs.walk.pass.Tie as tie
+
+-- at the entry: the two lists, and the items by whether they are of pairs
+abbrev entry : tie.After-struct-known → tie.Start
+entry k = let s = k .before .before .before in s .before .before .before
+
+abbrev left : tie.Start → List ℕ
+left s = elements (s .args .k .source) (s .args .left-words .now) (s .args .left-bytes .now)
+
+abbrev right : tie.Start → List ℕ
+right s = elements (s .args .k .source) (s .args .right-words .now) (s .args .right-bytes .now)
+
+abbrev PassedBy : tie.Start → Pass → Bool → Type 0
+PassedBy s r b = Passed (terms.terms (itemsOf b (formatOf (s .args .f)) (settingsOf (s .args .c)) (summandOf (s .args .k .summand)) (left s) (right s))) (s .args .w) r
+
+by : (s : tie.Start) (r : Pass) (b : Bool) → isDot (s .args .k) ≡ b → PassedBy s r b → PassedBy s r (isDot (s .args .k))
+by s r b e = subst (PassedBy s r) (sym e)
 
 pass-singles-requires : tie.Need-pass-singles-requires
 pass-singles-requires c κs = search needs
 
 returns : tie.Need-returns
 returns c =
-    let a = c .before .before .before .before .before .before .before .before .args in
-    subst
-    (λ (b : Bool). Passed (terms.terms (itemsOf b (formatOf (a .f)) (settingsOf (a .c)) (summandOf (a .k .summand)) (elements (a .k .source) (a .left-words .now) (a .left-bytes .now))
-    (elements (a .k .source) (a .right-words .now) (a .right-bytes .now)))) (a .w) (c .pass-singles .result))
-    (sym (ne-eqb (a .k .summand) 3 (λ e. omega (arith, e, c .before .before .if1 .taken)))) (c .pass-singles .ensures)
+    let k = c .before .before in
+    by (entry k) _ false (ne-eqb (entry k .args .k .summand) 3 (λ e. omega (arith, e, c .before .if1 .taken))) (c .pass-singles .ensures)
 
-pass-products-requires : tie.Need-pass-products-requires
-pass-products-requires c κs = search needs
+pass-pairs-requires : tie.Need-pass-pairs-requires
+pass-pairs-requires c κs = search needs
 
 returns-2 : tie.Need-returns-2
-returns-2 c = c .pass-products .ensures
+returns-2 c =
+    let d = c .before .before in
+    by (entry (d .before .before)) _ true (eq-eqb _ 3 (c .before .if2 .taken)) (c .pass-pairs .ensures)
+
+pass-squares-requires : tie.Need-pass-squares-requires
+pass-squares-requires c κs = search needs
+
+returns-3 : tie.Need-returns-3
+returns-3 c =
+    let d = c .before .before .before in
+    by (entry (d .before)) _ false (ne-eqb _ 3 (c .before .if2 .left)) (rw (square-of (entry (d .before) .args .k .summand) (omega (arith, d .if1 .left))) (c .pass-squares .ensures))
 
 pub pass-spec : {M : Type 1} → statement M
-pass-spec = tie.close (tie.spec pass-singles-requires returns pass-products-requires returns-2)
+pass-spec = tie.close (tie.spec pass-singles-requires returns pass-pairs-requires returns-2 pass-squares-requires returns-3)
