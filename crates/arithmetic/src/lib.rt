@@ -5,11 +5,12 @@ use binary::is_plain;
 use binary::operand;
 use binary::sign_of;
 use format::Format;
+use format::ROOM;
 use format::env::Settings;
 use format::fraction_bits;
-use format::power;
 use format::unpacked::Unpacked;
 use limbs::word;
+use limbs::word::power;
 use limbs::word::widening_mul;
 ghost use Rattle.totals_spec.specs.Bounds.{FormatBounds};
 ghost use mathlib.Core.Path.{_≡_};
@@ -23,6 +24,14 @@ ghost use Rattle.totals_spec.specs.Decode as dec;
 ghost use Rattle.totals_spec.specs.Totals as totals;
 ghost use Rattle.format.specs.Joined.{formatOf, settingsOf, unpackedOf};
 ghost use Rattle.arithmetic.specs.Joined.{itemOf, StandsFor, Bounded, plainNumber, plainProduct, BothPlain, PlainField, PlainFields, fieldTop, fieldsTop};
+
+// The highest of n bits at the shift k lies at n + k + ROOM - 1.
+const TOP: u64 = ROOM - 1;
+
+// The shift of a normal number is its exponent field less 1, and that of a product the sum of two fields less 2.
+const FIELD_TOP: u64 = TOP - 1;
+
+const FIELDS_TOP: u64 = TOP - 2;
 
 // (high * 2^64 + low) * 2^shift units; low, high and shift are 0 for what is no term.
 pub struct Term {
@@ -63,7 +72,7 @@ pub fn product(negative: bool, k: u64, m: u64, j: u64, n: u64) -> Term
         negative,
         low: p.low,
         high: p.high,
-        shift: k + j + 1024,
+        shift: k + j + ROOM,
     }
 }
 
@@ -90,7 +99,7 @@ fn summand_term(u: u64, negative: bool, k: u64, m: u64) -> Term
         negative: summand_sign(u, negative),
         low: m,
         high: 0,
-        shift: k + 1024,
+        shift: k + ROOM,
     }
 }
 
@@ -195,7 +204,7 @@ fn top_of(k: u64, m: u64) -> u64
     requires { ⌜ (k < 268435456) × (0 < m) ⌝ }
     ensures { λ r. ⌜ r ≡ bitLength m + k + 1024 - 1 ⌝ }
 {
-    k + (word::bit_length(m) as u64) + 1023
+    k + (word::bit_length(m) as u64) + TOP
 }
 
 // That of a product, counted by the two factors' positions plus 1.
@@ -203,7 +212,7 @@ fn top_of_product(k: u64, m: u64, j: u64, n: u64) -> u64
     requires { ⌜ (k < 268435456) × (j < 268435456) × (0 < m) × (0 < n) ⌝ }
     ensures { λ r. ⌜ r ≡ bitLength m + bitLength n + k + j + 1024 - 1 ⌝ }
 {
-    k + j + (word::bit_length(m) as u64) + (word::bit_length(n) as u64) + 1023
+    k + j + (word::bit_length(m) as u64) + (word::bit_length(n) as u64) + TOP
 }
 
 // The exponent field of an element that is plainly a normal number, and 0 for one that takes a closer look.
@@ -244,7 +253,7 @@ pub fn plain_pair_top(f: Format, fields: u64) -> u64
     if fields == 0 {
         return 0;
     }
-    fields + 2 * normal_length(f) + 1021
+    fields + 2 * normal_length(f) + FIELDS_TOP
 }
 
 // The same of elements, from the greatest field, by the summand: a square is a pair of an element with itself.
@@ -258,7 +267,7 @@ pub fn plain_top(f: Format, u: u64, field: u64) -> u64
     if field == 0 {
         return 0;
     }
-    field + normal_length(f) + 1022
+    field + normal_length(f) + FIELD_TOP
 }
 
 // What an operand is in a sum, by the summand.

@@ -83,8 +83,8 @@ pub record Rounds (f : spec.Format) (c : env.Settings) (g : ℕ) (v : Unrounded)
   pub settings : SettingsBounds f c
   pub some : 0 < value (v .significand)
   pub high : 64 ≤ v .position
-  pub low : v .position < 4611686018427387904
-  pub grid : g < 4611686018427387904
+  pub low : v .position < 2 ^ 62
+  pub grid : g < 2 ^ 62
   pub long : v .sticky ≡ true → 2 ^ suc (spec.digits f) ≤ value (v .significand)
 
 -- such a value, and the position `end` just above its highest bit

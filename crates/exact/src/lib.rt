@@ -14,12 +14,13 @@ use format::env::INEXACT;
 use format::env::OVERFLOW;
 use format::env::ROUNDED_UP;
 use format::env::Settings;
+use format::env::flag;
 use format::env::precision_within;
 use format::exponent_range;
-use format::ones;
-use format::power;
-use format::scaled;
 use format::unpacked::Unpacked;
+use limbs::word::ones;
+use limbs::word::power;
+use limbs::word::scaled;
 ghost use mathlib.Core.Path.{_≡_};
 ghost use mathlib.Core.Bool.{true, not, cond, _||_};
 ghost use Prim.Native.Nat.{ℕ, _+_, _-_, _*_, _/_, _%_, _^_, _<_, _≤_};
@@ -133,7 +134,7 @@ fn first_digits(rounding: u64, v: Unrounded, end: u64, q: u64) -> Digits
 
 // Whether q digits, kept * 2^lowest, are above the largest finite number. In NoInf the largest pattern of all is the NaN.
 fn overflows(f: Format, q: u64, g: u64, kept: u64, lowest: u64) -> bool
-    requires { ⌜ FormatBounds (formatOf f) × (g < 4611686018427387904) × (lowest < 9223372036854775808) ⌝ }
+    requires { ⌜ FormatBounds (formatOf f) × (g < 2 ^ 62) × (lowest < 2 ^ 63) ⌝ }
     requires { ⌜ (1 ≤ q) × (q ≤ spec.digits (formatOf f)) × (bitLength kept ≡ q) ⌝ }
     ensures { λ r. ⌜ r ≡ round.overflows (formatOf f) q g (kept * 2 ^ lowest) ⌝ }
 {
@@ -215,13 +216,6 @@ fn overflow(f: Format, c: Settings, q: u64, negative: bool) -> Rounded
         },
         flags: most.flags,
     }
-}
-
-// A flag's number where it is set.
-pub fn flag(n: u64, set: bool) -> u64
-    ensures { λ r. ⌜ (r ≡ basics.flag n set) × (r ≤ n) ⌝ }
-{
-    if set { n } else { 0 }
 }
 
 // A magnitude of at least 2^emin: its first q digits.

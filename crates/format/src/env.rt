@@ -4,6 +4,7 @@ use crate::digits;
 ghost use Rattle.totals_spec.specs.Bounds.{FormatBounds, SettingsBounds};
 ghost use mathlib.Core.Path.{_≡_};
 ghost use Prim.Native.Nat.{_≤_};
+ghost use Rattle.totals_spec.specs.Basics as basics;
 ghost use Rattle.totals_spec.specs.Format as spec;
 ghost use Rattle.totals_spec.specs.Settings as env;
 ghost use Rattle.totals_spec.specs.Totals as totals;
@@ -22,6 +23,13 @@ pub const TINY: u64 = 32;
 pub const ROUNDED_UP: u64 = 64;
 
 pub const DENORMAL_INPUT: u64 = 128;
+
+// A flag's value, if it is set.
+pub fn flag(n: u64, set: bool) -> u64
+    ensures { λ r. ⌜ (r ≡ basics.flag n set) × (r ≤ n) ⌝ }
+{
+    if set { n } else { 0 }
+}
 
 pub struct Settings {
     // 0 ties to even, 1 ties to away, 2 ties toward zero, 3 toward positive, 4 toward negative, 5 toward zero, 6 away from zero, 7 to odd

@@ -3,41 +3,21 @@
 pub mod env;
 pub mod unpacked;
 
+use limbs::word::power;
 ghost use Rattle.totals_spec.specs.Bounds.{FormatBounds};
 ghost use mathlib.Core.Path.{_≡_};
 ghost use Prim.Native.Nat.{_-_, _*_, _^_, _<_, _≤_};
 ghost use Rattle.totals_spec.specs.Format as spec;
 ghost use Rattle.format.specs.Joined.{formatOf};
 
+// A unit lies this far below the lowest bit that a term of the format can have: room for the passes below the last bit (totals_spec, `room`).
+pub const ROOM: u64 = 1024;
+
 // The kind (0 Ieee, 1 NoInf, 2 Fnuz, 3 Finite), the width of the exponent field, and the whole width.
 pub struct Format {
     pub kind: u64,
     pub exponent_bits: u64,
     pub width: u64,
-}
-
-// 2^n
-pub fn power(n: u64) -> u64
-    requires { ⌜ n < 64 ⌝ }
-    ensures { λ r. ⌜ (r ≡ 2 ^ n) × (0 < r) ⌝ }
-{
-    1u64 << n
-}
-
-// n ones. A whole word of them is no power of two less one that a word can hold.
-pub fn ones(n: u64) -> u64
-    requires { ⌜ n ≤ 64 ⌝ }
-    ensures { λ r. ⌜ r ≡ 2 ^ n - 1 ⌝ }
-{
-    if n == 64 { u64::MAX } else { power(n) - 1 }
-}
-
-// x * 2^n, which fits.
-pub fn scaled(x: u64, n: u64) -> u64
-    requires { ⌜ (n < 64) × (x * 2 ^ n < 2 ^ 64) ⌝ }
-    ensures { λ r. ⌜ r ≡ x * 2 ^ n ⌝ }
-{
-    x << n
 }
 
 // Refusal 3 is the failure of this.
@@ -114,7 +94,7 @@ pub fn origin(f: Format, products: bool) -> u64
     ensures { λ r. ⌜ (r ≡ spec.origin (formatOf f) products) × (r < 1073741824) ⌝ }
 {
     let d = depth(f);
-    if products { 1024 + d + d } else { 1024 + d }
+    if products { ROOM + d + d } else { ROOM + d }
 }
 
 // The position of the least non-zero number.
@@ -122,12 +102,12 @@ pub fn grid(f: Format, products: bool) -> u64
     requires { ⌜ FormatBounds (formatOf f) ⌝ }
     ensures { λ r. ⌜ (r ≡ spec.grid (formatOf f) products) × (r < 1073741824) ⌝ }
 {
-    if products { 1024 + depth(f) } else { 1024 }
+    if products { ROOM + depth(f) } else { ROOM }
 }
 
 // The position of the highest bit of the least normal number, from the grid's.
 pub fn emin(f: Format, g: u64) -> u64
-    requires { ⌜ FormatBounds (formatOf f) × (g < 4611686018427387904) ⌝ }
+    requires { ⌜ FormatBounds (formatOf f) × (g < 2 ^ 62) ⌝ }
     ensures { λ r. ⌜ r ≡ spec.eminAt (formatOf f) g ⌝ }
 {
     g + (digits(f) - 1)
@@ -135,7 +115,7 @@ pub fn emin(f: Format, g: u64) -> u64
 
 // The position of the highest bit of the largest number.
 pub fn emax(f: Format, g: u64) -> u64
-    requires { ⌜ FormatBounds (formatOf f) × (g < 4611686018427387904) ⌝ }
+    requires { ⌜ FormatBounds (formatOf f) × (g < 2 ^ 62) ⌝ }
     ensures { λ r. ⌜ r ≡ spec.emaxAt (formatOf f) g ⌝ }
 {
     emin(f, g) + exponent_range(f)

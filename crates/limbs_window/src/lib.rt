@@ -4,12 +4,13 @@ use limbs::word;
 use limbs::word::add_word;
 use limbs::word::funnel;
 use limbs::word::minus;
+use limbs::word::smaller;
 use limbs::word::split;
 use limbs::word::sub_word;
 ghost use mathlib.Core.Path.{_≡_};
 ghost use mathlib.Core.List.{_∷_};
 ghost use mathlib.Core.Bool.{not};
-ghost use Prim.Native.Nat.{_-_, _*_, _/_, _%_, _^_, _<_, min};
+ghost use Prim.Native.Nat.{_-_, _*_, _/_, _%_, _^_, _<_};
 ghost use lib.Dec.{eqb};
 ghost use lib.ListN.{getD};
 ghost use Rattle.limbs.specs.Value.{value, bitLength, plus, minus};
@@ -153,12 +154,6 @@ pub fn low_bits(a: [u64; 12], count: usize) -> [u64; 12]
         r[i] = low_at(a, count, i);
     }
     r
-}
-
-fn smaller(a: usize, b: usize) -> usize
-    ensures { λ r. ⌜ r ≡ min a b ⌝ }
-{
-    if a < b { a } else { b }
 }
 
 // Whether one of the lowest `count` bits is set: in one of the words that lie below `count` as a whole, or in the next word.

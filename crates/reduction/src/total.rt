@@ -1,10 +1,12 @@
 // From a scan and a chain of passes to the record of a total.
 use binary::encode;
 use exact::Rounded;
-use exact::flag;
 use exact::round;
 use format::Format;
+use format::env::DENORMAL_INPUT;
+use format::env::INVALID;
 use format::env::Settings;
+use format::env::flag;
 use format::env::zero_sum_is_negative;
 use format::grid;
 use format::origin;
@@ -13,7 +15,7 @@ use window::ExactSum;
 use window::Outcome;
 use window::near_boundary;
 ghost use mathlib.Core.Path.{_≡_};
-ghost use Prim.Native.Nat.{_<_};
+ghost use Prim.Native.Nat.{_^_, _<_};
 ghost use lib.IntN.{subℕ};
 ghost use Rattle.totals_spec.specs.Format as spec;
 ghost use Rattle.totals_spec.specs.Totals as totals;
@@ -56,7 +58,7 @@ pub fn special(f: Format, subnormal: bool, v: Unpacked, invalid: bool) -> Answer
 {
     Answer {
         result: encode(f, v),
-        flags: flag(128, subnormal) + flag(1, invalid),
+        flags: flag(DENORMAL_INPUT, subnormal) + flag(INVALID, invalid),
         passes: 0,
         last_edge: 0,
         refusal: 0,
@@ -81,7 +83,7 @@ fn round_sum(f: Format, c: Settings, products: bool, e: ExactSum) -> Rounded
 
 // A position counted from the unit, as a position counted from the bit worth 1.
 fn position_of(at: u64, origin: u64) -> i64
-    requires { ⌜ (at < 4611686018427387904) × (origin < 4611686018427387904) ⌝ }
+    requires { ⌜ (at < 2 ^ 62) × (origin < 2 ^ 62) ⌝ }
     ensures { λ r. ⌜ r ≡ subℕ at origin ⌝ }
 {
     (at as i64) - (origin as i64)
@@ -97,7 +99,7 @@ pub fn finish(f: Format, c: Settings, products: bool, subnormal: bool, e: ExactS
     let v = r.value;
     Answer {
         result: encode(f, v),
-        flags: flag(128, subnormal) + r.flags,
+        flags: flag(DENORMAL_INPUT, subnormal) + r.flags,
         passes: h.passes,
         last_edge: position_of(h.edge, origin(f, products)),
         refusal: 0,

@@ -13,6 +13,7 @@ use format::Format;
 use format::env::Settings;
 use format::env::zero_sum_sign;
 use format::unpacked::Unpacked;
+use limbs::word::either;
 ghost use mathlib.Core.Path.{_≡_};
 ghost use mathlib.Core.Bool.{true, false, _||_};
 ghost use Rattle.totals_spec.specs.Settings as env;
@@ -49,15 +50,6 @@ pub enum Early {
     Given(Unpacked, bool),
     // nothing: there are terms, and all is finite
     Terms,
-}
-
-fn either(a: bool, b: bool) -> bool
-    ensures { λ r. ⌜ r ≡ (a || b) ⌝ }
-{
-    if a {
-        return true;
-    }
-    b
 }
 
 impl Scan {

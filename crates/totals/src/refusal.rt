@@ -7,6 +7,9 @@ ghost use mathlib.Core.Path.{_≡_};
 ghost use Rattle.format.specs.Joined.{formatOf, settingsOf};
 ghost use Rattle.totals.specs.Refusal.{sumNumbers, dotNumbers};
 
+// The most elements of a list, or pairs of a dot (totals_spec, `limit`): refusal 6.
+pub const LIMIT: usize = 1048576;
+
 // The refusal of a sum that does not look at its elements: 3, 4, 6, or 0.
 pub fn sum_refusal(f: Format, c: Settings, u: u64, n: usize) -> u64
     ensures { λ r. ⌜ r ≡ sumNumbers (formatOf f) (settingsOf c) u n ⌝ }
@@ -20,7 +23,7 @@ pub fn sum_refusal(f: Format, c: Settings, u: u64, n: usize) -> u64
     if u > 2 {
         return 4;
     }
-    if n > 1048576 {
+    if n > LIMIT {
         return 6;
     }
     0
@@ -39,7 +42,7 @@ pub fn dot_refusal(f: Format, c: Settings, n: usize, m: usize) -> u64
     if n != m {
         return 5;
     }
-    if n > 1048576 {
+    if n > LIMIT {
         return 6;
     }
     0

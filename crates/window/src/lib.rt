@@ -2,11 +2,12 @@
 use arithmetic::Term;
 use exact::Unrounded;
 use limbs::pair;
+use limbs::word::larger;
 use limbs_window as window;
 use limbs_window::Order;
 ghost use mathlib.Core.Path.{_≡_};
 ghost use mathlib.Core.Bool.{true, false};
-ghost use Prim.Native.Nat.{ℕ, _+_, _-_, _*_, _/_, _%_, _^_, _<_, _≤_, max};
+ghost use Prim.Native.Nat.{ℕ, _+_, _-_, _*_, _/_, _%_, _^_, _<_, _≤_};
 ghost use Rattle.limbs.specs.Value.{value, bitLength, term};
 ghost use Rattle.totals_spec.specs.Basics.{flag};
 ghost use Rattle.totals_spec.specs.Chain as spec;
@@ -156,12 +157,6 @@ fn side(boundary: bool, negative: bool, n: u64) -> Outcome
         return Outcome::Below;
     }
     Outcome::Above
-}
-
-pub fn larger(a: u64, b: u64) -> u64
-    ensures { λ r. ⌜ r ≡ max a b ⌝ }
-{
-    if a < b { b } else { a }
 }
 
 // A chain that is done with the sum S at its edge.

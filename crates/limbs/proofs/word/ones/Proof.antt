@@ -1,7 +1,7 @@
--- `format::ones` meets its contract.
+-- `limbs::word::ones` meets its contract.
 use borrow.Author.Needs.{needs}
-use Rattle.format.proofs.ones.Statement.{statement}
-use Rattle.format.proofs.ones.Tie as tie
+use Rattle.limbs.proofs.word.ones.Statement.{statement}
+use Rattle.limbs.proofs.word.ones.Tie as tie
 
 power-requires : tie.Need-power-requires
 power-requires c κs = search needs
