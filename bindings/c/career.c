@@ -42,17 +42,10 @@ static void reverse(double *list, size_t n)
     }
 }
 
-static uint64_t word(const uint8_t *bytes)
-{
-    uint64_t x;
-    memcpy(&x, bytes, sizeof x);
-    return x;
-}
-
 int main(int argc, char **argv)
 {
-    uint8_t answer[TOTALS_ANSWER_BYTES];
-    uint64_t code, encoding;
+    totals_double_record total;
+    uint64_t encoding;
     double running = 0;
     size_t i, n;
 
@@ -69,13 +62,12 @@ int main(int argc, char **argv)
         reverse(months, n);
     }
 
-    code = totals_sum(TOTALS_BINARY64, TOTALS_DEFAULTS, TOTALS_VALUE,
-                      (const uint8_t *)months, n * sizeof months[0], answer, sizeof answer);
-    if (code != TOTALS_ACCEPTED) {
-        fprintf(stderr, "refused: %" PRIu64 "\n", TOTALS_REFUSAL(code));
+    total = totals_sum_double(months, n, NULL);
+    if (total.refusal != TOTALS_ACCEPTED) {
+        fprintf(stderr, "refused: %s\n", totals_strerror(total.refusal));
         return 1;
     }
-    printf("%016" PRIx64 "\n%02x\n%" PRIu64 "\n", word(answer), (unsigned)answer[8], word(answer + 16));
+    printf("%016" PRIx64 "\n%02x\n%" PRIu64 "\n", total.bits, total.flags, total.passes);
 
     for (i = 0; i < n; i++) {
         running += months[i];

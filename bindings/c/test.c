@@ -1,8 +1,30 @@
-/* Both functions with good, refused and empty input, as a caller in C or C++ meets them. */
+/* Every function with good, refused and empty input, as a caller in C or C++ meets them. */
 #include <inttypes.h>
 #include <stdio.h>
+#include <stdlib.h>
 #include <string.h>
 
+/* Memory that can run out, and is counted. */
+static int has_memory = 1;
+static int owned = 0;
+
+static void *taken(size_t size)
+{
+    if (!has_memory) {
+        return NULL;
+    }
+    owned++;
+    return malloc(size);
+}
+
+static void given_back(void *pointer)
+{
+    owned -= pointer != NULL;
+    free(pointer);
+}
+
+#define TOTALS_MALLOC(size) taken(size)
+#define TOTALS_FREE(pointer) given_back(pointer)
 #include "totals.h"
 
 #define UNTOUCHED 0xa5
@@ -18,6 +40,20 @@ static void check(int holds, const char *what, int line)
         fprintf(stderr, "test.c:%d: not so: %s\n", line, what);
         failures++;
     }
+}
+
+/* The number with an encoding; C++11 has no hexadecimal floats. */
+static double number(uint64_t encoding)
+{
+    double x;
+    memcpy(&x, &encoding, sizeof x);
+    return x;
+}
+
+/* 2^n, for a normal number. */
+static double power(int n)
+{
+    return number((uint64_t)(n + 1023) << 52);
 }
 
 static uint8_t answer[ROOM];
@@ -73,11 +109,11 @@ static uint64_t halves(const uint64_t *list, size_t n)
 
 static void accepted(void)
 {
-    const double cancelling[3] = {0x1p1000, 1, -0x1p1000};
-    const double above[3] = {1, 0x1p-53, 0x1p-1000};
-    const double largest[2] = {0x1.fffffffffffffp1023, 0x1.fffffffffffffp1023};
+    const double cancelling[3] = {power(1000), 1, -power(1000)};
+    const double above[3] = {1, power(-53), power(-1000)};
+    const double largest[2] = {number(0x7fefffffffffffff), number(0x7fefffffffffffff)};
     const double zeros[2] = {0.0, -0.0};
-    const double small[1] = {0x1p-600};
+    const double small[1] = {power(-600)};
     const double left[2] = {1.5, 2}, right[2] = {2, 0.25};
     const uint64_t half[2] = {0x3c00, 0x3800};
 
@@ -140,11 +176,211 @@ static void formats(void)
     TWO(TOTALS_E2M1, 0x2, 0x4);
 }
 
+/* A record in which nothing is set but the refusal and its place. */
+#define REFUSED(record, number, at) \
+    ((record).refusal == (number) && (record).place == (at) && (record).result == 0 && (record).flags == 0 && (record).passes == 0)
+
+static void doubles(void)
+{
+    const double list[3] = {power(1000), 1, -power(1000)};
+    const double above[3] = {1, power(-53), power(-1000)};
+    const double left[2] = {1.5, -2}, right[2] = {2, 0.25};
+    totals_settings settings = TOTALS_SETTINGS_INIT;
+    totals_double_record record = totals_sum_double(list, 3, NULL);
+
+    CHECK(record.refusal == TOTALS_ACCEPTED && record.place == 0);
+    CHECK(record.result == 1 && record.bits == 0x3ff0000000000000 && record.flags == 0 && record.passes == 2);
+    record = totals_sum_double(above, 3, &settings);
+    CHECK(record.bits == 0x3ff0000000000001 && record.flags == TOTALS_INEXACT + TOTALS_ROUNDED_UP && record.passes == 2);
+    settings.rounding = TOTALS_TOWARD_ZERO;
+    record = totals_sum_double(above, 3, &settings);
+    CHECK(record.result == 1 && record.flags == TOTALS_INEXACT);
+    CHECK(totals_magnitude_sum_double(left, 2, NULL).result == 3.5);
+    CHECK(totals_square_sum_double(left, 2, NULL).result == 6.25);
+    CHECK(totals_dot_double(left, 2, right, 2, NULL).result == 2.5);
+    CHECK(totals_dot_double(left, 2, left, 2, NULL).bits == totals_square_sum_double(left, 2, NULL).bits);
+
+    /* an empty list needs no pointer; zeros of both signs are +0, and -0 toward negative */
+    CHECK(totals_sum_double(NULL, 0, NULL).refusal == TOTALS_ACCEPTED && totals_sum_double(NULL, 0, NULL).bits == 0);
+    CHECK(totals_dot_double(NULL, 0, NULL, 0, NULL).refusal == TOTALS_ACCEPTED);
+    settings.rounding = TOTALS_TOWARD_NEGATIVE;
+    CHECK(totals_dot_double(left, 2, list, 0, &settings).refusal == TOTALS_DIFFERENT_LENGTHS);
+    {
+        const double zeros[2] = {0.0, -0.0};
+        CHECK(totals_sum_double(zeros, 2, NULL).bits == 0);
+        CHECK(totals_sum_double(zeros, 2, &settings).bits == 0x8000000000000000);
+    }
+}
+
+static void floats(void)
+{
+    const float list[3] = {16777216, 1, -16777216};
+    const float left[2] = {1.5f, -2}, right[2] = {2, 0.25f};
+    float many[2 * TOTALS_ROOM_];
+    totals_settings settings = TOTALS_SETTINGS_INIT;
+    totals_float_record record = totals_sum_float(list, 3, NULL);
+    size_t i;
+
+    CHECK(record.refusal == TOTALS_ACCEPTED && record.place == 0);
+    CHECK(record.result == 1 && record.bits == 0x3f800000 && record.flags == 0 && record.passes == 1);
+    record = totals_sum_float(list, 2, NULL);
+    CHECK(record.result == 16777216 && record.flags == TOTALS_INEXACT);
+    settings.rounding = TOTALS_TOWARD_POSITIVE;
+    record = totals_sum_float(list, 2, &settings);
+    CHECK(record.result == 16777218 && record.flags == TOTALS_INEXACT + TOTALS_ROUNDED_UP);
+    CHECK(totals_magnitude_sum_float(left, 2, NULL).result == 3.5f);
+    CHECK(totals_square_sum_float(left, 2, NULL).result == 6.25f);
+    CHECK(totals_dot_float(left, 2, right, 2, NULL).result == 2.5f);
+    CHECK(totals_sum_float(NULL, 0, NULL).refusal == TOTALS_ACCEPTED && totals_sum_float(NULL, 0, NULL).bits == 0);
+
+    /* one less, as many and one more than find room without a copy in memory of its own */
+    for (i = 0; i < 2 * TOTALS_ROOM_; i++) {
+        many[i] = (float)(i + 1);
+    }
+    for (i = TOTALS_ROOM_ - 1; i <= TOTALS_ROOM_ + 1; i++) {
+        CHECK(totals_sum_float(many, i, NULL).result == (float)(i * (i + 1) / 2));
+        CHECK(totals_dot_float(many, i, many, i, NULL).bits == totals_square_sum_float(many, i, NULL).bits);
+    }
+    CHECK(owned == 0);
+    has_memory = 0;
+    CHECK(totals_sum_float(many, TOTALS_ROOM_, NULL).refusal == TOTALS_ACCEPTED);
+    CHECK(REFUSED(totals_sum_float(many, TOTALS_ROOM_ + 1, NULL), TOTALS_NO_MEMORY, 0));
+    CHECK(REFUSED(totals_dot_float(many, 600, many, 600, NULL), TOTALS_NO_MEMORY, 0));
+    CHECK(totals_sum_double(NULL, 0, NULL).refusal == TOTALS_ACCEPTED);
+    has_memory = 1;
+}
+
+static void words(void)
+{
+    const totals_format half = {TOTALS_BINARY16}, none = {TOTALS_IEEE, 11, 12};
+    const uint64_t list[2] = {0x3c00, 0x3800}, stray[3] = {1, 0x10000, 0x20000}, fits[3] = {1, 2, 3};
+    totals_record record = totals_sum_words(half, TOTALS_VALUE, list, 2, NULL);
+
+    CHECK(record.refusal == TOTALS_ACCEPTED && record.result == 0x3e00 && record.flags == 0 && record.passes == 1);
+    CHECK(totals_sum_words(half, TOTALS_SQUARE, list, 2, NULL).result == 0x3d00);
+    CHECK(totals_dot_words(half, list, 2, list, 2, NULL).result == 0x3d00);
+    CHECK(REFUSED(totals_sum_words(half, TOTALS_VALUE, stray, 3, NULL), TOTALS_STRAY_BIT, 1));
+    CHECK(REFUSED(totals_dot_words(half, fits, 3, stray + 1, 2, NULL), TOTALS_DIFFERENT_LENGTHS, 0));
+    CHECK(REFUSED(totals_dot_words(half, fits, 2, stray, 2, NULL), TOTALS_STRAY_BIT, 1));
+    CHECK(REFUSED(totals_sum_words(half, 3, list, 2, NULL), TOTALS_SETTING_OUT_OF_RANGE, 0));
+    CHECK(REFUSED(totals_sum_words(none, 3, list, 2, NULL), TOTALS_NO_SUCH_FORMAT, 0));
+    CHECK(REFUSED(totals_dot_words(none, list, 2, list, 1, NULL), TOTALS_NO_SUCH_FORMAT, 0));
+    CHECK(REFUSED(totals_sum_words(half, TOTALS_VALUE, NULL, 2, NULL), TOTALS_NO_LIST, 0));
+}
+
+/* Each refusal that a list of double or float can meet, and the lowest of two. */
+static void refused_records(void)
+{
+    const size_t most = TOTALS_MOST_ELEMENTS;
+    const double one = 1;
+    const float half = 0.5f;
+    double *zeros = (double *)calloc(most + 2, sizeof *zeros);
+    float *singles = (float *)zeros;
+    totals_settings bad[8];
+    size_t i;
+
+    for (i = 0; i < 8; i++) {
+        const totals_settings plain = TOTALS_SETTINGS_INIT;
+        bad[i] = plain;
+    }
+    bad[0].rounding = 8;
+    bad[1].tininess = 2;
+    bad[2].nan_propagation = 4;
+    bad[3].default_nan_negative = 2;
+    bad[4].flush_to_zero = 2;
+    bad[5].denormals_are_zero = 2;
+    bad[6].saturate = 2;
+    bad[7].precision = 54;
+    for (i = 0; i < 8; i++) {
+        CHECK(REFUSED(totals_sum_double(&one, 1, &bad[i]), TOTALS_SETTING_OUT_OF_RANGE, 0));
+        CHECK(REFUSED(totals_magnitude_sum_double(&one, 1, &bad[i]), TOTALS_SETTING_OUT_OF_RANGE, 0));
+        CHECK(REFUSED(totals_square_sum_double(&one, 1, &bad[i]), TOTALS_SETTING_OUT_OF_RANGE, 0));
+        CHECK(REFUSED(totals_dot_double(&one, 1, &one, 1, &bad[i]), TOTALS_SETTING_OUT_OF_RANGE, 0));
+        CHECK(REFUSED(totals_sum_float(&half, 1, &bad[i]), TOTALS_SETTING_OUT_OF_RANGE, 0));
+        CHECK(REFUSED(totals_magnitude_sum_float(&half, 1, &bad[i]), TOTALS_SETTING_OUT_OF_RANGE, 0));
+        CHECK(REFUSED(totals_square_sum_float(&half, 1, &bad[i]), TOTALS_SETTING_OUT_OF_RANGE, 0));
+        CHECK(REFUSED(totals_dot_float(&half, 1, &half, 1, &bad[i]), TOTALS_SETTING_OUT_OF_RANGE, 0));
+        /* it comes before a length, even one that no list has */
+        CHECK(REFUSED(totals_sum_double(&one, SIZE_MAX, &bad[i]), TOTALS_SETTING_OUT_OF_RANGE, 0));
+        CHECK(REFUSED(totals_dot_double(NULL, 2, &one, 1, &bad[i]), TOTALS_SETTING_OUT_OF_RANGE, 0));
+    }
+    bad[7].precision = 25;
+    CHECK(totals_sum_double(&one, 1, &bad[7]).refusal == TOTALS_ACCEPTED);
+    CHECK(REFUSED(totals_sum_float(&half, 1, &bad[7]), TOTALS_SETTING_OUT_OF_RANGE, 0));
+
+    CHECK(REFUSED(totals_dot_double(&one, 1, &one, 0, NULL), TOTALS_DIFFERENT_LENGTHS, 0));
+    CHECK(REFUSED(totals_dot_float(&half, 1, &half, 0, NULL), TOTALS_DIFFERENT_LENGTHS, 0));
+    CHECK(REFUSED(totals_dot_double(zeros, most + 1, zeros, most + 2, NULL), TOTALS_DIFFERENT_LENGTHS, 0));
+    CHECK(REFUSED(totals_dot_float(singles, 1, singles, SIZE_MAX, NULL), TOTALS_DIFFERENT_LENGTHS, 0));
+    CHECK(REFUSED(totals_dot_double(NULL, 2, &one, 1, NULL), TOTALS_DIFFERENT_LENGTHS, 0));
+
+    CHECK(totals_sum_double(zeros, most, NULL).refusal == TOTALS_ACCEPTED);
+    CHECK(totals_sum_float(singles, most, NULL).refusal == TOTALS_ACCEPTED && owned == 0);
+    CHECK(totals_dot_double(zeros, most, zeros, most, NULL).refusal == TOTALS_ACCEPTED);
+    CHECK(REFUSED(totals_sum_double(zeros, most + 1, NULL), TOTALS_TOO_MANY_ELEMENTS, 0));
+    CHECK(REFUSED(totals_magnitude_sum_double(zeros, most + 1, NULL), TOTALS_TOO_MANY_ELEMENTS, 0));
+    CHECK(REFUSED(totals_square_sum_double(zeros, most + 1, NULL), TOTALS_TOO_MANY_ELEMENTS, 0));
+    CHECK(REFUSED(totals_dot_double(zeros, most + 1, zeros, most + 1, NULL), TOTALS_TOO_MANY_ELEMENTS, 0));
+    CHECK(REFUSED(totals_sum_float(singles, most + 1, NULL), TOTALS_TOO_MANY_ELEMENTS, 0));
+    CHECK(REFUSED(totals_dot_float(singles, most + 1, singles, most + 1, NULL), TOTALS_TOO_MANY_ELEMENTS, 0));
+    /* eight bytes an element of these are 8 bytes, or none, by a size_t that wraps */
+    CHECK(REFUSED(totals_sum_double(&one, SIZE_MAX / 8 + 2, NULL), TOTALS_TOO_MANY_ELEMENTS, 0));
+    CHECK(REFUSED(totals_sum_double(&one, SIZE_MAX / 8 + 1, NULL), TOTALS_TOO_MANY_ELEMENTS, 0));
+    CHECK(REFUSED(totals_sum_float(&half, SIZE_MAX / 8 + 2, NULL), TOTALS_TOO_MANY_ELEMENTS, 0));
+
+    CHECK(REFUSED(totals_sum_double(NULL, 1, NULL), TOTALS_NO_LIST, 0));
+    CHECK(REFUSED(totals_sum_float(NULL, 1, NULL), TOTALS_NO_LIST, 0));
+    CHECK(REFUSED(totals_dot_double(&one, 1, NULL, 1, NULL), TOTALS_NO_LIST, 0));
+    CHECK(REFUSED(totals_dot_float(NULL, 1, &half, 1, NULL), TOTALS_NO_LIST, 0));
+    free(zeros);
+}
+
+/* The raw entry writes nothing where it refuses, and the inline functions lend it a buffer of their own: no list is touched. */
+static void lists_are_only_read(void)
+{
+    const double before[2] = {1, 2};
+    double list[2] = {1, 2};
+    totals_settings bad = TOTALS_SETTINGS_INIT;
+    bad.rounding = 8;
+    CHECK(totals_sum_double(list, 2, NULL).result == 3 && totals_sum_double(list, 2, &bad).refusal != TOTALS_ACCEPTED);
+    CHECK(memcmp(list, before, sizeof list) == 0);
+}
+
+/* Every refusal has words of its own. */
+static void refusals_in_words(void)
+{
+    const unsigned known[10] = {0, 1, 2, 3, 4, 5, 6, 7, TOTALS_NO_LIST, TOTALS_NO_MEMORY};
+    size_t i, k;
+    for (i = 0; i < 10; i++) {
+        CHECK(strcmp(totals_strerror(known[i]), totals_strerror(100)) != 0);
+        for (k = 0; k < i; k++) {
+            CHECK(strcmp(totals_strerror(known[i]), totals_strerror(known[k])) != 0);
+        }
+    }
+    CHECK(strcmp(totals_strerror(7 + 256 * 3), totals_strerror(TOTALS_STRAY_BIT)) == 0);
+    CHECK(strcmp(totals_strerror(UINT64_MAX - 1), totals_strerror(TOTALS_NO_LIST)) == 0);
+    CHECK(strlen(totals_strerror(100)) > 0);
+}
+
+static void version(void)
+{
+    char text[32];
+    sprintf(text, "%d.%d.%d", TOTALS_VERSION_MAJOR, TOTALS_VERSION_MINOR, TOTALS_VERSION_PATCH);
+    CHECK(strcmp(text, TOTALS_VERSION) == 0 && TOTALS_VERSION_NUMBER == 100);
+}
+
 int main(void)
 {
     accepted();
     refused();
     formats();
+    doubles();
+    floats();
+    words();
+    refused_records();
+    lists_are_only_read();
+    refusals_in_words();
+    version();
     if (failures == 0) {
         printf("test.c: every check holds\n");
     }

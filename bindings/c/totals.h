@@ -1,16 +1,33 @@
 /*
  * Exact totals over lists of binary floating-point numbers: the exact sum of a
- * list, rounded once, the same in every order. Declares the two functions of
- * libtotals.a (x86-64 Linux), which `rt staticlib totals` builds.
+ * list, rounded once, the same in every order. C99 or C++11, with libtotals.a
+ * (x86-64 Linux), which `rt staticlib totals` builds.
  *
- * The library is proved. What is claimed of it stands in docs/PROMISES.md, the
- * exact meaning of each number below in docs/01-scope.md.
+ *   totals_sum_double  totals_magnitude_sum_double  totals_square_sum_double  totals_dot_double
+ *   totals_sum_float   totals_magnitude_sum_float   totals_square_sum_float   totals_dot_float
+ *   totals_sum_words   totals_dot_words     encodings of any format
+ *   totals_strerror                         a refusal in words
+ *   totals_sum         totals_dot           the two functions of the library, over bytes
+ *
+ * The first ten count elements, and answer with a record. They are inline, plain C, and call the
+ * last two, which are proved. docs/LINKING.md has each with its special cases and an example.
+ * What is claimed of the library stands in docs/PROMISES.md, the exact meaning of each number below
+ * in docs/01-scope.md. No function keeps a state, and all may be called from several threads.
  */
 #ifndef TOTALS_H
 #define TOTALS_H
 
 #include <stddef.h>
 #include <stdint.h>
+#include <stdlib.h>
+#include <string.h>
+
+/* The version of this header and of the archive that it was written for. */
+#define TOTALS_VERSION_MAJOR 0
+#define TOTALS_VERSION_MINOR 1
+#define TOTALS_VERSION_PATCH 0
+#define TOTALS_VERSION "0.1.0"
+#define TOTALS_VERSION_NUMBER (TOTALS_VERSION_MAJOR * 10000 + TOTALS_VERSION_MINOR * 100 + TOTALS_VERSION_PATCH)
 
 #ifdef __cplusplus
 extern "C" {
@@ -24,7 +41,10 @@ enum {
     TOTALS_FINITE = 3  /* neither infinity nor NaN */
 };
 
-/* A format: the first three arguments of a call, as in totals_sum(TOTALS_BINARY64, ...). */
+/*
+ * A format: the first three arguments of a call, as in totals_sum(TOTALS_BINARY64, ...), or what a
+ * totals_format starts with, as in totals_format half = {TOTALS_BINARY16};
+ */
 #define TOTALS_BINARY64 TOTALS_IEEE, 11, 64
 #define TOTALS_BINARY32 TOTALS_IEEE, 8, 32
 #define TOTALS_BINARY16 TOTALS_IEEE, 5, 16
@@ -37,6 +57,12 @@ enum {
 #define TOTALS_E3M2 TOTALS_FINITE, 3, 6
 #define TOTALS_E2M3 TOTALS_FINITE, 2, 6
 #define TOTALS_E2M1 TOTALS_FINITE, 2, 4
+
+typedef struct totals_format {
+    uint64_t kind;
+    uint64_t exponent_bits;
+    uint64_t width;
+} totals_format;
 
 /* Rounding: how the exact sum is rounded. */
 enum {
@@ -67,6 +93,25 @@ enum {
 /* Eight settings, the arguments after the format: ties to even, every other setting 0. */
 #define TOTALS_DEFAULTS TOTALS_TIES_TO_EVEN, TOTALS_BEFORE_ROUNDING, TOTALS_SIGNALING_FIRST, 0, 0, 0, 0, 0
 
+/*
+ * The settings of a call. Start from the defaults, since later versions add fields at the end:
+ *
+ *   totals_settings settings = TOTALS_SETTINGS_INIT;
+ *   settings.rounding = TOTALS_TOWARD_ZERO;
+ */
+typedef struct totals_settings {
+    uint64_t rounding;
+    uint64_t tininess;
+    uint64_t nan_propagation;
+    uint64_t default_nan_negative; /* this and the next three: 0 or 1 */
+    uint64_t flush_to_zero;
+    uint64_t denormals_are_zero;
+    uint64_t saturate;
+    uint64_t precision; /* the digits to round to, 1 to the format's, or 0 for the format's */
+} totals_settings;
+
+#define TOTALS_SETTINGS_INIT {TOTALS_DEFAULTS}
+
 /* Summand: what of each value is summed. */
 enum {
     TOTALS_VALUE = 0,
@@ -85,7 +130,10 @@ enum {
     TOTALS_SUBNORMAL_INPUT = 128 /* a value of the list is subnormal */
 };
 
-/* Refusals: what TOTALS_REFUSAL makes of the number that a call returned. The lowest that holds is given. */
+/* The most elements of a list, or pairs of a dot. */
+#define TOTALS_MOST_ELEMENTS 1048576
+
+/* Refusals: in a record, or what TOTALS_REFUSAL makes of the number that a call returned. The lowest that holds is given. */
 enum {
     TOTALS_ACCEPTED = 0,
     TOTALS_UNEVEN_LENGTH = 1,        /* a length that is not a multiple of 8 */
@@ -94,7 +142,9 @@ enum {
     TOTALS_SETTING_OUT_OF_RANGE = 4, /* a setting or the summand out of its range */
     TOTALS_DIFFERENT_LENGTHS = 5,    /* dot: two lists of different lengths */
     TOTALS_TOO_MANY_ELEMENTS = 6,    /* more than 1,048,576 elements, or pairs in a dot */
-    TOTALS_STRAY_BIT = 7             /* an element with a set bit at position `width` or above */
+    TOTALS_STRAY_BIT = 7,            /* an element with a set bit at position `width` or above */
+    TOTALS_NO_LIST = 254,            /* this and the next from the inline functions alone: NULL for a list that is not empty */
+    TOTALS_NO_MEMORY = 255           /* a long list of float could not be copied */
 };
 
 #define TOTALS_REFUSAL(code) ((code) % 256)
@@ -133,6 +183,293 @@ uint64_t totals_dot(uint64_t kind, uint64_t exponent_bits, uint64_t width,
                     const uint8_t *left, size_t left_len,
                     const uint8_t *right, size_t right_len,
                     uint8_t *answer, size_t answer_len);
+
+/*
+ * Records: what the inline functions answer. Where refusal is TOTALS_ACCEPTED, result, flags and passes hold the total. Else
+ * refusal says why there is none, and every other field is 0 but for the place of a TOTALS_STRAY_BIT. Later versions add
+ * fields at the end.
+ */
+typedef struct totals_record {
+    uint64_t result; /* an encoding of the format */
+    uint64_t passes;
+    uint64_t place;
+    unsigned flags;
+    unsigned refusal;
+} totals_record;
+
+typedef struct totals_double_record {
+    double result;
+    uint64_t bits; /* the encoding of the result */
+    uint64_t passes;
+    uint64_t place;
+    unsigned flags;
+    unsigned refusal;
+} totals_double_record;
+
+typedef struct totals_float_record {
+    float result;
+    uint32_t bits; /* the encoding of the result */
+    uint64_t passes;
+    uint64_t place;
+    unsigned flags;
+    unsigned refusal;
+} totals_float_record;
+
+/*
+ * A refusal in words. Takes the refusal of a record, or all that totals_sum or totals_dot returned.
+ * Never NULL; of a number that it does not know it says so.
+ */
+static inline const char *totals_strerror(uint64_t refusal)
+{
+    switch (TOTALS_REFUSAL(refusal)) {
+    case TOTALS_ACCEPTED: return "accepted";
+    case TOTALS_UNEVEN_LENGTH: return "the length in bytes is not a multiple of 8";
+    case TOTALS_SHORT_BUFFER: return "the answer buffer has fewer than 24 bytes";
+    case TOTALS_NO_SUCH_FORMAT: return "there is no such format";
+    case TOTALS_SETTING_OUT_OF_RANGE: return "a setting or the summand is out of its range";
+    case TOTALS_DIFFERENT_LENGTHS: return "the two lists have different lengths";
+    case TOTALS_TOO_MANY_ELEMENTS: return "there are more than 1,048,576 elements";
+    case TOTALS_STRAY_BIT: return "an element does not fit the format's width";
+    case TOTALS_NO_LIST: return "the list is NULL, and its length is not 0";
+    case TOTALS_NO_MEMORY: return "there is no memory for a copy of the list";
+    default: return "a refusal that this header does not know";
+    }
+}
+
+/* Where a list of float has more than TOTALS_ROOM_ elements, it is copied to memory of this kind. Both may be defined before. */
+#ifndef TOTALS_MALLOC
+#define TOTALS_MALLOC(size) malloc(size)
+#define TOTALS_FREE(pointer) free(pointer)
+#endif
+
+/* Names that end in _ are the header's own. */
+#define TOTALS_ROOM_ 512
+
+typedef struct totals_list_ {
+    const void *values;
+    size_t count;
+    size_t size; /* of an element: 4 or 8 bytes */
+} totals_list_;
+
+static inline totals_list_ totals_list_of_(const void *values, size_t count, size_t size)
+{
+    totals_list_ list;
+    list.values = values;
+    list.count = count;
+    list.size = size;
+    return list;
+}
+
+static inline uint64_t totals_get_(const uint8_t *bytes)
+{
+    uint64_t word = 0;
+    int i;
+    for (i = 7; i >= 0; i--) {
+        word = word << 8 | bytes[i];
+    }
+    return word;
+}
+
+/* The values in eight bytes each, little end first, in the room or in memory that is then owned; NULL where there is none. */
+static inline const uint8_t *totals_bytes_(totals_list_ list, uint8_t *room, uint8_t **owned)
+{
+    static const uint8_t none[8] = {0, 0, 0, 0, 0, 0, 0, 0};
+    const uint16_t probe = 1;
+    uint8_t low_end, *bytes = room;
+    size_t i, k;
+
+    memcpy(&low_end, &probe, 1);
+    if (list.count == 0) {
+        return none;
+    }
+    if (list.size == 8 && low_end == 1) {
+        return (const uint8_t *)list.values;
+    }
+    if (list.count > TOTALS_ROOM_) {
+        bytes = *owned = (uint8_t *)TOTALS_MALLOC(8 * list.count);
+        if (bytes == NULL) {
+            return NULL;
+        }
+    }
+    for (i = 0; i < list.count; i++) {
+        const uint8_t *value = (const uint8_t *)list.values + i * list.size;
+        uint64_t word;
+        uint32_t half;
+        if (list.size == 8) {
+            memcpy(&word, value, 8);
+        } else {
+            memcpy(&half, value, 4);
+            word = half;
+        }
+        for (k = 0; k < 8; k++) {
+            bytes[8 * i + k] = (uint8_t)(word >> 8 * k);
+        }
+    }
+    return bytes;
+}
+
+static inline int totals_is_missing_(totals_list_ list)
+{
+    return list.values == NULL && list.count != 0;
+}
+
+/* A sum of `left`, for which `right` is empty and `pairs` 0, or a dot. */
+static inline uint64_t totals_call_(totals_format f, const totals_settings *c, uint64_t summand, int pairs, const uint8_t *left,
+                                    size_t left_count, const uint8_t *right, size_t right_count, uint8_t *answer)
+{
+    if (pairs) {
+        return totals_dot(f.kind, f.exponent_bits, f.width, c->rounding, c->tininess, c->nan_propagation, c->default_nan_negative,
+                          c->flush_to_zero, c->denormals_are_zero, c->saturate, c->precision, left, 8 * left_count, right,
+                          8 * right_count, answer, TOTALS_ANSWER_BYTES);
+    }
+    return totals_sum(f.kind, f.exponent_bits, f.width, c->rounding, c->tininess, c->nan_propagation, c->default_nan_negative,
+                      c->flush_to_zero, c->denormals_are_zero, c->saturate, c->precision, summand, left, 8 * left_count, answer,
+                      TOTALS_ANSWER_BYTES);
+}
+
+static inline totals_record totals_take_(totals_format f, const totals_settings *settings, uint64_t summand, int pairs,
+                                         totals_list_ left, totals_list_ right)
+{
+    static const totals_settings defaults = TOTALS_SETTINGS_INIT;
+    const totals_settings *c = settings == NULL ? &defaults : settings;
+    totals_record record = {0, 0, 0, 0, 0};
+    uint8_t answer[TOTALS_ANSWER_BYTES], left_room[8 * TOTALS_ROOM_], right_room[8 * TOTALS_ROOM_];
+    uint8_t *left_owned = NULL, *right_owned = NULL;
+    uint64_t code;
+
+    if (left.count > TOTALS_MOST_ELEMENTS || right.count > TOTALS_MOST_ELEMENTS || totals_is_missing_(left)
+        || totals_is_missing_(right)) {
+        /* A format or a setting is refused first, with an empty list too. The length of such a list in bytes need not fit a size_t. */
+        const uint8_t *none = totals_bytes_(totals_list_of_(NULL, 0, 8), left_room, &left_owned);
+        code = totals_call_(f, c, summand, pairs, none, 0, none, 0, answer);
+        if (code == TOTALS_ACCEPTED) {
+            code = pairs && left.count != right.count ? TOTALS_DIFFERENT_LENGTHS
+                   : left.count > TOTALS_MOST_ELEMENTS ? TOTALS_TOO_MANY_ELEMENTS
+                                                       : TOTALS_NO_LIST;
+        }
+    } else {
+        const uint8_t *left_bytes = totals_bytes_(left, left_room, &left_owned);
+        const uint8_t *right_bytes = totals_bytes_(right, right_room, &right_owned);
+        if (left_bytes == NULL || right_bytes == NULL) {
+            code = TOTALS_NO_MEMORY;
+        } else {
+            code = totals_call_(f, c, summand, pairs, left_bytes, left.count, right_bytes, right.count, answer);
+        }
+        TOTALS_FREE(left_owned);
+        TOTALS_FREE(right_owned);
+    }
+    if (code == TOTALS_ACCEPTED) {
+        record.result = totals_get_(answer);
+        record.flags = answer[8];
+        record.passes = totals_get_(answer + 16);
+    } else {
+        record.refusal = (unsigned)TOTALS_REFUSAL(code);
+        record.place = TOTALS_PLACE(code);
+    }
+    return record;
+}
+
+static inline totals_double_record totals_as_double_(totals_record record)
+{
+    totals_double_record of;
+    memcpy(&of.result, &record.result, sizeof of.result);
+    of.bits = record.result;
+    of.passes = record.passes;
+    of.place = record.place;
+    of.flags = record.flags;
+    of.refusal = record.refusal;
+    return of;
+}
+
+static inline totals_float_record totals_as_float_(totals_record record)
+{
+    totals_float_record of;
+    of.bits = (uint32_t)record.result;
+    memcpy(&of.result, &of.bits, sizeof of.result);
+    of.passes = record.passes;
+    of.place = record.place;
+    of.flags = record.flags;
+    of.refusal = record.refusal;
+    return of;
+}
+
+static inline totals_double_record totals_of_doubles_(uint64_t summand, int pairs, const double *left, size_t left_count,
+                                                      const double *right, size_t right_count, const totals_settings *settings)
+{
+    const totals_format f = {TOTALS_BINARY64};
+    return totals_as_double_(totals_take_(f, settings, summand, pairs, totals_list_of_(left, left_count, sizeof *left),
+                                          totals_list_of_(right, right_count, sizeof *right)));
+}
+
+static inline totals_float_record totals_of_floats_(uint64_t summand, int pairs, const float *left, size_t left_count,
+                                                    const float *right, size_t right_count, const totals_settings *settings)
+{
+    const totals_format f = {TOTALS_BINARY32};
+    return totals_as_float_(totals_take_(f, settings, summand, pairs, totals_list_of_(left, left_count, sizeof *left),
+                                         totals_list_of_(right, right_count, sizeof *right)));
+}
+
+/*
+ * The totals of `count` elements: of the values, of their magnitudes, of their squares; and of the products of pairs. A list may
+ * be NULL where its count is 0, and settings NULL for TOTALS_SETTINGS_INIT. A list of double is read where it lies; one of float
+ * is copied, eight bytes an element.
+ */
+static inline totals_double_record totals_sum_double(const double *values, size_t count, const totals_settings *settings)
+{
+    return totals_of_doubles_(TOTALS_VALUE, 0, values, count, NULL, 0, settings);
+}
+
+static inline totals_double_record totals_magnitude_sum_double(const double *values, size_t count, const totals_settings *settings)
+{
+    return totals_of_doubles_(TOTALS_MAGNITUDE, 0, values, count, NULL, 0, settings);
+}
+
+static inline totals_double_record totals_square_sum_double(const double *values, size_t count, const totals_settings *settings)
+{
+    return totals_of_doubles_(TOTALS_SQUARE, 0, values, count, NULL, 0, settings);
+}
+
+static inline totals_double_record totals_dot_double(const double *left, size_t left_count, const double *right, size_t right_count,
+                                                     const totals_settings *settings)
+{
+    return totals_of_doubles_(TOTALS_VALUE, 1, left, left_count, right, right_count, settings);
+}
+
+static inline totals_float_record totals_sum_float(const float *values, size_t count, const totals_settings *settings)
+{
+    return totals_of_floats_(TOTALS_VALUE, 0, values, count, NULL, 0, settings);
+}
+
+static inline totals_float_record totals_magnitude_sum_float(const float *values, size_t count, const totals_settings *settings)
+{
+    return totals_of_floats_(TOTALS_MAGNITUDE, 0, values, count, NULL, 0, settings);
+}
+
+static inline totals_float_record totals_square_sum_float(const float *values, size_t count, const totals_settings *settings)
+{
+    return totals_of_floats_(TOTALS_SQUARE, 0, values, count, NULL, 0, settings);
+}
+
+static inline totals_float_record totals_dot_float(const float *left, size_t left_count, const float *right, size_t right_count,
+                                                   const totals_settings *settings)
+{
+    return totals_of_floats_(TOTALS_VALUE, 1, left, left_count, right, right_count, settings);
+}
+
+/* The same of encodings of a format, one to a uint64_t. */
+static inline totals_record totals_sum_words(totals_format format, uint64_t summand, const uint64_t *values, size_t count,
+                                             const totals_settings *settings)
+{
+    return totals_take_(format, settings, summand, 0, totals_list_of_(values, count, sizeof *values),
+                        totals_list_of_(NULL, 0, sizeof *values));
+}
+
+static inline totals_record totals_dot_words(totals_format format, const uint64_t *left, size_t left_count, const uint64_t *right,
+                                             size_t right_count, const totals_settings *settings)
+{
+    return totals_take_(format, settings, TOTALS_VALUE, 1, totals_list_of_(left, left_count, sizeof *left),
+                        totals_list_of_(right, right_count, sizeof *right));
+}
 
 #ifdef __cplusplus
 }
