@@ -10,12 +10,9 @@ fn main() -> Result<(), fermuzhai::Refusal> {
         let running: f64 = list.iter().sum();
         let exact = fermuzhai::sum(list)?;
         println!(
-            "{order:>9}: running {:016x}  exact {:016x} = {}, flags {}, passes {}",
+            "{order:>9}: running {:016x}  exact {:016x} = {exact}",
             running.to_bits(),
-            exact.result.to_bits(),
-            exact.result,
-            exact.flags,
-            exact.passes
+            exact.result.to_bits()
         );
     }
     Ok(())

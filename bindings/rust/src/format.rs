@@ -70,6 +70,18 @@ impl Format {
             width,
         }
     }
+
+    /// The digits of a significand, W − E: the most that a precision can be.
+    ///
+    /// ```
+    /// use fermuzhai::Format;
+    ///
+    /// assert_eq!(Format::BINARY64.digits(), 53);
+    /// ```
+    #[must_use]
+    pub const fn digits(self) -> u8 {
+        self.width.saturating_sub(self.exponent_bits)
+    }
 }
 
 /// The numbers that the entries of [`raw`](crate::raw) take.

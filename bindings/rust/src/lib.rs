@@ -13,7 +13,7 @@ mod value;
 
 pub use format::{Format, Kind};
 pub use record::{Flags, Record};
-pub use refusal::Refusal;
+pub use refusal::{List, Refusal};
 pub use settings::{NanPropagation, Rounding, Settings, Summand, Tininess};
 pub use totals::Totals;
 pub use value::{Float, Value};
@@ -21,6 +21,10 @@ pub use value::{Float, Value};
 /// The exact sum of the values, rounded once to the nearest, ties to even.
 ///
 /// A list of `f64` is read where it lies; one of `f32` is copied first, eight bytes a value.
+///
+/// # Errors
+///
+/// [`Refusal::TooManyElements`] where there are more than 1,048,576 values.
 ///
 /// Proved: `sum-exact`, `sum-entry-order` in `crates/totals_spec/proofs/Promises.antt`.
 ///
@@ -38,6 +42,10 @@ pub fn sum<T: Float>(values: &[T]) -> Result<Record<T>, Refusal> {
 
 /// The exact sum of the magnitudes, rounded once to the nearest, ties to even.
 ///
+/// # Errors
+///
+/// [`Refusal::TooManyElements`] where there are more than 1,048,576 values.
+///
 /// Proved: `sum-exact`, `sum-entry-order` in `crates/totals_spec/proofs/Promises.antt`.
 ///
 /// ```
@@ -49,6 +57,10 @@ pub fn magnitude_sum<T: Float>(values: &[T]) -> Result<Record<T>, Refusal> {
 }
 
 /// The exact sum of the squares, rounded once to the nearest, ties to even.
+///
+/// # Errors
+///
+/// [`Refusal::TooManyElements`] where there are more than 1,048,576 values.
 ///
 /// Proved: `sum-exact`, `sum-entry-order` in `crates/totals_spec/proofs/Promises.antt`.
 ///
@@ -62,6 +74,11 @@ pub fn square_sum<T: Float>(values: &[T]) -> Result<Record<T>, Refusal> {
 
 /// The exact sum of the products of the pairs, rounded once to the nearest, ties to even.
 ///
+/// # Errors
+///
+/// [`Refusal::DifferentLengths`] where the lists have two lengths, else
+/// [`Refusal::TooManyElements`] where there are more than 1,048,576 pairs.
+///
 /// Proved: `dot-exact`, `dot-entry-order` in `crates/totals_spec/proofs/Promises.antt`.
 ///
 /// ```
@@ -72,8 +89,3 @@ pub fn square_sum<T: Float>(values: &[T]) -> Result<Record<T>, Refusal> {
 pub fn dot<T: Float>(left: &[T], right: &[T]) -> Result<Record<T>, Refusal> {
     Totals::new().dot(left, right)
 }
-
-/// The Rust that the manual shows, run as doctests.
-#[cfg(doctest)]
-#[doc = include_str!("../../../docs/MANUAL.md")]
-pub struct Manual;

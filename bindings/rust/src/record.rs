@@ -1,6 +1,6 @@
 use core::fmt::{self, Debug, Display, Formatter};
 use core::hash::{Hash, Hasher};
-use core::ops::{BitAnd, BitOr};
+use core::ops::{BitAnd, BitOr, BitOrAssign};
 
 use crate::Value;
 
@@ -64,6 +64,21 @@ impl Flags {
         self.0 & other.0 == other.0
     }
 
+    /// Whether some flag of `other` is set here.
+    ///
+    /// ```
+    /// use fermuzhai::{sum, Flags};
+    ///
+    /// let range = Flags::OVERFLOW | Flags::UNDERFLOW;
+    /// assert!(sum(&[f64::MAX, f64::MAX])?.flags.intersects(range));
+    /// assert!(!sum(&[0.1, 0.2])?.flags.intersects(range));
+    /// # Ok::<(), fermuzhai::Refusal>(())
+    /// ```
+    #[must_use]
+    pub const fn intersects(self, other: Self) -> bool {
+        self.0 & other.0 != 0
+    }
+
     /// Whether no flag is set.
     #[must_use]
     pub const fn is_empty(self) -> bool {
@@ -76,6 +91,24 @@ impl BitOr for Flags {
 
     fn bitor(self, other: Self) -> Self {
         Self(self.0 | other.0)
+    }
+}
+
+/// Gathers the flags of several totals.
+///
+/// ```
+/// use fermuzhai::{sum, Flags};
+///
+/// let mut seen = Flags::NONE;
+/// for list in [[1.0, 2.0], [0.1, 0.2]] {
+///     seen |= sum(&list)?.flags;
+/// }
+/// assert_eq!(seen, Flags::INEXACT | Flags::ROUNDED_UP);
+/// # Ok::<(), fermuzhai::Refusal>(())
+/// ```
+impl BitOrAssign for Flags {
+    fn bitor_assign(&mut self, other: Self) {
+        *self = *self | other;
     }
 }
 
@@ -97,7 +130,7 @@ impl Display for Flags {
                     out.write_str(" | ")?;
                 }
                 out.write_str(name)?;
-                written = written | flag;
+                written |= flag;
             }
         }
         if written.is_empty() {
@@ -114,6 +147,20 @@ impl Debug for Flags {
 }
 
 /// An accepted total: the result with its flags, and the passes that it took.
+///
+/// It is shown as `result, flags FLAGS, passes N`: a float in decimal, by the precision that is asked for; an encoding in
+/// hexadecimal.
+///
+/// ```
+/// use fermuzhai::{sum, Format, Totals};
+///
+/// let record = sum(&[0.1, 0.2])?;
+/// assert_eq!(record.to_string(), "0.30000000000000004, flags INEXACT | ROUNDED_UP, passes 1");
+/// assert_eq!(format!("{record:.2}"), "0.30, flags INEXACT | ROUNDED_UP, passes 1");
+/// let record = Totals::of(Format::BINARY16).sum(&[0x3c00, 0x3800])?;
+/// assert_eq!(record.to_string(), "0x3e00, flags NONE, passes 1");
+/// # Ok::<(), fermuzhai::Refusal>(())
+/// ```
 ///
 /// Two records are equal where every field is, results by their encodings: so −0 is not +0, and a
 /// NaN equals itself.
@@ -140,6 +187,13 @@ impl<T: Value> PartialEq for Record<T> {
 
 impl<T: Value> Eq for Record<T> {}
 
+impl<T: Value> Display for Record<T> {
+    fn fmt(&self, out: &mut Formatter<'_>) -> fmt::Result {
+        self.result.show(out)?;
+        write!(out, ", flags {}, passes {}", self.flags, self.passes)
+    }
+}
+
 impl<T: Value> Hash for Record<T> {
     fn hash<H: Hasher>(&self, state: &mut H) {
         (self.result.encoding(), self.flags, self.passes).hash(state);
@@ -164,12 +218,25 @@ mod tests {
     }
 
     #[test]
+    fn flags_together() {
+        let mut seen = Flags::INEXACT;
+        seen |= Flags::NONE;
+        assert_eq!(seen, Flags::INEXACT);
+        seen |= Flags::TINY;
+        assert_eq!(seen.bits(), 48);
+        assert!(seen.intersects(Flags::TINY | Flags::INVALID));
+        assert!(!seen.contains(Flags::TINY | Flags::INVALID));
+        assert!(!seen.intersects(Flags::INVALID));
+        assert!(!seen.intersects(Flags::NONE) && seen.contains(Flags::NONE));
+    }
+
+    #[test]
     fn every_flag_has_a_bit_of_its_own() {
         let mut all = Flags::NONE;
         for (flag, _) in Flags::NAMES {
             assert!((all & flag).is_empty());
             assert_eq!(flag.bits().count_ones(), 1);
-            all = all | flag;
+            all |= flag;
         }
         assert_eq!(all.bits(), 0xfd);
     }

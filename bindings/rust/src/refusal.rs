@@ -1,6 +1,28 @@
 use core::error::Error;
 use core::fmt::{self, Display, Formatter};
 
+/// One of the two lists of a dot product.
+#[derive(Clone, Copy, Debug, PartialEq, Eq, Hash)]
+pub enum List {
+    /// The first.
+    Left,
+    /// The second.
+    Right,
+}
+
+/// ` of the left list`; nothing where there is one list, or it is not known which.
+struct OfList(Option<List>);
+
+impl Display for OfList {
+    fn fmt(&self, out: &mut Formatter<'_>) -> fmt::Result {
+        out.write_str(match self.0 {
+            Some(List::Left) => " of the left list",
+            Some(List::Right) => " of the right list",
+            None => "",
+        })
+    }
+}
+
 /// Why a total was not taken. Where several reasons hold, the first in this order is given.
 ///
 /// Proved: `sum-refusal`, `dot-refusal` in `crates/totals_spec/proofs/Promises.antt`.
@@ -16,13 +38,24 @@ use core::fmt::{self, Display, Formatter};
 #[non_exhaustive]
 pub enum Refusal {
     /// 1: a list of bytes whose length is not a multiple of 8.
-    UnevenLength,
+    UnevenLength {
+        /// Which list of a dot, the left one where both are; `None` in a sum, and from
+        /// [`Refusal::from_code`].
+        list: Option<List>,
+    },
     /// 2: an answer buffer under 24 bytes; only through [`raw`](crate::raw).
     ShortBuffer,
     /// 3: the library has no such format.
     NoSuchFormat,
-    /// 4: a precision above the format's digits; through [`raw`](crate::raw) any setting, or the
-    /// summand, out of its range.
+    /// 4: a precision above the format's digits.
+    PrecisionOutOfRange {
+        /// The precision.
+        precision: u8,
+        /// The most that it can be.
+        digits: u8,
+    },
+    /// 4: a setting or the summand out of its range; only through [`raw`](crate::raw), whose numbers can say
+    /// what the types of this crate cannot.
     SettingOutOfRange,
     /// 5: the two lists of a dot have different lengths.
     DifferentLengths,
@@ -30,9 +63,11 @@ pub enum Refusal {
     TooManyElements,
     /// 7: an element has a set bit at the format's width or above.
     StrayBit {
-        /// The index of such an element: in a dot of the left list if that holds one, else of the
-        /// right.
+        /// The index of such an element.
         place: usize,
+        /// Which list of a dot it stands in, the left one where both hold one; `None` in a sum, and
+        /// from [`Refusal::from_code`].
+        list: Option<List>,
     },
     /// A code that this crate does not know: the archive is not the one that it was written for.
     Unknown {
@@ -42,19 +77,21 @@ pub enum Refusal {
 }
 
 impl Refusal {
-    /// Reads what an entry of [`raw`](crate::raw) returned; `None` is an accepted call.
+    /// Reads what an entry of [`raw`](crate::raw) returned; `None` is an accepted call. A code does
+    /// not say which setting or which list it is about.
     ///
     /// ```
     /// use fermuzhai::Refusal;
     ///
     /// assert_eq!(Refusal::from_code(0), None);
-    /// assert_eq!(Refusal::from_code(7 + 256 * 3), Some(Refusal::StrayBit { place: 3 }));
+    /// let stray = Refusal::StrayBit { place: 3, list: None };
+    /// assert_eq!(Refusal::from_code(7 + 256 * 3), Some(stray));
     /// ```
     #[must_use]
     pub const fn from_code(code: u64) -> Option<Self> {
         Some(match code {
             0 => return None,
-            1 => Self::UnevenLength,
+            1 => Self::UnevenLength { list: None },
             2 => Self::ShortBuffer,
             3 => Self::NoSuchFormat,
             4 => Self::SettingOutOfRange,
@@ -62,6 +99,7 @@ impl Refusal {
             6 => Self::TooManyElements,
             _ if code % 256 == 7 => Self::StrayBit {
                 place: (code / 256) as usize,
+                list: None,
             },
             _ => Self::Unknown { code },
         })
@@ -71,16 +109,31 @@ impl Refusal {
 impl Display for Refusal {
     fn fmt(&self, out: &mut Formatter<'_>) -> fmt::Result {
         match self {
-            Self::UnevenLength => out.write_str("the length in bytes is not a multiple of 8"),
-            Self::ShortBuffer => out.write_str("the answer buffer has fewer than 24 bytes"),
-            Self::NoSuchFormat => out.write_str("there is no such format"),
-            Self::SettingOutOfRange => out.write_str("a setting is out of its range"),
-            Self::DifferentLengths => out.write_str("the two lists have different lengths"),
-            Self::TooManyElements => out.write_str("there are more than 1,048,576 elements"),
-            Self::StrayBit { place } => {
+            Self::UnevenLength { list } => {
                 write!(
                     out,
-                    "the element at index {place} does not fit the format's width"
+                    "the length{} in bytes is not a multiple of 8",
+                    OfList(*list)
+                )
+            }
+            Self::ShortBuffer => out.write_str("the answer buffer has fewer than 24 bytes"),
+            Self::NoSuchFormat => out.write_str("there is no such format"),
+            Self::PrecisionOutOfRange { precision, digits } => {
+                write!(
+                    out,
+                    "the precision {precision} is above the format's {digits} digits"
+                )
+            }
+            Self::SettingOutOfRange => {
+                out.write_str("a setting or the summand is out of its range")
+            }
+            Self::DifferentLengths => out.write_str("the two lists have different lengths"),
+            Self::TooManyElements => out.write_str("there are more than 1,048,576 elements"),
+            Self::StrayBit { place, list } => {
+                write!(
+                    out,
+                    "the element at index {place}{} does not fit the format's width",
+                    OfList(*list)
                 )
             }
             Self::Unknown { code } => {
@@ -102,15 +155,51 @@ mod tests {
     #[test]
     fn codes() {
         assert_eq!(Refusal::from_code(0), None);
-        assert_eq!(Refusal::from_code(1), Some(Refusal::UnevenLength));
-        assert_eq!(Refusal::from_code(6), Some(Refusal::TooManyElements));
-        assert_eq!(Refusal::from_code(7), Some(Refusal::StrayBit { place: 0 }));
         assert_eq!(
-            Refusal::from_code(7 + 256 * 1_048_575),
-            Some(Refusal::StrayBit { place: 1_048_575 })
+            Refusal::from_code(1),
+            Some(Refusal::UnevenLength { list: None })
         );
+        assert_eq!(Refusal::from_code(6), Some(Refusal::TooManyElements));
+        for place in [0, 1_048_575] {
+            assert_eq!(
+                Refusal::from_code(7 + 256 * place as u64),
+                Some(Refusal::StrayBit { place, list: None })
+            );
+        }
         for code in [8, 255, 256, 257, u64::MAX] {
             assert_eq!(Refusal::from_code(code), Some(Refusal::Unknown { code }));
+        }
+    }
+
+    #[test]
+    fn words() {
+        for (refusal, words) in [
+            (
+                Refusal::UnevenLength { list: None },
+                "the length in bytes is not a multiple of 8",
+            ),
+            (
+                Refusal::UnevenLength {
+                    list: Some(List::Right),
+                },
+                "the length of the right list in bytes is not a multiple of 8",
+            ),
+            (
+                Refusal::PrecisionOutOfRange {
+                    precision: 54,
+                    digits: 53,
+                },
+                "the precision 54 is above the format's 53 digits",
+            ),
+            (
+                Refusal::StrayBit {
+                    place: 2,
+                    list: Some(List::Left),
+                },
+                "the element at index 2 of the left list does not fit the format's width",
+            ),
+        ] {
+            assert_eq!(refusal.to_string(), words);
         }
     }
 }

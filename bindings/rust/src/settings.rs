@@ -68,13 +68,12 @@ pub enum Summand {
 /// How a total is taken. [`Settings::new`] has every number 0, every switch off.
 ///
 /// ```
-/// use core::num::NonZeroU8;
 /// use fermuzhai::{Rounding, Settings, Totals};
 ///
 /// // 24 digits, toward zero
 /// let settings = Settings::new()
 ///     .with_rounding(Rounding::TowardZero)
-///     .with_precision(NonZeroU8::new(24));
+///     .with_precision(24);
 /// let record = Totals::<f64>::new().with_settings(settings).sum(&[1.0, 0.1])?;
 /// assert_eq!(record.result, 1.0999999046325684);
 /// # Ok::<(), fermuzhai::Refusal>(())
@@ -171,10 +170,16 @@ impl Settings {
         Self { saturate, ..self }
     }
 
-    /// The same with another precision; `NonZeroU8::new(24)` is 24 digits.
+    /// The same, rounded to so many digits; 0 is the format's own.
+    ///
+    /// More digits than [`Format::digits`](crate::Format::digits) are refused when a total is
+    /// taken, with [`Refusal::PrecisionOutOfRange`](crate::Refusal::PrecisionOutOfRange).
     #[must_use]
-    pub const fn with_precision(self, precision: Option<NonZeroU8>) -> Self {
-        Self { precision, ..self }
+    pub const fn with_precision(self, digits: u8) -> Self {
+        Self {
+            precision: NonZeroU8::new(digits),
+            ..self
+        }
     }
 }
 

@@ -1,6 +1,6 @@
 use core::marker::PhantomData;
 
-use crate::{raw, Flags, Float, Format, Record, Refusal, Settings, Summand, Value};
+use crate::{raw, Flags, Float, Format, List, Record, Refusal, Settings, Summand, Value};
 
 /// The four totals in one format and under one choice of settings.
 ///
@@ -77,12 +77,25 @@ impl<T: Value> Totals<T> {
 
     /// The sum of the values.
     ///
+    /// # Errors
+    ///
+    /// The first of these that holds:
+    ///
+    /// - [`Refusal::NoSuchFormat`], of encodings of a format that the library does not have
+    /// - [`Refusal::PrecisionOutOfRange`]
+    /// - [`Refusal::TooManyElements`], of more than 1,048,576 values
+    /// - [`Refusal::StrayBit`], of an encoding that is wider than the format
+    ///
     /// Proved: `sum-exact`, `sum-entry-order` in `crates/totals_spec/proofs/Promises.antt`.
     pub fn sum(&self, values: &[T]) -> Result<Record<T>, Refusal> {
         self.sum_of(Summand::Value, values)
     }
 
     /// The sum of the magnitudes of the values.
+    ///
+    /// # Errors
+    ///
+    /// Those of [`Totals::sum`].
     ///
     /// Proved: `sum-exact`, `sum-entry-order` in `crates/totals_spec/proofs/Promises.antt`.
     pub fn magnitude_sum(&self, values: &[T]) -> Result<Record<T>, Refusal> {
@@ -91,12 +104,21 @@ impl<T: Value> Totals<T> {
 
     /// The sum of the squares of the values.
     ///
+    /// # Errors
+    ///
+    /// Those of [`Totals::sum`].
+    ///
     /// Proved: `sum-exact`, `sum-entry-order` in `crates/totals_spec/proofs/Promises.antt`.
     pub fn square_sum(&self, values: &[T]) -> Result<Record<T>, Refusal> {
         self.sum_of(Summand::Square, values)
     }
 
     /// The dot product: the sum of the products of the pairs.
+    ///
+    /// # Errors
+    ///
+    /// Those of [`Totals::sum`], and after the precision [`Refusal::DifferentLengths`], of lists of
+    /// two lengths.
     ///
     /// Proved: `dot-exact`, `dot-entry-order` in `crates/totals_spec/proofs/Promises.antt`.
     pub fn dot(&self, left: &[T], right: &[T]) -> Result<Record<T>, Refusal> {
@@ -105,12 +127,21 @@ impl<T: Value> Totals<T> {
 
     /// One of the three sums, chosen by its summand.
     ///
+    /// # Errors
+    ///
+    /// Those of [`Totals::sum`].
+    ///
     /// Proved: `sum-exact`, `sum-entry-order` in `crates/totals_spec/proofs/Promises.antt`.
     pub fn sum_of(&self, summand: Summand, values: &[T]) -> Result<Record<T>, Refusal> {
         self.sum_bytes(summand, &T::bytes(values))
     }
 
     /// One of the three sums, of values that lie eight bytes each, little end first.
+    ///
+    /// # Errors
+    ///
+    /// [`Refusal::UnevenLength`], of a length that is not a multiple of 8; else those of
+    /// [`Totals::sum`].
     ///
     /// Proved: `sum-exact`, `sum-entry-order` in `crates/totals_spec/proofs/Promises.antt`.
     ///
@@ -120,18 +151,26 @@ impl<T: Value> Totals<T> {
     /// let file = [0, 0, 0, 0, 0, 0, 0xf0, 0x3f, 0, 0, 0, 0, 0, 0, 0xd0, 0x3f];
     /// let totals = Totals::<f64>::new();
     /// assert_eq!(totals.sum_bytes(Summand::Value, &file)?.result, 1.25);
-    /// assert_eq!(totals.sum_bytes(Summand::Value, &file[..15]), Err(Refusal::UnevenLength));
+    /// let cut = totals.sum_bytes(Summand::Value, &file[..15]);
+    /// assert_eq!(cut, Err(Refusal::UnevenLength { list: None }));
     /// # Ok::<(), fermuzhai::Refusal>(())
     /// ```
     pub fn sum_bytes(&self, summand: Summand, values: &[u8]) -> Result<Record<T>, Refusal> {
         self.answer(|f, c, answer| raw::sum(f, c, summand as u64, values, answer))
+            .map_err(|refusal| self.with_setting(refusal))
     }
 
     /// The dot product of values that lie eight bytes each, little end first.
     ///
+    /// # Errors
+    ///
+    /// [`Refusal::UnevenLength`], of a length that is not a multiple of 8; else those of
+    /// [`Totals::dot`].
+    ///
     /// Proved: `dot-exact`, `dot-entry-order` in `crates/totals_spec/proofs/Promises.antt`.
     pub fn dot_bytes(&self, left: &[u8], right: &[u8]) -> Result<Record<T>, Refusal> {
         self.answer(|f, c, answer| raw::dot(f, c, left, right, answer))
+            .map_err(|refusal| self.with_list(self.with_setting(refusal), left))
     }
 
     /// Lends an entry 24 bytes and reads what it leaves there.
@@ -154,5 +193,44 @@ impl<T: Value> Totals<T> {
             flags: Flags::from_bits(flags),
             passes: u64::from_le_bytes(passes),
         })
+    }
+
+    /// Says which setting is out of its range. In the types of this crate that can be the precision
+    /// alone.
+    fn with_setting(&self, refusal: Refusal) -> Refusal {
+        match (refusal, self.settings.precision) {
+            (Refusal::SettingOutOfRange, Some(precision)) => Refusal::PrecisionOutOfRange {
+                precision: precision.get(),
+                digits: self.format.digits(),
+            },
+            _ => refusal,
+        }
+    }
+
+    /// Says which list of a dot is refused: the left one where that is at fault, else the right.
+    fn with_list(&self, refusal: Refusal, left: &[u8]) -> Refusal {
+        let which = |left_is: bool| Some(if left_is { List::Left } else { List::Right });
+        match refusal {
+            Refusal::UnevenLength { .. } => Refusal::UnevenLength {
+                list: which(left.len() % 8 != 0),
+            },
+            Refusal::StrayBit { place, .. } => Refusal::StrayBit {
+                place,
+                list: which(self.is_stray(left, place)),
+            },
+            _ => refusal,
+        }
+    }
+
+    /// Whether the value at an index has a set bit at the format's width or above.
+    fn is_stray(&self, values: &[u8], place: usize) -> bool {
+        let word = values.chunks_exact(8).nth(place).map(|bytes| {
+            bytes
+                .iter()
+                .rev()
+                .fold(0, |word: u64, &byte| word << 8 | u64::from(byte))
+        });
+        word.and_then(|word| word.checked_shr(self.format.width.into()))
+            .is_some_and(|above| above != 0)
     }
 }

@@ -29,10 +29,12 @@ impl Float for f32 {
 pub(crate) mod sealed {
     use alloc::borrow::Cow;
     use alloc::vec::Vec;
+    use core::fmt::{self, Display, Formatter, LowerHex};
 
     pub trait Value: Copy {
         fn encoding(self) -> u64;
         fn from_encoding(encoding: u64) -> Self;
+        fn show(&self, out: &mut Formatter<'_>) -> fmt::Result;
 
         /// The encodings as the entries read them: eight bytes each, little end first.
         fn bytes(values: &[Self]) -> Cow<'_, [u8]> {
@@ -49,6 +51,11 @@ pub(crate) mod sealed {
             encoding
         }
 
+        fn show(&self, out: &mut Formatter<'_>) -> fmt::Result {
+            out.write_str("0x")?;
+            LowerHex::fmt(self, out)
+        }
+
         fn bytes(values: &[Self]) -> Cow<'_, [u8]> {
             words(values)
         }
@@ -61,6 +68,10 @@ pub(crate) mod sealed {
 
         fn from_encoding(encoding: u64) -> Self {
             Self::from_bits(encoding)
+        }
+
+        fn show(&self, out: &mut Formatter<'_>) -> fmt::Result {
+            Display::fmt(self, out)
         }
 
         fn bytes(values: &[Self]) -> Cow<'_, [u8]> {
@@ -76,6 +87,10 @@ pub(crate) mod sealed {
         /// An encoding of binary32 has its upper half clear.
         fn from_encoding(encoding: u64) -> Self {
             Self::from_bits(encoding as u32)
+        }
+
+        fn show(&self, out: &mut Formatter<'_>) -> fmt::Result {
+            Display::fmt(self, out)
         }
     }
 

@@ -5,8 +5,8 @@ mod common;
 use common::ROUNDINGS;
 use fermuzhai::{Float, Format, Record, Refusal, Settings, Summand, Totals, Value};
 
-const CAREER: &str = include_str!("../../../examples/career.txt");
-const EXPECTED: &str = include_str!("../../../examples/career.expected");
+const CAREER: &str = include_str!("data/career.txt");
+const EXPECTED: &str = include_str!("data/career.expected");
 const SHUFFLES: usize = 50;
 
 fn career() -> Vec<f64> {

@@ -1,12 +1,10 @@
 //! The typed interface over the byte entries: numbers, formats, flags and refusals.
 
-use std::num::NonZeroU8;
-
 mod common;
 
 use common::ROUNDINGS;
 use fermuzhai::{
-    dot, magnitude_sum, raw, square_sum, sum, Flags, Format, Kind, NanPropagation, Refusal,
+    dot, magnitude_sum, raw, square_sum, sum, Flags, Format, Kind, List, NanPropagation, Refusal,
     Rounding, Settings, Summand, Tininess, Totals,
 };
 
@@ -49,7 +47,7 @@ fn settings_stand_in_their_order() {
         plain.with_flush_to_zero(true),
         plain.with_denormals_are_zero(true),
         plain.with_saturate(true),
-        plain.with_precision(NonZeroU8::new(1)),
+        plain.with_precision(1),
     ];
     for (place, settings) in each.into_iter().enumerate() {
         let mut numbers = [0; 8];
@@ -206,12 +204,12 @@ fn refusals() {
     let halves = Totals::of(Format::BINARY16);
     assert_eq!(
         halves.sum_bytes(Summand::Value, &[0; 7]),
-        Err(Refusal::UnevenLength)
+        Err(Refusal::UnevenLength { list: None })
     );
-    assert_eq!(
-        halves.dot_bytes(&[0; 8], &[0; 15]),
-        Err(Refusal::UnevenLength)
-    );
+    let uneven = |list| Err(Refusal::UnevenLength { list: Some(list) });
+    assert_eq!(halves.dot_bytes(&[0; 8], &[0; 15]), uneven(List::Right));
+    assert_eq!(halves.dot_bytes(&[0; 9], &[0; 16]), uneven(List::Left));
+    assert_eq!(halves.dot_bytes(&[0; 9], &[0; 15]), uneven(List::Left));
     assert_eq!(
         Totals::of(Format::new(Kind::Ieee, 11, 12)).sum(&[]),
         Err(Refusal::NoSuchFormat)
@@ -220,10 +218,24 @@ fn refusals() {
         Totals::of(Format::new(Kind::Ieee, 1, 64)).dot(&[], &[0]),
         Err(Refusal::NoSuchFormat)
     );
-    let digits = |n| halves.with_settings(Settings::new().with_precision(NonZeroU8::new(n)));
+    let digits = |n| halves.with_settings(Settings::new().with_precision(n));
     assert!(digits(0).sum(&[]).is_ok());
     assert!(digits(11).sum(&[]).is_ok());
-    assert_eq!(digits(12).sum(&[]), Err(Refusal::SettingOutOfRange));
+    let too_precise = Refusal::PrecisionOutOfRange {
+        precision: 12,
+        digits: 11,
+    };
+    assert_eq!(digits(12).sum(&[]), Err(too_precise));
+    assert_eq!(digits(12).dot(&[1], &[]), Err(too_precise));
+    assert_eq!(
+        Totals::<f64>::new()
+            .with_settings(Settings::new().with_precision(54))
+            .sum(&[1.0]),
+        Err(Refusal::PrecisionOutOfRange {
+            precision: 54,
+            digits: 53
+        })
+    );
     assert_eq!(dot(&[1.0], &[1.0, 2.0]), Err(Refusal::DifferentLengths));
     assert_eq!(
         sum(&vec![0f64; (1 << 20) + 1]),
@@ -236,17 +248,48 @@ fn refusals() {
     assert!(sum(&vec![0f32; 1 << 20]).is_ok());
     assert_eq!(
         halves.sum(&[0xffff, 0x10000, 1 << 63]),
-        Err(Refusal::StrayBit { place: 1 })
+        Err(Refusal::StrayBit {
+            place: 1,
+            list: None
+        })
     );
+    let stray = |place, list| {
+        Err(Refusal::StrayBit {
+            place,
+            list: Some(list),
+        })
+    };
     assert_eq!(
         halves.dot(&[1, 2, 3], &[4, 5, 0x10000]),
-        Err(Refusal::StrayBit { place: 2 })
+        stray(2, List::Right)
     );
-    let refusal: Box<dyn std::error::Error> = Box::new(Refusal::StrayBit { place: 2 });
+    assert_eq!(
+        halves.dot(&[1, 0x10000, 3], &[0x10000, 5, 6]),
+        stray(1, List::Left)
+    );
+    assert_eq!(
+        halves.dot(&[1 << 63, 0], &[1 << 63, 0]),
+        stray(0, List::Left)
+    );
+    let wide = Totals::of(Format::new(Kind::Ieee, 11, 63));
+    assert_eq!(wide.dot(&[1, 1], &[0, 1 << 63]), stray(1, List::Right));
+    let refusal: Box<dyn std::error::Error> =
+        Box::new(halves.dot(&[1, 2, 3], &[4, 5, 0x10000]).unwrap_err());
     assert_eq!(
         refusal.to_string(),
-        "the element at index 2 does not fit the format's width"
+        "the element at index 2 of the right list does not fit the format's width"
     );
+}
+
+#[test]
+fn records_in_words() {
+    let record = sum(&[1.0f32, 0.25]).unwrap();
+    assert_eq!(record.to_string(), "1.25, flags NONE, passes 1");
+    assert_eq!(format!("{record:8.3}"), "   1.250, flags NONE, passes 1");
+    let nan = sum(&[f64::INFINITY, f64::NEG_INFINITY]).unwrap();
+    assert_eq!(nan.to_string(), "NaN, flags INVALID, passes 0");
+    let word = Totals::of(Format::E2M1).sum(&[0x7, 0x7]).unwrap();
+    assert_eq!(word.to_string(), "0x7, flags OVERFLOW | INEXACT, passes 1");
 }
 
 /// Both ways in give the same numbers.
