@@ -3,8 +3,8 @@
 use std::hint::black_box;
 
 use fermuzhai::raw;
-use floaty::format::Ieee;
-use floaty::oracle::{self, Operation};
+#[cfg(feature = "original")]
+use floaty::{format::Ieee, oracle};
 
 use crate::fsum::Python;
 use crate::lists::Lists;
@@ -14,6 +14,23 @@ use crate::mpfr;
 
 /// Ties to even, tininess after rounding, every switch off.
 const SETTINGS: [u64; 8] = [0, 1, 0, 0, 0, 0, 0, 0];
+
+/// What is asked for: a sum with the number of its summand, or a dot product.
+#[derive(Clone, Copy)]
+pub enum Operation {
+    Sum(u64),
+    Dot,
+}
+
+#[cfg(feature = "original")]
+impl From<Operation> for oracle::Operation {
+    fn from(operation: Operation) -> Self {
+        match operation {
+            Operation::Sum(summand) => Self::Sum(summand),
+            Operation::Dot => Self::Dot,
+        }
+    }
+}
 
 /// Gives its items one after the other, and again from the first.
 struct Turns<T> {
@@ -68,6 +85,7 @@ fn ours<'a>(format: [u64; 3], operation: Operation, lists: &[Lists]) -> Rival<'a
     Rival::new(Who::Ours, results, call)
 }
 
+#[cfg(feature = "original")]
 fn original<'a>(lists: &'a [Lists], total: impl Fn(&[[u64; 1]], &[[u64; 1]]) -> u64 + 'a) -> Rival<'a> {
     let mut turns = Turns::new(lists.iter());
     let mut call = move || {
@@ -132,7 +150,8 @@ fn plain<'a>(operation: Operation, lists: &[Lists]) -> Rival<'a> {
 /// All who compute the total in binary64, of one list or of several in turn. MPFR and `fsum` sum values, and nothing else; `fsum` takes one list.
 pub fn binary64<'a>(operation: Operation, lists: &'a [Lists], python: Option<&'a mut Python>) -> Vec<Rival<'a>> {
     let mut rivals = vec![ours([0, 11, 64], operation, lists)];
-    rivals.push(original(lists, move |left, right| oracle::plain::<11, Ieee, 64>(operation, left, right, &SETTINGS)));
+    #[cfg(feature = "original")]
+    rivals.push(original(lists, move |left, right| oracle::plain::<11, Ieee, 64>(operation.into(), left, right, &SETTINGS)));
     if matches!(operation, Operation::Sum(0)) {
         #[cfg(feature = "mpfr")]
         rivals.extend([mpfr(lists), mpfr_set(lists)]);
@@ -154,7 +173,9 @@ pub fn sums(lists: &[Lists], others: bool) -> Vec<Rival<'_>> {
 
 /// The two who know a format with 28 exponent bits.
 pub fn gap(lists: &[Lists]) -> Vec<Rival<'_>> {
-    let sum = Operation::Sum(0);
-    let original = original(lists, move |left, right| oracle::plain::<28, Ieee, 30>(sum, left, right, &SETTINGS));
-    vec![ours([0, 28, 30], sum, lists), original]
+    vec![
+        ours([0, 28, 30], Operation::Sum(0), lists),
+        #[cfg(feature = "original")]
+        original(lists, |left, right| oracle::plain::<28, Ieee, 30>(oracle::Operation::Sum(0), left, right, &SETTINGS)),
+    ]
 }
