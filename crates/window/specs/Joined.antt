@@ -142,12 +142,6 @@ totalOf q = chain.signedOf chain.half (value (q .total))
 abbrev pub widthOf : Pass → ℕ
 widthOf q = size (totalOf q .mag)
 
--- a total that is the sum as it stands: there is no boundary, nothing is lost, and it is not negative
-pub record IsSum (near : Bool) (lost : ℕ) (total : List ℕ) : Type 0 where
-  pub free : near ≡ false
-  pub all : lost ≡ 0
-  pub plus : _≡_ {A = words.Signed} (record { neg = false; mag = value total }) (chain.signedOf chain.half (value total))
-
 abbrev pub Steps : ℕ → Chain → Pass → Step → Type 0
 Steps p c q r =
     Follows (r .verdict) (chain.decide p (boundOf c) (c .edge) (q .lost) (totalOf q) (widthOf q)) (counted (c .edge) (widthOf q) (q .lost)) c (r .chain)

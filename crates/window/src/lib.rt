@@ -12,7 +12,7 @@ ghost use Rattle.limbs.specs.Value.{value, bitLength, term};
 ghost use Rattle.totals_spec.specs.Basics.{flag};
 ghost use Rattle.totals_spec.specs.Chain as spec;
 ghost use Rattle.arithmetic.specs.Joined.{magnitude};
-ghost use Rattle.window.specs.Joined.{PartAt, boundOf, sidedOf, exactOf, signedOf, nearBy, counted, Ready, Ends, Sides, Goes, Bounds, Follows, IsSum, Steps, Roundable, Leaves};
+ghost use Rattle.window.specs.Joined.{PartAt, boundOf, sidedOf, exactOf, signedOf, nearBy, counted, Ready, Ends, Sides, Goes, Bounds, Follows, Steps, Roundable, Leaves};
 
 // The part of a term at or above an edge, to be added `up` bits above it, whether there is some, and the lost bit plus one.
 pub struct Part {
@@ -325,32 +325,12 @@ fn step_with_boundary(c: Chain, s: Signed, n: u64, lost: u64) -> Step
     done_beside(c, s, n)
 }
 
-// Whether a pass's total is the sum as it stands: there is no boundary, nothing is lost, and the total is not negative.
-fn is_sum(near: bool, lost: u64, total: [u64; 12]) -> bool
-    ensures { λ r. ⌜ (r ≡ true → IsSum near lost total) ⌝ }
-{
-    if near {
-        return false;
-    }
-    if lost != 0 {
-        return false;
-    }
-    !window::bit(total, 767)
-}
-
-// What follows from a pass at the chain's edge. Most sums are done here with their first pass.
+// What follows from a pass at the chain's edge.
 pub fn advance(p: u64, c: Chain, seen: Pass) -> Step
     requires { ⌜ (p ≤ 64) × Ready c (seen .lost) ⌝ }
     ensures { λ r. ⌜ Steps p c seen r ⌝ }
 {
     let t = seen.total;
-    if is_sum(c.near, seen.lost, t) {
-        let plain = Signed {
-            negative: false,
-            magnitude: t,
-        };
-        return done_exactly(c, plain, window::is_zero(t));
-    }
     let s = signed_of(t);
     let m = s.magnitude;
     let n = width(m);
