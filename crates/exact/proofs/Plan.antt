@@ -57,7 +57,8 @@ module _ {v : Unrounded} {end q : ℕ} (M : Measured v end q) where
 
 -- ---- a value that can be rounded: q of at most p digits are kept
 
-module _ {f : Format} {c : Settings} {g : ℕ} {v : Unrounded} {end : ℕ} (B : EndsAt f c g v end) {q : ℕ} (Q : (q ≡ precisionOf f c) × (1 ≤ q) × (q ≤ digits f)) where
+module _ {f : Format} {c : Settings} {g : ℕ} {v : Unrounded} {end : ℕ} (B : EndsAt f c g v end)
+    {q : ℕ} (Q : (q ≡ precisionOf f c) × (1 ≤ q) × (q ≤ digits f)) where
   p-most : digits f ≤ 64
   p-most = omega (arith, B .rounds .format .w-le)
 

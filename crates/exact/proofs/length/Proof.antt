@@ -8,9 +8,6 @@ use borrow.Author.Needs.{needs}
 use Rattle.exact.proofs.length.Statement.{statement}
 use Rattle.exact.proofs.length.Tie as tie
 
-bit-length-requires : tie.Need-bit-length-requires
-bit-length-requires c κs = search needs
-
 returns : tie.Need-returns
 returns c =
     let s = c .before in
@@ -20,4 +17,4 @@ returns c =
     )
 
 pub length-spec : {M : Type 1} → statement M
-length-spec = tie.close (tie.spec bit-length-requires returns)
+length-spec = tie.close (tie.spec (λ c κs. search needs) returns)

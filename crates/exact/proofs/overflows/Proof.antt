@@ -1,100 +1,93 @@
 -- `exact::overflows` meets its contract.
-use mathlib.Core.Path.{sym, ap, _∙_}
-use Prim.Native.Nat.{ℕ}
+use mathlib.Core.Path.{_≡_, sym, ap, _∙_}
+use mathlib.Core.Bool.{true}
+use Prim.Native.Nat.{ℕ, _+_, _-_, _≤_}
 use native.Mathlib.Omega.{arith}
-use Rattle.format.specs.Joined.{formatOf}
-use Rattle.totals_spec.specs.Format.{kindOf}
+use borrow.Author.Needs.{needs}
+use Rattle.totals_spec.specs.Format.{Format, digits, kindOf, emaxAt}
 use Rattle.totals_spec.specs.Round.{isNoInf}
+use Rattle.format.specs.Joined.{formatOf}
 use Rattle.exact.proofs.Rules.{noinf-other}
 use Rattle.exact.proofs.Beyond.{over-above, over-kind, over-digits, over-lower, over-at}
-use borrow.Author.Needs.{needs}
 use Rattle.exact.proofs.overflows.Statement.{statement}
 use Rattle.exact.proofs.overflows.Tie as tie
 
-sub-top : tie.Need-sub-top
-sub-top c = search needs
+-- at the entry: the call in the definitions' words
+abbrev form : tie.Start → Format
+form s = formatOf (s .args .f)
 
-add-top : tie.Need-add-top
-add-top c = search needs
+some : (s : tie.Start) → 1 ≤ digits (form s)
+some s = omega (arith, s .pre .0 .0 .w-ge)
 
-emax-requires : tie.Need-emax-requires
-emax-requires c κs = search needs
+-- where the highest bit is not above emax
+abbrev entry : tie.Else1 → tie.Start
+entry t = t .before .before
+
+within : (t : tie.Else1) → let s = entry t in s .args .lowest + (s .args .q - 1) ≤ emaxAt (form s) (s .args .g)
+within t = omega (arith, t .if1 .left, t .before .emax .ensures)
+
+-- where the kind is NoInf
+abbrev inside : tie.Else2 → tie.Else1
+inside t = t .before .before
+
+no-inf : (t : tie.Else2) → isNoInf (kindOf (form (entry (inside t)) .kind)) ≡ true
+no-inf t = ap (λ (k : ℕ). isNoInf (kindOf k)) (t .if2 .left)
+
+-- where q is the number of digits
+abbrev kind : tie.Else3 → tie.Else2
+kind t = t .before .before
+
+full : (t : tie.Else3) → let s = entry (inside (kind t)) in s .args .q ≡ digits (form s)
+full t = t .if3 .left ∙ t .before .digits .ensures
 
 returns : tie.Need-returns
 returns c =
     let s = c .before .before in
-    let emax = c .before .emax in
-    let if1 = c .if1 in
-    sym (over-above (formatOf (s .args .f)) (s .args .q) (s .args .g) (s .args .kept) (s .args .lowest)
-    (s .pre .1 .0) (omega (arith, s .pre .0 .0 .w-ge)) (s .pre .1 .2)
-    (omega (arith, if1 .taken, emax .ensures)))
+    sym (over-above (form s) (s .args .q) (s .args .g) (s .args .kept) (s .args .lowest) (s .pre .1 .0) (some s) (s .pre .1 .2)
+    (omega (arith, c .if1 .taken, c .before .emax .ensures)))
 
 returns-2 : tie.Need-returns-2
 returns-2 c =
-    let s = c .before .before .before .before in
-    let emax = c .before .before .before .emax in
-    let if1 = c .before .before .if1 in
-    let if2 = c .if2 in
-    sym (over-kind (formatOf (s .args .f)) (s .args .q) (s .args .g) (s .args .kept) (s .args .lowest)
-    (s .pre .1 .0) (omega (arith, s .pre .0 .0 .w-ge)) (s .pre .1 .2)
-    (omega (arith, if1 .left, emax .ensures)) (noinf-other _ (if2 .taken)))
-
-digits-requires : tie.Need-digits-requires
-digits-requires c κs = search needs
+    let t = c .before .before in
+    let s = entry t in
+    sym (over-kind (form s) (s .args .q) (s .args .g) (s .args .kept) (s .args .lowest) (s .pre .1 .0) (some s) (s .pre .1 .2)
+    (within t) (noinf-other _ (c .if2 .taken)))
 
 returns-3 : tie.Need-returns-3
 returns-3 c =
-    let s = c .before .before .before .before .before .before in
-    let emax = c .before .before .before .before .before .emax in
-    let if1 = c .before .before .before .before .if1 in
-    let if2 = c .before .before .if2 in
-    let digits = c .before .digits in
-    let if3 = c .if3 in
-    sym (over-digits (formatOf (s .args .f)) (s .args .q) (s .args .g) (s .args .kept) (s .args .lowest)
-    (s .pre .1 .0) (omega (arith, s .pre .0 .0 .w-ge)) (s .pre .1 .2)
-    (omega (arith, if1 .left, emax .ensures)) (ap (λ (k : ℕ). isNoInf (kindOf k)) (if2 .left)) (λ e. if3 .taken (e ∙ sym (digits .ensures))))
+    let t = c .before .before in
+    let s = entry (inside t) in
+    sym (over-digits (form s) (s .args .q) (s .args .g) (s .args .kept) (s .args .lowest) (s .pre .1 .0) (some s) (s .pre .1 .2)
+    (within (inside t)) (no-inf t) (λ e. c .if3 .taken (e ∙ sym (c .before .digits .ensures))))
 
 returns-4 : tie.Need-returns-4
 returns-4 c =
-    let s = c .before .before .before .before .before .before .before in
-    let emax = c .before .before .before .before .before .before .emax in
-    let if1 = c .before .before .before .before .before .if1 in
-    let if2 = c .before .before .before .if2 in
-    let digits = c .before .before .digits in
-    let if3 = c .before .if3 in
-    let if4 = c .if4 in
-    sym (over-lower (formatOf (s .args .f)) (s .args .q) (s .args .g) (s .args .kept) (s .args .lowest)
-    (s .pre .1 .0) (omega (arith, s .pre .0 .0 .w-ge)) (s .pre .1 .2)
-    (omega (arith, if1 .left, if4 .taken, emax .ensures)) (ap (λ (k : ℕ). isNoInf (kindOf k)) (if2 .left)) (if3 .left ∙ digits .ensures))
-
-ones-requires : tie.Need-ones-requires
-ones-requires c κs = search needs
+    let t = c .before in
+    let i = inside (kind t) in
+    let s = entry i in
+    sym (over-lower (form s) (s .args .q) (s .args .g) (s .args .kept) (s .args .lowest) (s .pre .1 .0) (some s) (s .pre .1 .2)
+    (omega (arith, i .if1 .left, c .if4 .taken, i .before .emax .ensures)) (no-inf (kind t)) (full t))
 
 returns-5 : tie.Need-returns-5
 returns-5 c =
-    let s = c .before .before .before .before .before .before .before .before in
-    let emax = c .before .before .before .before .before .before .before .emax in
-    let if2 = c .before .before .before .before .if2 in
-    let digits = c .before .before .before .digits in
-    let if3 = c .before .before .if3 in
-    let if4 = c .before .if4 in
-    let ones = c .ones in
-    rw (ones .ensures)
-    (over-at (formatOf (s .args .f)) (s .args .q) (s .args .g) (s .args .kept) (s .args .lowest)
-    (s .pre .1 .0) (omega (arith, s .pre .0 .0 .w-ge)) (s .pre .1 .2)
-    (omega (arith, if4 .left, emax .ensures)) (ap (λ (k : ℕ). isNoInf (kindOf k)) (if2 .left)) (if3 .left ∙ digits .ensures))
+    let t = c .before .before in
+    let i = inside (kind t) in
+    let s = entry i in
+    rw (c .ones .ensures)
+    (over-at (form s) (s .args .q) (s .args .g) (s .args .kept) (s .args .lowest) (s .pre .1 .0) (some s) (s .pre .1 .2)
+    (omega (arith, c .before .if4 .left, i .before .emax .ensures)) (no-inf (kind t)) (full t))
 
 pub overflows-spec : {M : Type 1} → statement M
 overflows-spec =
     tie.close
     (tie.spec
-    sub-top
-    add-top
-    emax-requires
+    (λ c. search needs)
+    (λ c. search needs)
+    (λ c κs. search needs)
     returns
     returns-2
-    digits-requires
+    (λ c κs. search needs)
     returns-3
     returns-4
-    ones-requires
+    (λ c κs. search needs)
     returns-5)

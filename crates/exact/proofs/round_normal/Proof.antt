@@ -1,91 +1,66 @@
 -- `exact::round_normal` meets its contract.
 use mathlib.Core.Path.{sym, _∙_}
 use native.Mathlib.Omega.{arith}
-use Rattle.exact.proofs.Plan.{goes-over, stays, stays-encodes, stays-word}
 use borrow.Author.Needs.{needs}
+use Rattle.exact.proofs.Plan.{goes-over, stays, stays-encodes, stays-word}
 use Rattle.exact.proofs.round_normal.Statement.{statement}
 use Rattle.exact.proofs.round_normal.Tie as tie
 
-digits-requires : tie.Need-digits-requires
-digits-requires c κs = search needs
+-- once it is known whether the digits overflow, and where they do not
+abbrev entry : tie.After-overflows → tie.Start
+entry t = t .before .before
 
-overflows-requires : tie.Need-overflows-requires
-overflows-requires c κs = search needs
-
-overflow-requires : tie.Need-overflow-requires
-overflow-requires c κs = search needs
+abbrev tested : tie.After-struct-known → tie.After-overflows
+tested t = t .before .before
 
 returns : tie.Need-returns
 returns c =
-    let s = c .before .before .before .before in
-    let overflows = c .before .before .overflows in
-    let if1 = c .before .if1 in
-    let overflow = c .overflow in
+    let t = c .before .before in
+    let s = entry t in
     let b = s .pre .0 in
-    let over = goes-over (b .ends) (b .keeps) (b .first) (s .pre .1) (sym (overflows .ensures) ∙ if1 .taken) in
-    record { equal = λ x st. overflow .ensures .0 ∙ over x st; encodes = overflow .ensures .1; flags = overflow .ensures .2 }
-
-add-t9 : tie.Need-add-t9
-add-t9 c = search needs
-
-add-t10 : tie.Need-add-t10
-add-t10 c = search needs
-
-sub-t11 : tie.Need-sub-t11
-sub-t11 c = search needs
-
-sub-scaled : tie.Need-sub-scaled
-sub-scaled c = search needs
+    let r = c .overflow .ensures in
+    let over = goes-over (b .ends) (b .keeps) (b .first) (s .pre .1) (sym (t .overflows .ensures) ∙ c .before .if1 .taken) in
+    record { equal = λ x st. r .0 ∙ over x st; encodes = r .1; flags = r .2 }
 
 scaled-requires : tie.Need-scaled-requires
 scaled-requires c κs =
-    let s = c .before .before .before .before in
-    let digits = c .before .before .before .digits in
+    let s = entry (tested c) in
     let b = s .pre .0 in
-    rw (digits .ensures) (stays-word (b .ends) (b .keeps) (b .first) (s .pre .1))
-
-flag-requires : tie.Need-flag-requires
-flag-requires c κs = search needs
-
-flag-requires-2 : tie.Need-flag-requires-2
-flag-requires-2 c κs = search needs
-
-add-t17 : tie.Need-add-t17
-add-t17 c = search needs
+    rw (tested c .before .digits .ensures) (stays-word (b .ends) (b .keeps) (b .first) (s .pre .1))
 
 returns-2 : tie.Need-returns-2
 returns-2 c =
-    let s = c .before .before .before .before .before .before .before in
-    let digits = c .before .before .before .before .before .before .digits in
-    let overflows = c .before .before .before .before .before .overflows in
-    let if1 = c .before .before .before .before .if1 in
-    let scaled = c .before .before .scaled in
-    let flag = c .before .flag in
-    let flag2 = c .flag2 in
-    let o = sym (overflows .ensures) ∙ if1 .left in
+    let k = c .before .before .before in
+    let t = tested k in
+    let s = entry t in
     let b = s .pre .0 in
+    let o = sym (t .overflows .ensures) ∙ k .before .if1 .left in
     let same = stays (b .ends) (b .keeps) (b .first) (s .pre .1) o in
     let can = stays-encodes (b .ends) (b .keeps) (b .first) (s .pre .1) o in
+    let number = c .before .before .scaled .ensures in
+    let lost = c .before .flag .ensures in
+    let up = c .flag2 .ensures in
+    let p = t .before .digits .ensures in
     record {
-      equal = λ x st. rw (flag .ensures .0, flag2 .ensures .0, scaled .ensures, digits .ensures) (same x st);
-      encodes = rw (scaled .ensures, digits .ensures) can;
-      flags = omega (arith, flag .ensures .1, flag2 .ensures .1);
+      equal = λ x st. rw (lost .0, up .0, number, p) (same x st);
+      encodes = rw (number, p) can;
+      flags = omega (arith, lost .1, up .1);
     }
 
 pub round-normal-spec : {M : Type 1} → statement M
 round-normal-spec =
     tie.close
     (tie.spec
-    digits-requires
-    overflows-requires
-    overflow-requires
+    (λ c κs. search needs)
+    (λ c κs. search needs)
+    (λ c κs. search needs)
     returns
-    add-t9
-    add-t10
-    sub-t11
-    sub-scaled
+    (λ c. search needs)
+    (λ c. search needs)
+    (λ c. search needs)
+    (λ c. search needs)
     scaled-requires
-    flag-requires
-    flag-requires-2
-    add-t17
+    (λ c κs. search needs)
+    (λ c κs. search needs)
+    (λ c. search needs)
     returns-2)

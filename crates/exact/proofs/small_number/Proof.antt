@@ -7,11 +7,8 @@ use Rattle.exact.proofs.small_number.Tie as tie
 returns : tie.Need-returns
 returns c = rw (eq-eqb _ _ (c .if1 .taken))
 
-scaled-requires : tie.Need-scaled-requires
-scaled-requires c κs = search needs
-
 returns-2 : tie.Need-returns-2
 returns-2 c = rw (ne-eqb _ _ (c .before .if1 .left), c .scaled .ensures)
 
 pub small-number-spec : {M : Type 1} → statement M
-small-number-spec = tie.close (tie.spec returns scaled-requires returns-2)
+small-number-spec = tie.close (tie.spec returns (λ c κs. search needs) returns-2)

@@ -4,25 +4,13 @@ use Rattle.exact.proofs.rounding.Underflow.new.Statement.{statement}
 use Rattle.exact.proofs.rounding.Underflow.new.Tie as tie
 
 returns : tie.Need-returns
-returns c =
-    let s = c .before .before in
-    let if1 = c .before .if1 in
-    let if2 = c .if2 in
-    rw (if1 .taken, set-on (s .args .flush-to-zero) (if2 .taken))
+returns c = let t = c .before in rw (t .if1 .taken, set-on (t .before .args .flush-to-zero) (c .if2 .taken))
 
 returns-2 : tie.Need-returns-2
-returns-2 c =
-    let if1 = c .before .before .if1 in
-    let if2 = c .before .if2 in
-    let if3 = c .if3 in
-    rw (if1 .taken, if2 .left, if3 .taken)
+returns-2 c = let t = c .before in rw (t .before .if1 .taken, t .if2 .left, c .if3 .taken)
 
 returns-3 : tie.Need-returns-3
-returns-3 c =
-    let if1 = c .before .before .if1 in
-    let if2 = c .before .if2 in
-    let if3 = c .if3 in
-    rw (if1 .taken, if2 .left, if3 .left)
+returns-3 c = let t = c .before in rw (t .before .if1 .taken, t .if2 .left, c .if3 .left)
 
 returns-4 : tie.Need-returns-4
 returns-4 c = rw (c .before .if1 .left, c .if4 .taken)
