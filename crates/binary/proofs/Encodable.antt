@@ -39,7 +39,8 @@ module _ (f : Format) where
         encodes-cond (topField f x)
         (cond (eqb m 0) (infinity s) (nan s (ltb m (2 ^ (fractionBits f - 1))) (m % 2 ^ (fractionBits f - 1))))
         (number (fractionBits f) s x m)
-        (encodes-cond (eqb m 0) (infinity s) (nan s (ltb m (2 ^ (fractionBits f - 1))) (m % 2 ^ (fractionBits f - 1))) tt (mod-lt m (pow-pos (fractionBits f - 1))))
+        (encodes-cond (eqb m 0) (infinity s) (nan s (ltb m (2 ^ (fractionBits f - 1))) (m % 2 ^ (fractionBits f - 1))) tt
+        (mod-lt m (pow-pos (fractionBits f - 1))))
         (encodes-number s x m hx hm)
     encodes-fields noInf s x m hx hm =
         encodes-cond (topField f x && ones f m) (nan s false 0) (number (fractionBits f) s x m) (pow-pos (fractionBits f - 1)) (encodes-number s x m hx hm)

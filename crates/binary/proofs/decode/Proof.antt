@@ -1,129 +1,87 @@
 -- `binary::decode` meets its contract.
-use mathlib.Core.Path.{sym, _∙_}
+use mathlib.Core.Path.{_≡_, sym, _∙_}
 use native.Mathlib.Omega.{arith}
+use borrow.Author.Needs.{needs}
+use Rattle.totals_spec.specs.Format.{Format, kindOf}
+use Rattle.totals_spec.specs.Decode.{Unpacked, decode, decodeFields}
 use Rattle.format.specs.Joined.{formatOf}
 use Rattle.binary.proofs.Cases.{decode-at-top, decode-below-top, decode-nan, decode-number}
-use Rattle.totals_spec.specs.Decode.{decode}
-use borrow.Author.Needs.{needs}
 use Rattle.binary.proofs.decode.Statement.{statement}
 use Rattle.binary.proofs.decode.Tie as tie
 
-sign-of-requires : tie.Need-sign-of-requires
-sign-of-requires c κs = search needs
+-- at the entry: the call in the definitions' words
+abbrev form : tie.Start → Format
+form s = formatOf (s .args .f)
 
-field-of-requires : tie.Need-field-of-requires
-field-of-requires c κs = search needs
+-- once the fields are taken apart
+abbrev entry : tie.After-fraction-of → tie.Start
+entry t = t .before .before .before
 
-fraction-of-requires : tie.Need-fraction-of-requires
-fraction-of-requires c κs = search needs
+by-fields : (t : tie.After-fraction-of) (v : Unpacked) → let s = entry t in
+    v ≡ decodeFields (kindOf (form s .kind)) (form s) (t .before .before .sign-of .result) (t .before .field-of .result) (t .fraction-of .result)
+    → v ≡ decode (form s) (s .args .b)
+unfolding decode
+by-fields t v e = cc (e, t .before .before .sign-of .ensures, t .before .field-of .ensures, t .fraction-of .ensures .0)
 
-field-max-requires : tie.Need-field-max-requires
-field-max-requires c κs = search needs
+-- in Ieee, and in the other kinds
+abbrev ieee : tie.After-field-max → tie.After-fraction-of
+ieee t = t .before .before .before
 
-fraction-bits-requires : tie.Need-fraction-bits-requires
-fraction-bits-requires c κs = search needs
-
-decode-top-requires : tie.Need-decode-top-requires
-decode-top-requires c κs = search needs
+abbrev other : tie.After-is-nan-pattern → tie.After-fraction-of
+other t = t .before .before .before
 
 returns : tie.Need-returns
-unfolding decode
 returns c =
-    let s = c .before .before .before .before .before .before .before .before .before in
-    let sign-of = c .before .before .before .before .before .before .before .before .sign-of in
-    let field-of = c .before .before .before .before .before .before .before .field-of in
-    let fraction-of = c .before .before .before .before .before .before .fraction-of in
-    let if1 = c .before .before .before .before .if1 in
-    let field-max = c .before .before .before .field-max in
-    let if2 = c .before .before .if2 in
-    let fraction-bits = c .before .fraction-bits in
-    let decode-top = c .decode-top in
-    rw (← sign-of .ensures, ← field-of .ensures, ← fraction-of .ensures .0)
-    (rw (fraction-bits .ensures) at (decode-top .ensures)
-    ∙ decode-at-top (s .args .f .kind) (formatOf (s .args .f)) _ _ _ (if1 .taken) (if2 .taken ∙ field-max .ensures .0))
-
-fraction-bits-requires-2 : tie.Need-fraction-bits-requires-2
-fraction-bits-requires-2 c κs = search needs
+    let m = c .before .before .before in
+    let s = entry (ieee m) in
+    by-fields (ieee m) _
+    (rw (c .before .fraction-bits .ensures) at (c .decode-top .ensures)
+    ∙ decode-at-top _ (form s) _ _ _ (m .before .if1 .taken) (c .before .before .if2 .taken ∙ m .field-max .ensures .0))
 
 decode-finite-requires : tie.Need-decode-finite-requires
-decode-finite-requires c κs =
-    let fraction-of = c .before .before .before .before .before .fraction-of in
-    let fraction-bits2 = c .fraction-bits2 in
-    (omega arith, rw (fraction-bits2 .ensures) (fraction-of .ensures .1))
+decode-finite-requires c κs = (omega arith, rw (c .fraction-bits2 .ensures) (ieee (c .before .before) .fraction-of .ensures .1))
 
 returns-2 : tie.Need-returns-2
-unfolding decode
 returns-2 c =
-    let s = c .before .before .before .before .before .before .before .before .before in
-    let sign-of = c .before .before .before .before .before .before .before .before .sign-of in
-    let field-of = c .before .before .before .before .before .before .before .field-of in
-    let fraction-of = c .before .before .before .before .before .before .fraction-of in
-    let if1 = c .before .before .before .before .if1 in
-    let field-max = c .before .before .before .field-max in
-    let if2 = c .before .before .if2 in
-    let fraction-bits2 = c .before .fraction-bits2 in
-    let decode-finite = c .decode-finite in
-    rw (← sign-of .ensures, ← field-of .ensures, ← fraction-of .ensures .0)
-    (rw (fraction-bits2 .ensures) at (decode-finite .ensures)
-    ∙ decode-below-top (s .args .f .kind) (formatOf (s .args .f)) _ _ _ (if1 .taken) (λ e. if2 .left (e ∙ sym (field-max .ensures .0))))
-
-is-nan-pattern-requires : tie.Need-is-nan-pattern-requires
-is-nan-pattern-requires c κs = search needs
+    let m = c .before .before .before in
+    let s = entry (ieee m) in
+    by-fields (ieee m) _
+    (rw (c .before .fraction-bits2 .ensures) at (c .decode-finite .ensures)
+    ∙ decode-below-top _ (form s) _ _ _ (m .before .if1 .taken) (λ e. c .before .before .if2 .left (e ∙ sym (m .field-max .ensures .0))))
 
 returns-3 : tie.Need-returns-3
-unfolding decode
 returns-3 c =
-    let s = c .before .before .before .before .before .before .before in
-    let sign-of = c .before .before .before .before .before .before .sign-of in
-    let field-of = c .before .before .before .before .before .field-of in
-    let fraction-of = c .before .before .before .before .fraction-of in
-    let if1 = c .before .before .if1 in
-    let is-nan-pattern = c .before .is-nan-pattern in
-    let if3 = c .if3 in
-    rw (← sign-of .ensures, ← field-of .ensures, ← fraction-of .ensures .0)
-    (decode-nan (s .args .f .kind) (formatOf (s .args .f)) _ _ _ (if1 .left) (sym (is-nan-pattern .ensures) ∙ if3 .taken))
-
-fraction-bits-requires-3 : tie.Need-fraction-bits-requires-3
-fraction-bits-requires-3 c κs = search needs
+    let n = c .before in
+    let s = entry (other n) in
+    by-fields (other n) _ (decode-nan _ (form s) _ _ _ (n .before .if1 .left) (sym (n .is-nan-pattern .ensures) ∙ c .if3 .taken))
 
 decode-finite-requires-2 : tie.Need-decode-finite-requires-2
-decode-finite-requires-2 c κs =
-    let fraction-of = c .before .before .before .before .before .fraction-of in
-    let fraction-bits3 = c .fraction-bits3 in
-    (omega arith, rw (fraction-bits3 .ensures) (fraction-of .ensures .1))
+decode-finite-requires-2 c κs = (omega arith, rw (c .fraction-bits3 .ensures) (other (c .before .before) .fraction-of .ensures .1))
 
 returns-4 : tie.Need-returns-4
-unfolding decode
 returns-4 c =
-    let s = c .before .before .before .before .before .before .before .before .before in
-    let sign-of = c .before .before .before .before .before .before .before .before .sign-of in
-    let field-of = c .before .before .before .before .before .before .before .field-of in
-    let fraction-of = c .before .before .before .before .before .before .fraction-of in
-    let if1 = c .before .before .before .before .if1 in
-    let is-nan-pattern = c .before .before .before .is-nan-pattern in
-    let if3 = c .before .before .if3 in
-    let fraction-bits3 = c .before .fraction-bits3 in
-    let decode-finite2 = c .decode-finite2 in
-    rw (← sign-of .ensures, ← field-of .ensures, ← fraction-of .ensures .0)
-    (rw (fraction-bits3 .ensures) at (decode-finite2 .ensures)
-    ∙ decode-number (s .args .f .kind) (formatOf (s .args .f)) _ _ _ (if1 .left) (sym (is-nan-pattern .ensures) ∙ if3 .left))
+    let n = c .before .before .before in
+    let s = entry (other n) in
+    by-fields (other n) _
+    (rw (c .before .fraction-bits3 .ensures) at (c .decode-finite2 .ensures)
+    ∙ decode-number _ (form s) _ _ _ (n .before .if1 .left) (sym (n .is-nan-pattern .ensures) ∙ c .before .before .if3 .left))
 
 pub decode-spec : {M : Type 1} → statement M
 decode-spec =
     tie.close
     (tie.spec
-    sign-of-requires
-    field-of-requires
-    fraction-of-requires
-    field-max-requires
-    fraction-bits-requires
-    decode-top-requires
+    (λ c κs. search needs)
+    (λ c κs. search needs)
+    (λ c κs. search needs)
+    (λ c κs. search needs)
+    (λ c κs. search needs)
+    (λ c κs. search needs)
     returns
-    fraction-bits-requires-2
+    (λ c κs. search needs)
     decode-finite-requires
     returns-2
-    is-nan-pattern-requires
+    (λ c κs. search needs)
     returns-3
-    fraction-bits-requires-3
+    (λ c κs. search needs)
     decode-finite-requires-2
     returns-4)

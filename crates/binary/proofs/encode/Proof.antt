@@ -1,42 +1,18 @@
 -- `binary::encode` meets its contract.
 use lib.Pow.{pow-pos}
-use Rattle.totals_spec.specs.Encode.{encode}
 use borrow.Author.Needs.{needs}
+use Rattle.totals_spec.specs.Encode.{encode}
 use Rattle.binary.proofs.encode.Statement.{statement}
 use Rattle.binary.proofs.encode.Tie as tie
 
-enum-known-v : tie.Need-enum-known-v
-enum-known-v c = search needs
-
-encode-zero-requires : tie.Need-encode-zero-requires
-encode-zero-requires c κs = search needs
-
-enum-known-v-2 : tie.Need-enum-known-v-2
-enum-known-v-2 c = search needs
-
 encode-finite-requires : tie.Need-encode-finite-requires
-encode-finite-requires c κs =
-    let s = c .before .before .before in
-    let v2 = c .before .v2 in
-    (s .pre .0, rw (v2 .given .1) at (s .pre .1))
-
-enum-known-v-3 : tie.Need-enum-known-v-3
-enum-known-v-3 c = search needs
-
-field-max-requires : tie.Need-field-max-requires
-field-max-requires c κs = search needs
+encode-finite-requires c κs = let v = c .before in let s = v .before .before in (s .pre .0, rw (v .v2 .given .1) at (s .pre .1))
 
 assemble-requires : tie.Need-assemble-requires
-assemble-requires c κs = (c .before .before .before .before .pre .0, (c .field-max .ensures .1, pow-pos _))
-
-enum-known-v-4 : tie.Need-enum-known-v-4
-enum-known-v-4 c = search needs
+assemble-requires c κs = (search needs, (c .field-max .ensures .1, pow-pos _))
 
 encode-nan-requires : tie.Need-encode-nan-requires
-encode-nan-requires c κs =
-    let s = c .before .before .before in
-    let v4 = c .before .v4 in
-    (s .pre .0, rw (v4 .given .1) at (s .pre .1))
+encode-nan-requires c κs = let v = c .before in let s = v .before .before in (s .pre .0, rw (v .v4 .given .1) at (s .pre .1))
 
 returns : tie.Need-returns
 unfolding encode
@@ -48,11 +24,7 @@ returns-2 c = rw (c .before .before .v2 .given .1) (c .encode-finite .ensures)
 
 returns-3 : tie.Need-returns-3
 unfolding encode
-returns-3 c =
-    let v3 = c .before .before .before .v3 in
-    let field-max = c .before .field-max in
-    let assemble = c .assemble in
-    rw (v3 .given .1) (rw (field-max .ensures .0) at (assemble .ensures))
+returns-3 c = let m = c .before in rw (m .before .before .v3 .given .1) (rw (m .field-max .ensures .0) at (c .assemble .ensures))
 
 returns-4 : tie.Need-returns-4
 unfolding encode
@@ -62,14 +34,14 @@ pub encode-spec : {M : Type 1} → statement M
 encode-spec =
     tie.close
     (tie.spec
-    enum-known-v
-    encode-zero-requires
-    enum-known-v-2
+    (λ c. search needs)
+    (λ c κs. search needs)
+    (λ c. search needs)
     encode-finite-requires
-    enum-known-v-3
-    field-max-requires
+    (λ c. search needs)
+    (λ c κs. search needs)
     assemble-requires
-    enum-known-v-4
+    (λ c. search needs)
     encode-nan-requires
     returns
     returns-2

@@ -11,16 +11,14 @@ assemble-requires c κs = (c .before .before .pre, (pow-pos _, pow-pos _))
 
 returns : tie.Need-returns
 returns c =
-    let s = c .before .before .before in
-    let if1 = c .before .if1 in
-    let assemble = c .assemble in
-    assemble .ensures ∙ zero-other (s .args .f .kind) (formatOf (s .args .f)) (s .args .negative) (if1 .taken)
+    let k = c .before in
+    let a = k .before .before .args in
+    c .assemble .ensures ∙ zero-other (a .f .kind) (formatOf (a .f)) (a .negative) (k .if1 .taken)
 
 returns-2 : tie.Need-returns-2
 returns-2 c =
-    let s = c .before .before in
-    let if1 = c .if1 in
-    zero-fnuz (s .args .f .kind) (formatOf (s .args .f)) (s .args .negative) (if1 .left)
+    let a = c .before .before .args in
+    zero-fnuz (a .f .kind) (formatOf (a .f)) (a .negative) (c .if1 .left)
 
 pub encode-zero-spec : {M : Type 1} → statement M
 encode-zero-spec = tie.close (tie.spec assemble-requires returns returns-2)

@@ -7,12 +7,6 @@ use borrow.Author.Needs.{needs}
 use Rattle.binary.proofs.fraction_of.Statement.{statement}
 use Rattle.binary.proofs.fraction_of.Tie as tie
 
-fraction-bits-requires : tie.Need-fraction-bits-requires
-fraction-bits-requires c κs = search needs
-
-low-bits-requires : tie.Need-low-bits-requires
-low-bits-requires c κs = search needs
-
 returns : tie.Need-returns
 returns c =
     let s = c .before .before in
@@ -22,4 +16,4 @@ returns c =
     (e, rw e (mod-lt (s .args .b) (pow-pos (fractionBits (formatOf (s .args .f))))))
 
 pub fraction-of-spec : {M : Type 1} → statement M
-fraction-of-spec = tie.close (tie.spec fraction-bits-requires low-bits-requires returns)
+fraction-of-spec = tie.close (tie.spec (λ c κs. search needs) (λ c κs. search needs) returns)

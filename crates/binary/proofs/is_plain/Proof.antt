@@ -10,15 +10,6 @@ use Rattle.binary.proofs.Cases.{one-test}
 use Rattle.binary.proofs.is_plain.Statement.{statement}
 use Rattle.binary.proofs.is_plain.Tie as tie
 
-field-of-requires : tie.Need-field-of-requires
-field-of-requires c κs = search needs
-
-wrapping-sub-u64-requires : tie.Need-wrapping-sub-u64-requires
-wrapping-sub-u64-requires c κs = search needs
-
-field-max-requires : tie.Need-field-max-requires
-field-max-requires c κs = search needs
-
 sub-result : tie.Need-sub-result
 sub-result c =
     let s = c .before .before .before in
@@ -35,4 +26,9 @@ returns c =
 pub is-plain-spec : {M : Type 1} → statement M
 is-plain-spec =
     tie.close
-    (tie.spec field-of-requires wrapping-sub-u64-requires field-max-requires sub-result returns)
+    (tie.spec
+    (λ c κs. search needs)
+    (λ c κs. search needs)
+    (λ c κs. search needs)
+    sub-result
+    returns)

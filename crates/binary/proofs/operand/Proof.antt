@@ -1,69 +1,68 @@
 -- `binary::operand` meets its contract.
 use mathlib.Core.Path.{_≡_, sym, ap, _∙_}
+use borrow.Author.Needs.{needs}
+use Rattle.totals_spec.specs.Format.{Format}
 use Rattle.totals_spec.specs.Decode.{decode, operand, isSubnormal, signBit, zeroOf}
 use Rattle.format.specs.Joined.{formatOf}
 use Rattle.binary.proofs.Cases.{operand-other, operand-kept, operand-zero}
-use borrow.Author.Needs.{needs}
 use Rattle.binary.proofs.operand.Statement.{statement}
 use Rattle.binary.proofs.operand.Tie as tie
 
-decode-requires : tie.Need-decode-requires
-decode-requires c κs = search needs
+-- at the entry: the call in the definitions' words
+abbrev form : tie.Start → Format
+form s = formatOf (s .args .f)
 
-is-subnormal-requires : tie.Need-is-subnormal-requires
-is-subnormal-requires c κs = search needs
+-- once the encoding is decoded
+abbrev entry : tie.After-is-subnormal → tie.Start
+entry t = t .before .before
+
+subnormal-is : (t : tie.After-is-subnormal) → let s = entry t in t .is-subnormal .result ≡ isSubnormal (form s) (s .args .b)
+unfolding isSubnormal
+subnormal-is t = rw (t .before .decode .ensures) at (t .is-subnormal .ensures)
 
 returns : tie.Need-returns
-unfolding operand isSubnormal
+unfolding operand
 returns c =
-    let s = c .before .before .before .before in
-    let decode-at = c .before .before .before .decode in
-    let is-subnormal = c .before .before .is-subnormal in
-    let if1 = c .if1 in
-    let f = formatOf (s .args .f) in
-    let b = s .args .b in
-    let e : is-subnormal .result ≡ isSubnormal f b = rw (decode-at .ensures) at (is-subnormal .ensures) in (
-      decode-at .ensures ∙ operand-kept (s .args .c .«denormals_are_zero») (isSubnormal f b) (zeroOf (signBit f b)) (decode f b)
-          (if1 .taken),
-      e,
+    let t = c .before .before in
+    let s = entry t in
+    let b = s .args .b in (
+      t .before .decode .ensures
+          ∙ operand-kept _ (isSubnormal (form s) b) (zeroOf (signBit (form s) b)) (decode (form s) b) (c .if1 .taken),
+      subnormal-is t,
     )
 
-sign-of-requires : tie.Need-sign-of-requires
-sign-of-requires c κs = search needs
-
 returns-2 : tie.Need-returns-2
-unfolding operand isSubnormal
+unfolding operand
 returns-2 c =
-    let s = c .before .before .before .before .before .before in
-    let decode-at = c .before .before .before .before .before .decode in
-    let is-subnormal = c .before .before .before .before .is-subnormal in
-    let if1 = c .before .before .if1 in
-    let if2 = c .before .if2 in
-    let sign-of = c .sign-of in
-    let f = formatOf (s .args .f) in
+    let z = c .before .before in
+    let t = z .before .before in
+    let s = entry t in
     let b = s .args .b in
-    let e : is-subnormal .result ≡ isSubnormal f b = rw (decode-at .ensures) at (is-subnormal .ensures) in (
-      ap (λ b. zeroOf b) (sign-of .ensures) ∙ operand-zero (s .args .c .«denormals_are_zero») (isSubnormal f b) (zeroOf (signBit f b)) (decode f b)
-          (if1 .left) (sym e ∙ if2 .taken),
-      sym (if2 .taken) ∙ e,
+    let sub = c .before .if2 .taken in (
+      ap (λ b. zeroOf b) (c .sign-of .ensures)
+          ∙ operand-zero _ (isSubnormal (form s) b) (zeroOf (signBit (form s) b)) (decode (form s) b) (z .if1 .left) (sym (subnormal-is t) ∙ sub),
+      sym sub ∙ subnormal-is t,
     )
 
 returns-3 : tie.Need-returns-3
-unfolding operand isSubnormal
+unfolding operand
 returns-3 c =
-    let s = c .before .before .before .before .before in
-    let decode-at = c .before .before .before .before .decode in
-    let is-subnormal = c .before .before .before .is-subnormal in
-    let if2 = c .if2 in
-    let f = formatOf (s .args .f) in
+    let t = c .before .before .before in
+    let s = entry t in
     let b = s .args .b in
-    let e : is-subnormal .result ≡ isSubnormal f b = rw (decode-at .ensures) at (is-subnormal .ensures) in (
-      decode-at .ensures ∙ operand-other (s .args .c .«denormals_are_zero») (isSubnormal f b) (zeroOf (signBit f b)) (decode f b)
-          (sym e ∙ if2 .left),
-      sym (if2 .left) ∙ e,
+    let daz = s .args .c .«denormals_are_zero» in (
+      t .before .decode .ensures
+          ∙ operand-other daz (isSubnormal (form s) b) (zeroOf (signBit (form s) b)) (decode (form s) b) (sym (subnormal-is t) ∙ c .if2 .left),
+      sym (c .if2 .left) ∙ subnormal-is t,
     )
 
 pub operand-spec : {M : Type 1} → statement M
 operand-spec =
     tie.close
-    (tie.spec decode-requires is-subnormal-requires returns sign-of-requires returns-2 returns-3)
+    (tie.spec
+    (λ c κs. search needs)
+    (λ c κs. search needs)
+    returns
+    (λ c κs. search needs)
+    returns-2
+    returns-3)

@@ -11,17 +11,13 @@ returns-2 c = rw (le-ltb _ _ (c .before .before .before .if1 .left), ne-eqb _ _ 
 
 returns-3 : tie.Need-returns-3
 returns-3 c =
-    let if1 = c .before .before .before .before .if1 in
-    let if2 = c .before .if2 in
-    let if3 = c .if3 in
-    rw (le-ltb _ _ (if1 .left), eq-eqb _ _ (if2 .left), if3 .taken)
+    let e = c .before in
+    rw (le-ltb _ _ (e .before .before .before .if1 .left), eq-eqb _ _ (e .if2 .left), c .if3 .taken)
 
 returns-4 : tie.Need-returns-4
 returns-4 c =
-    let if1 = c .before .before .before .before .if1 in
-    let if2 = c .before .if2 in
-    let if3 = c .if3 in
-    rw (le-ltb _ _ (if1 .left), eq-eqb _ _ (if2 .left), if3 .left)
+    let e = c .before in
+    rw (le-ltb _ _ (e .before .before .before .if1 .left), eq-eqb _ _ (e .if2 .left), c .if3 .left)
 
 pub larger-spec : {M : Type 1} → statement M
 larger-spec = tie.close (tie.spec returns returns-2 returns-3 returns-4)
