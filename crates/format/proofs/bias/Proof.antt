@@ -6,28 +6,24 @@ use Rattle.format.proofs.Range.{bias-other, half-le}
 use Rattle.format.proofs.bias.Statement.{statement}
 use Rattle.format.proofs.bias.Tie as tie
 
-sub-power : tie.Need-sub-power
-sub-power c = search needs
-
-power-requires : tie.Need-power-requires
-power-requires c κs = search needs
-
 sub-result : tie.Need-sub-result
 sub-result c = omega (arith, c .before .before .power .ensures .1)
 
 returns : tie.Need-returns
 unfolding bias
 returns c =
-    let s = c .before .before .before .before in
-    let p = c .before .before .power .ensures .0 in
-    (rw (c .if1 .taken) p, half-le _ _ p (s .pre .e-le))
+    let p = c .before .before in
+    let e = p .power .ensures .0 in
+    (rw (c .if1 .taken) e, half-le _ _ e (p .before .before .pre .e-le))
 
 returns-2 : tie.Need-returns-2
 unfolding bias
 returns-2 c =
-    let s = c .before .before .before .before in
-    let p = c .before .before .power .ensures .0 in
-    (rw (bias-other (s .args .f .kind) (s .args .f .«exponent_bits») (c .if1 .left)) (omega arith), omega (arith, half-le _ _ p (s .pre .e-le)))
+    let p = c .before .before in
+    let s = p .before .before in (
+      rw (bias-other (s .args .f .kind) (s .args .f .«exponent_bits») (c .if1 .left)) (omega arith),
+      omega (arith, half-le _ _ (p .power .ensures .0) (s .pre .e-le)),
+    )
 
 pub bias-spec : {M : Type 1} → statement M
-bias-spec = tie.close (tie.spec sub-power power-requires sub-result returns returns-2)
+bias-spec = tie.close (tie.spec (λ c. search needs) (λ c κs. search needs) sub-result returns returns-2)

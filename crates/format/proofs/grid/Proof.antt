@@ -5,12 +5,6 @@ use Rattle.totals_spec.specs.Format.{grid}
 use Rattle.format.proofs.grid.Statement.{statement}
 use Rattle.format.proofs.grid.Tie as tie
 
-depth-requires : tie.Need-depth-requires
-depth-requires c κs = search needs
-
-add-result : tie.Need-add-result
-add-result c = search needs
-
 returns : tie.Need-returns
 unfolding grid
 returns c = (rw (c .before .if1 .taken) (omega arith), omega arith)
@@ -20,4 +14,4 @@ unfolding grid
 returns-2 c = (rw (c .if1 .left), omega arith)
 
 pub grid-spec : {M : Type 1} → statement M
-grid-spec = tie.close (tie.spec depth-requires add-result returns returns-2)
+grid-spec = tie.close (tie.spec (λ c κs. search needs) (λ c. search needs) returns returns-2)

@@ -7,9 +7,6 @@ use Rattle.format.proofs.Chosen.{chosen-some}
 use Rattle.format.proofs.env.precision_within.Statement.{statement}
 use Rattle.format.proofs.env.precision_within.Tie as tie
 
-digits-requires : tie.Need-digits-requires
-digits-requires c κs = search needs
-
 returns : tie.Need-returns
 unfolding precisionOf
 returns c = (rw (c .before .if1 .taken) (c .digits .ensures), omega arith, omega arith)
@@ -19,4 +16,4 @@ unfolding precisionOf
 returns-2 c = (sym (chosen-some _ _ (c .if1 .left)), search needs, search needs)
 
 pub precision-within-spec : {M : Type 1} → statement M
-precision-within-spec = tie.close (tie.spec digits-requires returns returns-2)
+precision-within-spec = tie.close (tie.spec (λ c κs. search needs) returns returns-2)

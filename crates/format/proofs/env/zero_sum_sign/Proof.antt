@@ -7,16 +7,13 @@ use Rattle.format.proofs.env.zero_sum_sign.Tie as tie
 returns : tie.Need-returns
 returns c = rw (not-true (c .before .args .negative) (c .if1 .taken))
 
-zero-sum-is-negative-requires : tie.Need-zero-sum-is-negative-requires
-zero-sum-is-negative-requires c κs = search needs
-
 returns-2 : tie.Need-returns-2
 returns-2 c =
-    rw (not-false (c .before .before .before .args .negative) (c .before .before .if1 .left), c .before .if2 .taken)
-    (c .zero-sum-is-negative .ensures)
+    let n = c .before .before in
+    rw (not-false (n .before .args .negative) (n .if1 .left), c .before .if2 .taken) (c .zero-sum-is-negative .ensures)
 
 returns-3 : tie.Need-returns-3
 returns-3 c = rw (not-false (c .before .before .args .negative) (c .before .if1 .left), c .if2 .left)
 
 pub zero-sum-sign-spec : {M : Type 1} → statement M
-zero-sum-sign-spec = tie.close (tie.spec returns zero-sum-is-negative-requires returns-2 returns-3)
+zero-sum-sign-spec = tie.close (tie.spec returns (λ c κs. search needs) returns-2 returns-3)
