@@ -27,14 +27,16 @@ pub after-figure : {t r : Text} (z : ℤ) (n : ℕ) → mag z < 2 ^ 63 → Puts 
 after-figure z n h p = omega (arith, p .longer, pence-length z n h)
 
 -- two lines of hex are 20 bytes, and with one in decimal they are at most 41
-pub two-lines : {e a b d r : Text} (x y : ℕ) → Holds e [] → Puts e (hexText 16 x) a → Puts a lineEnd b → Puts b (hexText 2 y) d → Puts d lineEnd r → r .length ≡ 20
+pub two-lines : {e a b d r : Text} (x y : ℕ) → Holds e [] → Puts e (hexText 16 x) a → Puts a lineEnd b → Puts b (hexText 2 y) d → Puts d lineEnd r
+    → r .length ≡ 20
 two-lines x y h p q u v = omega (arith, h .length-is, after-hex 16 x p, q .longer, after-hex 2 y u, v .longer)
 
 pub three-lines : {d e r : Text} (z : ℕ) → z < 2 ^ 64 → d .length ≡ 20 → Puts d (decimalText z) e → Puts e lineEnd r → r .length ≤ 41
 three-lines z h l p q = omega (arith, l, after-decimal z h p, q .longer)
 
 -- a figure that went through a call is read from its bits
-pub figure-read : {t r : Text} (z : ℤ) (n : ℕ) → mag z < 2 ^ 63 → Puts t (penceText (penceFrom (toZ w64 (ofZ w64 z)) n)) r → Puts t (penceText (penceFrom z n)) r
+pub figure-read : {t r : Text} (z : ℤ) (n : ℕ) → mag z < 2 ^ 63 → Puts t (penceText (penceFrom (toZ w64 (ofZ w64 z)) n)) r
+    → Puts t (penceText (penceFrom z n)) r
 figure-read z n h p = puts-same (ap (λ (y : ℤ). penceText (penceFrom y n)) (read z h)) p
 
 -- the four lines are the answer's text where the figure and the refusal are those of its result's pence

@@ -11,23 +11,17 @@ use Rattle.text.proofs.FourLines.{answer-is}
 use Rattle.text.proofs.sum_text.Statement.{statement}
 use Rattle.text.proofs.sum_text.Tie as tie
 
-sum-requires : tie.Need-sum-requires
-sum-requires c κs = search needs
-
-pence-of-requires : tie.Need-pence-of-requires
-pence-of-requires c κs = search needs
-
-answer-lines-requires : tie.Need-answer-lines-requires
-answer-lines-requires c κs = search needs
-
 returns : tie.Need-returns
 returns c =
-    let a = c .before .before .before .sum in
-    let p = c .before .before .pence-of in
+    let t = c .before .before in
+    let a = t .before .sum in
+    let p = t .pence-of in
     subst (λ (x : Answer). Holds (c .answer-lines .result) (answerText x)) (a .ensures)
     (subst (Holds (c .answer-lines .result))
-    (answer-is (answerOf (a .result)) _ _ (read (p .result .figure) (search needs) ∙ ap (λ (x : Pence). x .figure) (p .ensures)) (ap (λ (x : Pence). x .refusal) (p .ensures)))
+    (answer-is (answerOf (a .result)) _ _
+    (read (p .result .figure) (search needs) ∙ ap (λ (x : Pence). x .figure) (p .ensures)) (ap (λ (x : Pence). x .refusal) (p .ensures)))
     (c .answer-lines .ensures))
 
 pub sum-text-spec : {M : Type 1} → statement M
-sum-text-spec = tie.close (tie.spec sum-requires pence-of-requires answer-lines-requires returns)
+sum-text-spec =
+    tie.close (tie.spec (λ c κs. search needs) (λ c κs. search needs) (λ c κs. search needs) returns)

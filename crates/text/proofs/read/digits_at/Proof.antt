@@ -16,54 +16,57 @@ Inv-loop input at x₀ i₀ x i = (i ≤ 16) × SoFar input at i x
 abbrev μ-loop : tie.MeasureT-loop
 μ-loop input at x₀ i₀ x i = 16 - i
 
+-- at the loop's head, and in a turn, once the digit is known
+abbrev entry : tie.At-loop Inv-loop μ-loop → tie.Start Inv-loop μ-loop
+entry h = h .before .before
+
+abbrev turn : tie.After-digit Inv-loop μ-loop → tie.In-loop Inv-loop μ-loop
+turn t = t .before .before
+
+abbrev head : tie.After-digit Inv-loop μ-loop → tie.At-loop Inv-loop μ-loop
+head t = turn t .before
+
 loop-holds : tie.Need-loop-holds Inv-loop μ-loop
 loop-holds c = (search needs, so-far-start _ _)
 
-add-digit : tie.Need-add-digit Inv-loop μ-loop
-add-digit c = search needs
-
-shared-slice-read-digit : tie.Need-shared-slice-read-digit Inv-loop μ-loop
-shared-slice-read-digit c = search needs
-
-digit-requires : tie.Need-digit-requires Inv-loop μ-loop
-digit-requires c κs = search needs
-
 returns : tie.Need-returns Inv-loop μ-loop
 returns c =
-    let a = c .before .before .before .before .before .before .args in
-    let p = c .before .before .before .before .loop in
-    ap lineOf (sym (so-far-bad (a .input .now) (a .at) (p .i) (p .x) (omega arith) (omega arith) (p .inv .1) (sym (c .before .digit .ensures) ∙ c .if1 .taken)))
+    let t = c .before in
+    let h = head t in
+    let a = entry h .args in
+    let l = h .loop in
+    let bad = sym (t .digit .ensures) ∙ c .if1 .taken in
+    ap lineOf (sym (so-far-bad (a .input .now) (a .at) (l .i) (l .x) (omega arith) (omega arith) (l .inv .1) bad))
 
 mul-x : tie.Need-mul-x Inv-loop μ-loop
 mul-x c =
-    let p = c .before .before .before .before .loop in
-    omega (arith, room (p .i) (p .x) (c .before .before .before .loop-test .taken) (p .inv .1 .small))
+    let t = c .before in
+    let l = head t .loop in
+    omega (arith, room (l .i) (l .x) (turn t .loop-test .taken) (l .inv .1 .small))
 
 add-x : tie.Need-add-x Inv-loop μ-loop
 add-x c =
-    let a = c .before .before .before .before .before .before .args in
-    let p = c .before .before .before .before .loop in
-    let small = digit-small (getD (a .input .now) (a .at + p .i) 0) (c .before .digit .result) (c .before .digit .ensures) (c .if1 .left) in
-    omega (arith, room (p .i) (p .x) (c .before .before .before .loop-test .taken) (p .inv .1 .small), small)
-
-add-i : tie.Need-add-i Inv-loop μ-loop
-add-i c = search needs
-
-loop-less : tie.Need-loop-less Inv-loop μ-loop
-loop-less c = search needs
+    let t = c .before in
+    let h = head t in
+    let a = entry h .args in
+    let l = h .loop in
+    let small = digit-small (getD (a .input .now) (a .at + l .i) 0) (t .digit .result) (t .digit .ensures) (c .if1 .left) in
+    omega (arith, room (l .i) (l .x) (turn t .loop-test .taken) (l .inv .1 .small), small)
 
 loop-again : tie.Need-loop-again Inv-loop μ-loop
 loop-again c =
-    let a = c .before .before .before .before .before .before .args in
-    let p = c .before .before .before .before .loop in
+    let h = head (c .before) in
+    let a = entry h .args in
+    let l = h .loop in
     let d = c .before .digit in
-    (search needs, so-far-next (a .input .now) (a .at) (p .i) (p .x) (omega arith) (omega arith) (p .inv .1) (d .result) (d .ensures) (c .if1 .left))
+    (search needs, so-far-next (a .input .now) (a .at) (l .i) (l .x) (omega arith) (omega arith) (l .inv .1) (d .result) (d .ensures) (c .if1 .left))
 
 returns-2 : tie.Need-returns-2 Inv-loop μ-loop
 returns-2 c =
-    let a = c .before .before .before .args in
-    let p = c .before .loop in
-    ap lineOf (sym (so-far-end (a .input .now) (a .at) (p .i) (p .x) (omega arith) (p .inv .1)))
+    let h = c .before in
+    let a = entry h .args in
+    let l = h .loop in
+    ap lineOf (sym (so-far-end (a .input .now) (a .at) (l .i) (l .x) (omega arith) (l .inv .1)))
 
 pub digits-at-spec : {M : Type 1} → statement M
 digits-at-spec =
@@ -72,13 +75,13 @@ digits-at-spec =
     Inv-loop
     μ-loop
     loop-holds
-    add-digit
-    shared-slice-read-digit
-    digit-requires
+    (λ c. search needs)
+    (λ c. search needs)
+    (λ c κs. search needs)
     returns
     mul-x
     add-x
-    add-i
-    loop-less
+    (λ c. search needs)
+    (λ c. search needs)
     loop-again
     returns-2)

@@ -8,31 +8,26 @@ use Rattle.text.proofs.Places.{short-line, long-line, whole-line}
 use Rattle.text.proofs.read.line_at.Statement.{statement}
 use Rattle.text.proofs.read.line_at.Tie as tie
 
-sub-left : tie.Need-sub-left
-sub-left c = search needs
+-- once the input's bytes are known, and where more than 16 are left
+abbrev entry : tie.After-shared-slice-known → tie.Start
+entry t = t .before
+
+abbrev long : tie.After-shared-slice-known2 → tie.Else1
+long t = t .before .before
 
 returns : tie.Need-returns
 returns c =
-    let a = c .before .before .args in
+    let a = entry (c .before) .args in
     ap lineOf (sym (short-line (a .input .now) (a .at) (omega arith) (omega arith)))
-
-add-if3 : tie.Need-add-if3
-add-if3 c = search needs
-
-shared-slice-read-if3 : tie.Need-shared-slice-read-if3
-shared-slice-read-if3 c = search needs
 
 returns-2 : tie.Need-returns-2
 returns-2 c =
-    let a = c .before .before .before .before .before .args in
+    let a = entry (long (c .before) .before) .args in
     ap lineOf (sym (long-line (a .input .now) (a .at) (omega arith) (c .if3 .taken)))
-
-digits-at-requires : tie.Need-digits-at-requires
-digits-at-requires c κs = search needs
 
 returns-3 : tie.Need-returns-3
 returns-3 c =
-    let a = c .before .before .before .before .args in
+    let a = entry (c .before .before .before) .args in
     let ends = whole-line (a .input .now) (a .at) (omega arith) (λ h. ⊎-elim (λ w. w .2 .left) (λ w. omega arith) (c .before .if2 .came)) in
     c .digits-at .ensures ∙ ap lineOf (sym ends)
 
@@ -40,10 +35,10 @@ pub line-at-spec : {M : Type 1} → statement M
 line-at-spec =
     tie.close
     (tie.spec
-    sub-left
+    (λ c. search needs)
     returns
-    add-if3
-    shared-slice-read-if3
+    (λ c. search needs)
+    (λ c. search needs)
     returns-2
-    digits-at-requires
+    (λ c κs. search needs)
     returns-3)

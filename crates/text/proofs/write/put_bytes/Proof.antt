@@ -1,6 +1,7 @@
 -- `text::write::put_bytes` meets its contract.
 use mathlib.Core.Path.{_≡_}
-use Prim.Native.Nat.{_+_, _-_, _≤_}
+use mathlib.Core.List.{List}
+use Prim.Native.Nat.{ℕ, _+_, _-_, _≤_}
 use native.Mathlib.Omega.{arith}
 use lib.ListN.{length, take}
 use lib.Seq.{take-all}
@@ -16,33 +17,24 @@ Inv-loop s r₀ i₀ r i = (i ≤ length s) × (r .length ≡ r₀ .length + i) 
 abbrev μ-loop : tie.MeasureT-loop
 μ-loop s r₀ i₀ r i = length s - i
 
+-- at the loop's head: the bytes to put
+abbrev put : tie.At-loop Inv-loop μ-loop → List ℕ
+put h = h .before .before .args .s .now
+
 loop-holds : tie.Need-loop-holds Inv-loop μ-loop
 loop-holds c = (search needs, search needs, puts-none _)
 
-shared-slice-read-put-byte : tie.Need-shared-slice-read-put-byte Inv-loop μ-loop
-shared-slice-read-put-byte c = search needs
-
-put-byte-requires : tie.Need-put-byte-requires Inv-loop μ-loop
-put-byte-requires c κs = search needs
-
-add-i : tie.Need-add-i Inv-loop μ-loop
-add-i c = search needs
-
-loop-less : tie.Need-loop-less Inv-loop μ-loop
-loop-less c = search needs
-
 loop-again : tie.Need-loop-again Inv-loop μ-loop
 loop-again c =
-    let p = c .before .before .before .loop in
-    let s = c .before .before .before .before .before .args .s .now in
-    let put = c .put-byte .ensures in
-    (search needs, omega (arith, put .longer, p .inv .1), puts-next s (p .i) (search needs) (p .inv .2) put)
+    let h = c .before .before .before in
+    let p = h .loop in
+    let one = c .put-byte .ensures in
+    (search needs, omega (arith, one .longer, p .inv .1), puts-next (put h) (p .i) (search needs) (p .inv .2) one)
 
 returns : tie.Need-returns Inv-loop μ-loop
 returns c =
     let p = c .before .loop in
-    let s = c .before .before .before .args .s .now in
-    puts-same (take-all (p .i) s (search needs)) (p .inv .2)
+    puts-same (take-all (p .i) (put (c .before)) (search needs)) (p .inv .2)
 
 pub put-bytes-spec : {M : Type 1} → statement M
 put-bytes-spec =
@@ -51,9 +43,9 @@ put-bytes-spec =
     Inv-loop
     μ-loop
     loop-holds
-    shared-slice-read-put-byte
-    put-byte-requires
-    add-i
-    loop-less
+    (λ c. search needs)
+    (λ c κs. search needs)
+    (λ c. search needs)
+    (λ c. search needs)
     loop-again
     returns)

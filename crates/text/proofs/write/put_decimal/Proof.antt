@@ -8,15 +8,6 @@ use borrow.Author.Needs.{needs}
 use Rattle.text.proofs.write.put_decimal.Statement.{statement}
 use Rattle.text.proofs.write.put_decimal.Tie as tie
 
-decimal-requires : tie.Need-decimal-requires
-decimal-requires c κs = search needs
-
-array-share-prefix-digits : tie.Need-array-share-prefix-digits
-array-share-prefix-digits c = search needs
-
-slice-aggregate-put-bytes : tie.Need-slice-aggregate-put-bytes
-slice-aggregate-put-bytes c = search needs
-
 put-bytes-requires : tie.Need-put-bytes-requires
 put-bytes-requires c κs =
     let told = c .before .decimal .ensures in
@@ -30,8 +21,8 @@ pub put-decimal-spec : {M : Type 1} → statement M
 put-decimal-spec =
     tie.close
     (tie.spec
-    decimal-requires
-    array-share-prefix-digits
-    slice-aggregate-put-bytes
+    (λ c κs. search needs)
+    (λ c. search needs)
+    (λ c. search needs)
     put-bytes-requires
     returns)

@@ -1,70 +1,58 @@
 -- `text::write::put_figure` meets its contract.
-use mathlib.Core.Path.{ap, _∙_}
+use mathlib.Core.Path.{_≡_, ap, _∙_}
 use mathlib.Core.List.{_∷_, [], _++_}
 use Prim.Native.Nat.{ℕ}
 use lib.IntN.{natAbs}
+use borrow.Author.Needs.{needs}
 use Rattle.totals_spec.specs.Program.{decimalText}
 use Rattle.text.proofs.Grown.{puts-same, puts-then}
 use Rattle.text.proofs.Figures.{read, test-read, pence-none, pence-negative, pence-positive}
-use borrow.Author.Needs.{needs}
 use Rattle.text.proofs.write.put_figure.Statement.{statement}
 use Rattle.text.proofs.write.put_figure.Tie as tie
 
-slice-aggregate-put-bytes : tie.Need-slice-aggregate-put-bytes
-slice-aggregate-put-bytes c = search needs
+-- where the figure is not refused, and its magnitude is known
+abbrev entry : tie.After-magnitude → tie.Start
+entry t = t .before .before
 
-put-bytes-requires : tie.Need-put-bytes-requires
-put-bytes-requires c κs = search needs
+magnitude-is : (t : tie.After-magnitude) → t .magnitude .result ≡ natAbs (entry t .args .figure)
+magnitude-is t = let s = entry t in t .magnitude .ensures ∙ ap natAbs (read (s .args .figure) (s .good .1 .0))
 
 returns : tie.Need-returns
 returns c =
-    let a = c .before .before .before .args in
-    puts-same (pence-none (a .figure) (a .refusal) (c .before .before .if1 .taken)) (c .put-bytes .ensures)
-
-magnitude-requires : tie.Need-magnitude-requires
-magnitude-requires c κs = search needs
-
-put-byte-requires : tie.Need-put-byte-requires
-put-byte-requires c κs = search needs
-
-put-decimal-requires : tie.Need-put-decimal-requires
-put-decimal-requires c κs = search needs
+    let r = c .before .before in
+    puts-same (pence-none (r .before .args .figure) (r .before .args .refusal) (r .if1 .taken)) (c .put-bytes .ensures)
 
 returns-2 : tie.Need-returns-2
 returns-2 c =
-    let a = c .before .before .before .before .before in
-    let z = a .args .figure in
-    let small = a .good .1 .0 in
-    let m = c .before .before .before .magnitude .ensures ∙ ap natAbs (read z small) in
-    let below = test-read z small (c .before .before .if2 .taken) in
+    let n = c .before .before in
+    let t = n .before in
+    let s = entry t in
+    let z = s .args .figure in
+    let text = ap (λ (n : ℕ). (45 ∷ []) ++ decimalText n) (magnitude-is t) in
     puts-same
-    (ap (λ (n : ℕ). (45 ∷ []) ++ decimalText n) m ∙ pence-negative z (a .args .refusal) (c .before .before .before .before .if1 .left) below)
+    (text ∙ pence-negative z (s .args .refusal) (t .before .if1 .left) (test-read z (s .good .1 .0) (n .if2 .taken)))
     (puts-then (c .before .put-byte .ensures) (c .put-decimal .ensures))
-
-put-decimal-requires-2 : tie.Need-put-decimal-requires-2
-put-decimal-requires-2 c κs = search needs
 
 returns-3 : tie.Need-returns-3
 returns-3 c =
-    let a = c .before .before .before .before in
-    let z = a .args .figure in
-    let small = a .good .1 .0 in
-    let m = c .before .before .magnitude .ensures ∙ ap natAbs (read z small) in
-    let not-below = test-read z small (c .before .if2 .left) in
+    let n = c .before in
+    let t = n .before in
+    let s = entry t in
+    let z = s .args .figure in
     puts-same
-    (ap decimalText m ∙ pence-positive z (a .args .refusal) (c .before .before .before .if1 .left) not-below)
+    (ap decimalText (magnitude-is t) ∙ pence-positive z (s .args .refusal) (t .before .if1 .left) (test-read z (s .good .1 .0) (n .if2 .left)))
     (c .put-decimal2 .ensures)
 
 pub put-figure-spec : {M : Type 1} → statement M
 put-figure-spec =
     tie.close
     (tie.spec
-    slice-aggregate-put-bytes
-    put-bytes-requires
+    (λ c. search needs)
+    (λ c κs. search needs)
     returns
-    magnitude-requires
-    put-byte-requires
-    put-decimal-requires
+    (λ c κs. search needs)
+    (λ c κs. search needs)
+    (λ c κs. search needs)
     returns-2
-    put-decimal-requires-2
+    (λ c κs. search needs)
     returns-3)

@@ -7,18 +7,6 @@ use borrow.Author.Needs.{needs}
 use Rattle.text.proofs.write.refused_line.Statement.{statement}
 use Rattle.text.proofs.write.refused_line.Tie as tie
 
-empty-requires : tie.Need-empty-requires
-empty-requires c κs = search needs
-
-slice-aggregate-put-bytes : tie.Need-slice-aggregate-put-bytes
-slice-aggregate-put-bytes c = search needs
-
-put-bytes-requires : tie.Need-put-bytes-requires
-put-bytes-requires c κs = search needs
-
-put-decimal-requires : tie.Need-put-decimal-requires
-put-decimal-requires c κs = search needs
-
 put-byte-requires : tie.Need-put-byte-requires
 put-byte-requires c κs = omega (arith, after-decimal _ (search needs) (c .put-decimal .ensures))
 
@@ -31,9 +19,9 @@ pub refused-line-spec : {M : Type 1} → statement M
 refused-line-spec =
     tie.close
     (tie.spec
-    empty-requires
-    slice-aggregate-put-bytes
-    put-bytes-requires
-    put-decimal-requires
+    (λ c κs. search needs)
+    (λ c. search needs)
+    (λ c κs. search needs)
+    (λ c κs. search needs)
     put-byte-requires
     returns)
