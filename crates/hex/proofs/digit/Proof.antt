@@ -10,28 +10,27 @@ use Rattle.hex.proofs.digit.Tie as tie
 returns : tie.Need-returns
 returns c = sym (ap (digitOr 16) (below-digits (c .before .args .b) (omega arith)))
 
-cast-result : tie.Need-cast-result
-cast-result c = search needs
-
 returns-2 : tie.Need-returns-2
 returns-2 c = sym (ap (digitOr 16) (decimal-digit _ (omega arith) (omega arith)))
 
 returns-3 : tie.Need-returns-3
 returns-3 c = sym (ap (digitOr 16) (between-digits (c .before .before .before .args .b) (omega arith) (omega arith)))
 
-sub-result : tie.Need-sub-result
-sub-result c = search needs
-
-cast-result-2 : tie.Need-cast-result-2
-cast-result-2 c = search needs
-
 returns-4 : tie.Need-returns-4
 returns-4 c = sym (ap (digitOr 16) (letter-digit _ (omega arith) (omega arith)))
 
 returns-5 : tie.Need-returns-5
-returns-5 c = sym (ap (digitOr 16) (above-digits (c .before .before .before .before .args .b) (omega arith)))
+returns-5 c = let e = c .before .before in sym (ap (digitOr 16) (above-digits (e .before .before .args .b) (omega arith)))
 
 pub digit-spec : {M : Type 1} → statement M
 digit-spec =
     tie.close
-    (tie.spec returns cast-result returns-2 returns-3 sub-result cast-result-2 returns-4 returns-5)
+    (tie.spec
+    returns
+    (λ c. search needs)
+    returns-2
+    returns-3
+    (λ c. search needs)
+    (λ c. search needs)
+    returns-4
+    returns-5)
