@@ -4,7 +4,8 @@ use mathlib.Core.Logic.{_⊎_, inl, inr}
 use mathlib.Core.Bool.{true, not}
 use mathlib.Core.List.{List}
 use Prim.Native.Nat.{ℕ, _+_, _-_, _*_, _/_, _%_, _^_, _<_, _≤_, min}
-use native.Mathlib.Nat.{add-zero, zero-mul, add-mul-mod-self-right, mod-eq-of-lt, lt-of-lt-of-le, lt-of-not-le, le-of-lt, le-of-eq, sub-add-cancel, mul-le-mul-right, min-eq-left, min-eq-right, min-le-left, eq-zero-or-pos, zero-mod, zero-div}
+use native.Mathlib.Nat.{add-zero, zero-mul, add-mul-mod-self-right, mod-eq-of-lt, lt-of-lt-of-le, lt-of-not-le, le-of-lt, le-of-eq, sub-add-cancel}
+use native.Mathlib.Nat.{mul-le-mul-right, min-eq-left, min-eq-right, min-le-left, eq-zero-or-pos, zero-mod, zero-div}
 use native.Mathlib.Decide.{decLe}
 use native.Mathlib.Omega.{arith}
 use lib.Dec.{eqb}
@@ -55,7 +56,8 @@ low-bits l f {c} {p} s z =
   where
     digit : getD l (p .word) 0 % 2 ^ p .bit ≡ value l / 2 ^ (64 * p .word) % 2 ^ p .bit
     digit =
-        ap (λ (x : ℕ). x % 2 ^ p .bit) (word-digit l f (p .word) ∙ ap (λ (x : ℕ). value l / 2 ^ (64 * p .word) % 2 ^ x) (sym (sub-add-cancel (le-of-lt (s .small)))))
+        ap (λ (x : ℕ). x % 2 ^ p .bit)
+        (word-digit l f (p .word) ∙ ap (λ (x : ℕ). value l / 2 ^ (64 * p .word) % 2 ^ x) (sym (sub-add-cancel (le-of-lt (s .small)))))
         ∙ mod-mod-pow (value l / 2 ^ (64 * p .word)) (64 - p .bit) (p .bit)
 
 -- past the end of the list there is no word, and no bit

@@ -17,57 +17,37 @@ Inv-loop count a p end i₀ i = (i ≤ end) × (low a i ≡ 0)
 abbrev μ-loop : tie.MeasureT-loop
 μ-loop count a p end i₀ i = end - i
 
-split-requires : tie.Need-split-requires Inv-loop μ-loop
-split-requires c κs = search needs
-
-smaller-requires : tie.Need-smaller-requires Inv-loop μ-loop
-smaller-requires c κs = search needs
+-- at the loop's head
+abbrev entry : tie.At-loop Inv-loop μ-loop → tie.Start Inv-loop μ-loop
+entry h = h .before .before .before
 
 loop-holds : tie.Need-loop-holds Inv-loop μ-loop
 loop-holds c = (search needs, low-zero _)
 
-mul-if1 : tie.Need-mul-if1 Inv-loop μ-loop
-mul-if1 c = search needs
-
-array-read-if1 : tie.Need-array-read-if1 Inv-loop μ-loop
-array-read-if1 c = search needs
-
 returns : tie.Need-returns Inv-loop μ-loop
 returns c =
-    let s = c .before .before .before .before .before in
+    let h = c .before .before in
+    let s = entry h in
     let a = s .args .t1 in
-    let p = c .before .before .before .before .split in
-    let i = c .before .before .loop .i in
-    let h : i < min (p .result .word) 12 = omega (arith, c .before .before .before .smaller .ensures, c .before .loop-test .taken) in
-    some-word-below a (words 12 a _ (s .good .0) .fit) 12 i (p .ensures) h (c .if1 .taken)
-
-add-i : tie.Need-add-i Inv-loop μ-loop
-add-i c = search needs
-
-loop-less : tie.Need-loop-less Inv-loop μ-loop
-loop-less c = search needs
+    let p = h .before .before .split in
+    let i = h .loop .i in
+    let below : i < min (p .result .word) 12 = omega (arith, h .before .smaller .ensures, c .before .loop-test .taken) in
+    some-word-below a (words 12 a _ (s .good .0) .fit) 12 i (p .ensures) below (c .if1 .taken)
 
 loop-again : tie.Need-loop-again Inv-loop μ-loop
-loop-again c =
-    let p = c .before .before .loop in
-    (omega arith, low-skip _ _ (c .if1 .left) ∙ p .inv .1)
-
-word-at-requires : tie.Need-word-at-requires Inv-loop μ-loop
-word-at-requires c κs = search needs
-
-low-bits-requires : tie.Need-low-bits-requires Inv-loop μ-loop
-low-bits-requires c κs = search needs
+loop-again c = (omega arith, low-skip _ _ (c .if1 .left) ∙ c .before .before .loop .inv .1)
 
 returns-2 : tie.Need-returns-2 Inv-loop μ-loop
 returns-2 c =
-    let s = c .before .before .before .before .before .before in
+    let h = c .before .before .before in
+    let s = entry h in
     let a = s .args .t1 in
-    let p = c .before .before .before .before .before .split in
-    let end = c .before .before .before .before .smaller in
-    let loop = c .before .before .before .loop in
-    let e : loop .i ≡ min (p .result .word) 12 = omega (arith, end .ensures) in
-    ap (λ (x : ℕ). not (eqb x 0)) (c .low-bits .ensures ∙ ap (λ (x : ℕ). x % 2 ^ p .result .bit) (c .before .word-at .ensures ∙ ap (λ (x : ℕ). getD a x 0) (end .ensures)))
-    ∙ rest-below (words 12 a _ (s .good .0)) (p .ensures) (rw e at (loop .inv .1))
+    let p = h .before .before .split in
+    let end = h .before .smaller .ensures in
+    let e : h .loop .i ≡ min (p .result .word) 12 = omega (arith, end) in
+    let word = c .before .word-at .ensures ∙ ap (λ (x : ℕ). getD a x 0) end in
+    ap (λ (x : ℕ). not (eqb x 0)) (c .low-bits .ensures ∙ ap (λ (x : ℕ). x % 2 ^ p .result .bit) word)
+    ∙ rest-below (words 12 a _ (s .good .0)) (p .ensures) (rw e at (h .loop .inv .1))
 
 pub any-below-spec : {M : Type 1} → statement M
 any-below-spec =
@@ -75,15 +55,15 @@ any-below-spec =
     (tie.spec
     Inv-loop
     μ-loop
-    split-requires
-    smaller-requires
+    (λ c κs. search needs)
+    (λ c κs. search needs)
     loop-holds
-    mul-if1
-    array-read-if1
+    (λ c. search needs)
+    (λ c. search needs)
     returns
-    add-i
-    loop-less
+    (λ c. search needs)
+    (λ c. search needs)
     loop-again
-    word-at-requires
-    low-bits-requires
+    (λ c κs. search needs)
+    (λ c κs. search needs)
     returns-2)

@@ -8,20 +8,13 @@ use Rattle.limbs.proofs.Digits.{bit-digit}
 use Rattle.limbs_window.proofs.bit.Statement.{statement}
 use Rattle.limbs_window.proofs.bit.Tie as tie
 
-split-requires : tie.Need-split-requires
-split-requires c κs = search needs
-
-word-at-requires : tie.Need-word-at-requires
-word-at-requires c κs = search needs
-
-shr-result : tie.Need-shr-result
-shr-result c = search needs
-
 returns : tie.Need-returns
 returns c =
     let s = c .before .before in
     let p = c .before .split in
-    ap (λ (x : ℕ). eqb x 1) (ap (λ (x : ℕ). x / 2 ^ p .result .bit % 2) (c .word-at .ensures) ∙ bit-digit (s .args .a) (words 12 (s .args .a) _ (s .good .0) .fit) (p .ensures))
+    ap (λ (x : ℕ). eqb x 1)
+    (ap (λ (x : ℕ). x / 2 ^ p .result .bit % 2) (c .word-at .ensures)
+    ∙ bit-digit (s .args .a) (words 12 (s .args .a) _ (s .good .0) .fit) (p .ensures))
 
 pub bit-spec : {M : Type 1} → statement M
-bit-spec = tie.close (tie.spec split-requires word-at-requires shr-result returns)
+bit-spec = tie.close (tie.spec (λ c κs. search needs) (λ c κs. search needs) (λ c. search needs) returns)

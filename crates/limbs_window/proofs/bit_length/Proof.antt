@@ -20,42 +20,13 @@ abbrev μ-loop : tie.MeasureT-loop
 loop-holds : tie.Need-loop-holds Inv-loop μ-loop
 loop-holds c = (search needs, whole (words 12 (c .args .t1) _ (c .good .0)))
 
-sub-i : tie.Need-sub-i Inv-loop μ-loop
-sub-i c = search needs
-
-mul-if1 : tie.Need-mul-if1 Inv-loop μ-loop
-mul-if1 c = search needs
-
-array-read-if1 : tie.Need-array-read-if1 Inv-loop μ-loop
-array-read-if1 c = search needs
-
-mul-result : tie.Need-mul-result Inv-loop μ-loop
-mul-result c = search needs
-
-mul-bit-length : tie.Need-mul-bit-length Inv-loop μ-loop
-mul-bit-length c = search needs
-
-array-read-bit-length : tie.Need-array-read-bit-length Inv-loop μ-loop
-array-read-bit-length c = search needs
-
-bit-length-requires : tie.Need-bit-length-requires Inv-loop μ-loop
-bit-length-requires c κs = search needs
-
-cast-result : tie.Need-cast-result Inv-loop μ-loop
-cast-result c = search needs
-
-add-result : tie.Need-add-result Inv-loop μ-loop
-add-result c = search needs
-
 returns : tie.Need-returns Inv-loop μ-loop
 returns c =
-    let s = c .before .before .before .before in
-    let p = c .before .before .before .loop in
+    let t = c .before .before in
+    let p = t .before .loop in
+    let s = t .before .before in
     ap (λ (x : ℕ). (p .i - 1) * 64 + x) (c .bit-length .ensures)
-    ∙ found (s .args .t1) (p .i) (c .before .before .loop-test .taken) (words 12 (s .args .t1) _ (s .good .0) .fit) (p .inv .1) (c .before .if1 .taken)
-
-loop-less : tie.Need-loop-less Inv-loop μ-loop
-loop-less c = search needs
+    ∙ found (s .args .t1) (p .i) (t .loop-test .taken) (words 12 (s .args .t1) _ (s .good .0) .fit) (p .inv .1) (c .before .if1 .taken)
 
 loop-again : tie.Need-loop-again Inv-loop μ-loop
 loop-again c =
@@ -75,16 +46,16 @@ bit-length-spec =
     Inv-loop
     μ-loop
     loop-holds
-    sub-i
-    mul-if1
-    array-read-if1
-    mul-result
-    mul-bit-length
-    array-read-bit-length
-    bit-length-requires
-    cast-result
-    add-result
+    (λ c. search needs)
+    (λ c. search needs)
+    (λ c. search needs)
+    (λ c. search needs)
+    (λ c. search needs)
+    (λ c. search needs)
+    (λ c κs. search needs)
+    (λ c. search needs)
+    (λ c. search needs)
     returns
-    loop-less
+    (λ c. search needs)
     loop-again
     returns-2)

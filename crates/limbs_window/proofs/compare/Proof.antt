@@ -34,52 +34,30 @@ same m n e = ap₂ orderOf (le-ltb m n (le-of-eq (sym e))) (le-ltb n m (le-of-eq
 loop-holds : tie.Need-loop-holds Inv-loop μ-loop
 loop-holds c = (search needs, ends (words 12 (c .args .t1) _ (c .good .0)) (words 12 (c .args .t2) _ (c .good .1 .0)))
 
-sub-i : tie.Need-sub-i Inv-loop μ-loop
-sub-i c = search needs
-
-mul-if1 : tie.Need-mul-if1 Inv-loop μ-loop
-mul-if1 c = search needs
-
-array-read-if1 : tie.Need-array-read-if1 Inv-loop μ-loop
-array-read-if1 c = search needs
-
-mul-if1-2 : tie.Need-mul-if1-2 Inv-loop μ-loop
-mul-if1-2 c = search needs
-
-array-read-if1-2 : tie.Need-array-read-if1-2 Inv-loop μ-loop
-array-read-if1-2 c = search needs
-
 returns : tie.Need-returns Inv-loop μ-loop
 returns c =
-    let s = c .before .before .before in
-    let p = c .before .before .loop in
-    sym (less (value (s .args .t1)) (value (s .args .t2)) (less-down (s .args .t1) (s .args .t2) (p .i) (c .before .loop-test .taken) (words 12 (s .args .t1) _ (s .good .0) .fit) (p .inv .1) (c .if1 .taken)))
-
-mul-if2 : tie.Need-mul-if2 Inv-loop μ-loop
-mul-if2 c = search needs
-
-array-read-if2 : tie.Need-array-read-if2 Inv-loop μ-loop
-array-read-if2 c = search needs
-
-mul-if2-2 : tie.Need-mul-if2-2 Inv-loop μ-loop
-mul-if2-2 c = search needs
-
-array-read-if2-2 : tie.Need-array-read-if2-2 Inv-loop μ-loop
-array-read-if2-2 c = search needs
+    let t = c .before in
+    let h = t .before in
+    let s = h .before in
+    let a = s .args .t1 in
+    let b = s .args .t2 in
+    sym (less (value a) (value b) (less-down a b (h .loop .i) (t .loop-test .taken) (words 12 a _ (s .good .0) .fit) (h .loop .inv .1) (c .if1 .taken)))
 
 returns-2 : tie.Need-returns-2 Inv-loop μ-loop
 returns-2 c =
-    let s = c .before .before .before .before in
-    let p = c .before .before .before .loop in
-    sym (greater (value (s .args .t1)) (value (s .args .t2)) (less-down (s .args .t2) (s .args .t1) (p .i) (c .before .before .loop-test .taken) (words 12 (s .args .t2) _ (s .good .1 .0) .fit) (sym (p .inv .1)) (c .if2 .taken)))
-
-loop-less : tie.Need-loop-less Inv-loop μ-loop
-loop-less c = search needs
+    let t = c .before .before in
+    let h = t .before in
+    let s = h .before in
+    let a = s .args .t1 in
+    let b = s .args .t2 in
+    sym (greater (value a) (value b)
+    (less-down b a (h .loop .i) (t .loop-test .taken) (words 12 b _ (s .good .1 .0) .fit) (sym (h .loop .inv .1)) (c .if2 .taken)))
 
 loop-again : tie.Need-loop-again Inv-loop μ-loop
 loop-again c =
-    let p = c .before .before .before .loop in
-    (omega arith, same-down _ _ (p .i) (c .before .before .loop-test .taken) (p .inv .1) (c .if2 .left) (c .before .if1 .left))
+    let t = c .before .before in
+    let p = t .before .loop in
+    (omega arith, same-down _ _ (p .i) (t .loop-test .taken) (p .inv .1) (c .if2 .left) (c .before .if1 .left))
 
 returns-3 : tie.Need-returns-3 Inv-loop μ-loop
 returns-3 c =
@@ -94,17 +72,17 @@ compare-spec =
     Inv-loop
     μ-loop
     loop-holds
-    sub-i
-    mul-if1
-    array-read-if1
-    mul-if1-2
-    array-read-if1-2
+    (λ c. search needs)
+    (λ c. search needs)
+    (λ c. search needs)
+    (λ c. search needs)
+    (λ c. search needs)
     returns
-    mul-if2
-    array-read-if2
-    mul-if2-2
-    array-read-if2-2
+    (λ c. search needs)
+    (λ c. search needs)
+    (λ c. search needs)
+    (λ c. search needs)
     returns-2
-    loop-less
+    (λ c. search needs)
     loop-again
     returns-3)

@@ -4,12 +4,9 @@ use Rattle.limbs.specs.Value.{value}
 use Rattle.limbs_window.proofs.increment.Statement.{statement}
 use Rattle.limbs_window.proofs.increment.Tie as tie
 
-add-requires : tie.Need-add-requires
-add-requires c κs = search needs
-
 returns : tie.Need-returns
 unfolding value
 returns c = c .add .ensures
 
 pub increment-spec : {M : Type 1} → statement M
-increment-spec = tie.close (tie.spec add-requires returns)
+increment-spec = tie.close (tie.spec (λ c κs. search needs) returns)

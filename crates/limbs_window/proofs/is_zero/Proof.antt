@@ -18,31 +18,21 @@ abbrev μ-loop : tie.MeasureT-loop
 loop-holds : tie.Need-loop-holds Inv-loop μ-loop
 loop-holds c = (search needs, low-zero _)
 
-mul-if1 : tie.Need-mul-if1 Inv-loop μ-loop
-mul-if1 c = search needs
-
-array-read-if1 : tie.Need-array-read-if1 Inv-loop μ-loop
-array-read-if1 c = search needs
-
 returns : tie.Need-returns Inv-loop μ-loop
-returns c = sym (ne-eqb (value (c .before .before .before .args .t1)) 0 (some-word (c .before .before .before .args .t1) (c .before .before .loop .k) (c .if1 .taken)))
-
-add-k : tie.Need-add-k Inv-loop μ-loop
-add-k c = search needs
-
-loop-less : tie.Need-loop-less Inv-loop μ-loop
-loop-less c = search needs
+returns c =
+    let h = c .before .before in
+    let a = h .before .args .t1 in
+    sym (ne-eqb (value a) 0 (some-word a (h .loop .k) (c .if1 .taken)))
 
 loop-again : tie.Need-loop-again Inv-loop μ-loop
-loop-again c =
-    let p = c .before .before .loop in
-    (omega arith, low-skip _ _ (c .if1 .left) ∙ p .inv .1)
+loop-again c = (omega arith, low-skip _ _ (c .if1 .left) ∙ c .before .before .loop .inv .1)
 
 returns-2 : tie.Need-returns-2 Inv-loop μ-loop
 returns-2 c =
-    let p = c .before .loop in
-    let e : p .k ≡ 12 = omega arith in
-    sym (eq-eqb (value (c .before .before .args .t1)) 0 (sym (whole (words 12 (c .before .before .args .t1) _ (c .before .before .good .0))) ∙ rw e at (p .inv .1)))
+    let h = c .before in
+    let s = h .before in
+    let e : h .loop .k ≡ 12 = omega arith in
+    sym (eq-eqb (value (s .args .t1)) 0 (sym (whole (words 12 _ _ (s .good .0))) ∙ rw e at (h .loop .inv .1)))
 
 pub is-zero-spec : {M : Type 1} → statement M
 is-zero-spec =
@@ -51,10 +41,10 @@ is-zero-spec =
     Inv-loop
     μ-loop
     loop-holds
-    mul-if1
-    array-read-if1
+    (λ c. search needs)
+    (λ c. search needs)
     returns
-    add-k
-    loop-less
+    (λ c. search needs)
+    (λ c. search needs)
     loop-again
     returns-2)

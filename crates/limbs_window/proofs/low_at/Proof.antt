@@ -8,21 +8,6 @@ use Rattle.limbs.proofs.Digits.{word-digit, low-digit}
 use Rattle.limbs_window.proofs.low_at.Statement.{statement}
 use Rattle.limbs_window.proofs.low_at.Tie as tie
 
-mul-low-bits : tie.Need-mul-low-bits
-mul-low-bits c = search needs
-
-array-read-low-bits : tie.Need-array-read-low-bits
-array-read-low-bits c = search needs
-
-mul-minus : tie.Need-mul-minus
-mul-minus c = search needs
-
-minus-requires : tie.Need-minus-requires
-minus-requires c κs = search needs
-
-low-bits-requires : tie.Need-low-bits-requires
-low-bits-requires c κs = search needs
-
 returns : tie.Need-returns
 returns c =
     let s = c .before .before in
@@ -34,4 +19,10 @@ returns c =
 pub low-at-spec : {M : Type 1} → statement M
 low-at-spec =
     tie.close
-    (tie.spec mul-low-bits array-read-low-bits mul-minus minus-requires low-bits-requires returns)
+    (tie.spec
+    (λ c. search needs)
+    (λ c. search needs)
+    (λ c. search needs)
+    (λ c κs. search needs)
+    (λ c κs. search needs)
+    returns)

@@ -18,21 +18,6 @@ abbrev μ-loop : tie.MeasureT-loop
 loop-holds : tie.Need-loop-holds Inv-loop μ-loop
 loop-holds c = fill-none _ (zeros 12)
 
-low-at-requires : tie.Need-low-at-requires Inv-loop μ-loop
-low-at-requires c κs = search needs
-
-mul-r : tie.Need-mul-r Inv-loop μ-loop
-mul-r c = search needs
-
-array-write-r : tie.Need-array-write-r Inv-loop μ-loop
-array-write-r c = search needs
-
-add-i : tie.Need-add-i Inv-loop μ-loop
-add-i c = search needs
-
-loop-less : tie.Need-loop-less Inv-loop μ-loop
-loop-less c = search needs
-
 loop-again : tie.Need-loop-again Inv-loop μ-loop
 loop-again c = fill-next (c .before .before .loop .inv) (c .before .loop-test .taken) (c .low-at .ensures)
 
@@ -49,10 +34,10 @@ low-bits-spec =
     Inv-loop
     μ-loop
     loop-holds
-    low-at-requires
-    mul-r
-    array-write-r
-    add-i
-    loop-less
+    (λ c κs. search needs)
+    (λ c. search needs)
+    (λ c. search needs)
+    (λ c. search needs)
+    (λ c. search needs)
     loop-again
     returns)

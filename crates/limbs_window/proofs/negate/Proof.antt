@@ -8,9 +8,6 @@ use Rattle.limbs.proofs.Words.{words, value-lt}
 use Rattle.limbs_window.proofs.negate.Statement.{statement}
 use Rattle.limbs_window.proofs.negate.Tie as tie
 
-sub-requires : tie.Need-sub-requires
-sub-requires c κs = search needs
-
 returns : tie.Need-returns
 unfolding value
 returns c =
@@ -19,4 +16,4 @@ returns c =
     ∙ ap (λ (x : ℕ). x % 2 ^ 768) (zero-add _ ∙ ap (λ (x : ℕ). 2 ^ 768 - x) (mod-eq-of-lt (value-lt (words 12 (s .args .a) _ (s .good .0)))))
 
 pub negate-spec : {M : Type 1} → statement M
-negate-spec = tie.close (tie.spec sub-requires returns)
+negate-spec = tie.close (tie.spec (λ c κs. search needs) returns)

@@ -7,12 +7,9 @@ use native.Mathlib.Nat.{one-mul}
 use Rattle.limbs_window.proofs.power.Statement.{statement}
 use Rattle.limbs_window.proofs.power.Tie as tie
 
-shl-requires : tie.Need-shl-requires
-shl-requires c κs = search needs
-
 returns : tie.Need-returns
 unfolding value
 returns c = c .shl .ensures ∙ ap (λ (x : ℕ). x % 2 ^ 768) (one-mul _)
 
 pub power-spec : {M : Type 1} → statement M
-power-spec = tie.close (tie.spec shl-requires returns)
+power-spec = tie.close (tie.spec (λ c κs. search needs) returns)

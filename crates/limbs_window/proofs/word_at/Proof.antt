@@ -7,19 +7,10 @@ use Rattle.limbs.proofs.Words.{words}
 use Rattle.limbs_window.proofs.word_at.Statement.{statement}
 use Rattle.limbs_window.proofs.word_at.Tie as tie
 
-mul-result : tie.Need-mul-result
-mul-result c = search needs
-
-array-read-result : tie.Need-array-read-result
-array-read-result c = search needs
-
-returns : tie.Need-returns
-returns c = search needs
-
 returns-2 : tie.Need-returns-2
 returns-2 c =
     let s = c .before in
     sym (List·getD-eq-default (s .args .t1) 0 (omega (arith, words 12 (s .args .t1) _ (s .good .0) .long)))
 
 pub word-at-spec : {M : Type 1} → statement M
-word-at-spec = tie.close (tie.spec mul-result array-read-result returns returns-2)
+word-at-spec = tie.close (tie.spec (λ c. search needs) (λ c. search needs) (λ c. search needs) returns-2)

@@ -5,19 +5,11 @@ use Rattle.limbs.proofs.Words.{cons-at}
 use Rattle.limbs_window.proofs.word_below.Statement.{statement}
 use Rattle.limbs_window.proofs.word_below.Tie as tie
 
-sub-word-at : tie.Need-sub-word-at
-sub-word-at c = search needs
-
-word-at-requires : tie.Need-word-at-requires
-word-at-requires c κs = search needs
-
-returns : tie.Need-returns
-returns c = search needs
-
 returns-2 : tie.Need-returns-2
 returns-2 c =
     let s = c .before .before in
     c .word-at .ensures ∙ cons-at (s .args .a) 0 (s .args .i) (c .before .if1 .left)
 
 pub word-below-spec : {M : Type 1} → statement M
-word-below-spec = tie.close (tie.spec sub-word-at word-at-requires returns returns-2)
+word-below-spec =
+    tie.close (tie.spec (λ c. search needs) (λ c κs. search needs) (λ c. search needs) returns-2)
