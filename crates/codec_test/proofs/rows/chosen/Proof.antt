@@ -8,46 +8,26 @@ use borrow.Author.Needs.{needs}
 use Rattle.codec_test.proofs.rows.chosen.Statement.{statement}
 use Rattle.codec_test.proofs.rows.chosen.Tie as tie
 
-none-requires : tie.Need-none-requires
-none-requires c κs = search needs
-
-select-requires : tie.Need-select-requires
-select-requires c κs = search needs
-
-select-requires-2 : tie.Need-select-requires-2
-select-requires-2 c κs = search needs
-
-settings-requires : tie.Need-settings-requires
-settings-requires c κs = search needs
-
-selected-requires : tie.Need-selected-requires
-selected-requires c κs = search needs
-
 encode-requires : tie.Need-encode-requires
 encode-requires c κs =
-    let s = c .before .before .before .before .before in
-    let none = c .before .before .before .before .none in
-    let select = c .before .before .before .select in
-    let select2 = c .before .before .select2 in
-    let settings = c .before .settings in
-    let selected = c .selected in
+    let n = c .before .before in
+    let o = n .before in
+    let s = o .before .before in
     let f = formatOf (s .args .f) in
     let rule = propagationOf (s .args .rule) in
-    let first : Encodes f (nanOf (select .result)) = rw (select .ensures, none .ensures) (s .pre .1) in
-    let both = choose-encodes f rule (nanOf (select .result)) (nanOf (s .args .b)) first (s .pre .2) in
-    (s .pre .0, rw (selected .ensures) (selected-encodes f (settingsOf (settings .result)) (nanOf (select2 .result)) (rw (select2 .ensures) both)))
-
-returns : tie.Need-returns
-returns c = search needs
+    let first : Encodes f (nanOf (o .select .result)) = rw (o .select .ensures, o .before .none .ensures) (s .pre .1) in
+    let both = choose-encodes f rule (nanOf (o .select .result)) (nanOf (s .args .b)) first (s .pre .2) in
+    let last = selected-encodes f (settingsOf (c .before .settings .result)) (nanOf (n .select2 .result)) (rw (n .select2 .ensures) both) in
+    (s .pre .0, rw (c .selected .ensures) last)
 
 pub chosen-spec : {M : Type 1} → statement M
 chosen-spec =
     tie.close
     (tie.spec
-    none-requires
-    select-requires
-    select-requires-2
-    settings-requires
-    selected-requires
+    (λ c κs. search needs)
+    (λ c κs. search needs)
+    (λ c κs. search needs)
+    (λ c κs. search needs)
+    (λ c κs. search needs)
     encode-requires
-    returns)
+    (λ c. search needs))

@@ -15,23 +15,14 @@ use Rattle.codec_test.proofs.rows.is_long.Tie as tie
 returns : tie.Need-returns
 returns c = λ e t. absurd (true≢false (sym t ∙ not-true _ (c .if1 .taken)))
 
-bit-length-requires : tie.Need-bit-length-requires
-bit-length-requires c κs = search needs
-
-digits-requires : tie.Need-digits-requires
-digits-requires c κs = search needs
-
-add-result : tie.Need-add-result
-add-result c = search needs
-
 returns-2 : tie.Need-returns-2
 returns-2 c =
-    let s = c .before .before .before .before .before in
-    let bit-length = c .before .bit-length in
-    let digits-at = c .digits in
-    λ e t. size-reaches (value (s .args .v .significand)) (suc (digits (formatOf (s .args .f))))
-    (omega (arith, ltb-true (digits-at .result + 1) (bit-length .result) e, digits-at .ensures, bit-length .ensures))
+    let b = c .before in
+    let e = b .before .before in
+    let a = e .before .before .args in
+    λ e t. size-reaches (value (a .v .significand)) (suc (digits (formatOf (a .f))))
+    (omega (arith, ltb-true (c .digits .result + 1) (b .bit-length .result) e, c .digits .ensures, b .bit-length .ensures))
 
 pub is-long-spec : {M : Type 1} → statement M
 is-long-spec =
-    tie.close (tie.spec returns bit-length-requires digits-requires add-result returns-2)
+    tie.close (tie.spec returns (λ c κs. search needs) (λ c κs. search needs) (λ c. search needs) returns-2)
