@@ -23,7 +23,9 @@ passes-within top k (t ∷ ts) g h e =
 
 pub binary64-sum-limit : Binary64-sum-limit
 unfolding binary64
-binary64-sum-limit c u l h = le-trans (sum-limit binary64 c u l) (passes-within 3122 3 (sumTerms binary64 c (summandOf u) l) (good-terms binary64 c (summandOf u) l) (top u h) (omega arith))
+binary64-sum-limit c u l h =
+    le-trans (sum-limit binary64 c u l)
+    (passes-within 3122 3 (sumTerms binary64 c (summandOf u) l) (good-terms binary64 c (summandOf u) l) (top u h) (omega arith))
   where
     top : (u : ℕ) → u ≤ 1 → topOf (sumTerms binary64 c (summandOf u) l) ≤ 3122
     top zero h = single-sum-top binary64 c (summandOf 0) tt l
@@ -33,9 +35,11 @@ binary64-sum-limit c u l h = le-trans (sum-limit binary64 c u l) (passes-within 
 pub binary64-square-limit : Binary64-square-limit
 unfolding binary64
 binary64-square-limit c u l =
-    le-trans (sum-limit binary64 c u l) (passes-within 5221 6 (sumTerms binary64 c (summandOf u) l) (good-terms binary64 c (summandOf u) l) (sum-top binary64 c (summandOf u) l) (omega arith))
+    le-trans (sum-limit binary64 c u l)
+    (passes-within 5221 6 (sumTerms binary64 c (summandOf u) l) (good-terms binary64 c (summandOf u) l) (sum-top binary64 c (summandOf u) l) (omega arith))
 
 pub binary64-dot-limit : Binary64-dot-limit
 unfolding binary64
 binary64-dot-limit c xs ys =
-    le-trans (dot-limit binary64 c xs ys) (passes-within 5221 6 (dotTerms binary64 c xs ys) (good-pairs binary64 c (pairs xs ys)) (dot-top binary64 c xs ys) (omega arith))
+    le-trans (dot-limit binary64 c xs ys)
+    (passes-within 5221 6 (dotTerms binary64 c xs ys) (good-pairs binary64 c (pairs xs ys)) (dot-top binary64 c xs ys) (omega arith))

@@ -2,7 +2,8 @@
 use mathlib.Core.Path.{_≡_, refl, sym, ap, _∙_, subst}
 use mathlib.Core.Bool.{Bool, true}
 use Prim.Native.Nat.{ℕ, zero, suc, _+_, _-_, _*_, _/_, _%_, _^_, _≤_, _<_}
-use native.Mathlib.Nat.{le-trans, le-refl, le-antisymm, lt-of-lt-of-le, lt-of-not-le, not-le-of-lt, mul-one, mul-assoc, mul-left-comm, one-mul, zero-mul, mul-le-mul-right, div-one, div-div-eq-div-mul, pow-succ', mul-mod-left}
+use native.Mathlib.Nat.{le-trans, le-refl, le-antisymm, lt-of-lt-of-le, lt-of-not-le, not-le-of-lt, mul-one, mul-assoc, mul-left-comm, one-mul, zero-mul}
+use native.Mathlib.Nat.{mul-le-mul-right, div-one, div-div-eq-div-mul, pow-succ', mul-mod-left}
 use native.Mathlib.Omega.{arith}
 use lib.Dec.{T}
 use lib.Pow.{pow-add, pow-mono}
@@ -79,7 +80,9 @@ multiple-mod m q j w e h =
 pub multiple-ge : (m q j w : ℕ) → m ≡ q * 2 ^ j → w ≤ j → 0 < m → 2 ^ w ≤ m
 multiple-ge m zero j w e h k = absurd (not-le-of-lt (subst (λ (x : ℕ). 0 < x) (e ∙ zero-mul (2 ^ j)) k) (le-refl 0))
 multiple-ge m (suc q) j w e h k =
-    le-trans (pow-mono h) (le-trans (subst (λ (x : ℕ). x ≤ suc q * 2 ^ j) (one-mul (2 ^ j)) (mul-le-mul-right (2 ^ j) one)) (subst (λ (x : ℕ). suc q * 2 ^ j ≤ x) (sym e) (le-refl (suc q * 2 ^ j))))
+    le-trans (pow-mono h)
+    (le-trans (subst (λ (x : ℕ). x ≤ suc q * 2 ^ j) (one-mul (2 ^ j)) (mul-le-mul-right (2 ^ j) one))
+        (subst (λ (x : ℕ). suc q * 2 ^ j ≤ x) (sym e) (le-refl (suc q * 2 ^ j))))
   where
     one : 1 ≤ suc q
     one = omega arith

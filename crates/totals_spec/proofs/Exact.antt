@@ -16,7 +16,8 @@ use Rattle.totals_spec.specs.Settings.{Settings, precisionOf}
 use Rattle.totals_spec.specs.Totals.{sumRounded}
 use Rattle.totals_spec.specs.Terms.{Term, plusSum, minusSum, topOf}
 use Rattle.totals_spec.proofs.Good.{AllGood}
-use Rattle.totals_spec.specs.Chain.{lookAt, half, Boundary, noBoundary, boundary, boundaryPlus, boundaryMinus, Step, done, next, decide, sumOf, pass, follow, run, chain, cutPlus, cutMinus, lostOf}
+use Rattle.totals_spec.specs.Chain.{lookAt, half, Boundary, noBoundary, boundary, boundaryPlus, boundaryMinus, Step, done, next, decide, sumOf, pass}
+use Rattle.totals_spec.specs.Chain.{follow, run, chain, cutPlus, cutMinus, lostOf}
 use Rattle.totals_spec.proofs.Limit.{losses-le, fair-look, chain-ends}
 use Rattle.totals_spec.specs.Promises.{Finished}
 use Rattle.totals_spec.proofs.Wrap.{wrapped-is}
@@ -53,12 +54,14 @@ whole-at m w x h = ap (λ (y : ℕ). y / 2 ^ w * 2 ^ w) e ∙ ap (λ (y : ℕ). 
     e : m * 2 ^ x ≡ m * 2 ^ (x - w) * 2 ^ w
     e = ap (λ (y : ℕ). m * y) (pow-split w x h) ∙ sym (mul-assoc m (2 ^ (x - w)) (2 ^ w))
 
-pub bound-plus : (p w : ℕ) (b : Boundary) (P N : ℕ) → Placed p w b (withPlus b P) (withMinus b N) → (Q R : ℕ) → Q * 2 ^ w + R ≡ P → withPlus b P ≡ (Q + boundaryPlus b w) * 2 ^ w + R
+pub bound-plus : (p w : ℕ) (b : Boundary) (P N : ℕ) → Placed p w b (withPlus b P) (withMinus b N) → (Q R : ℕ) → Q * 2 ^ w + R ≡ P
+    → withPlus b P ≡ (Q + boundaryPlus b w) * 2 ^ w + R
 bound-plus p w noBoundary P N h Q R e = sym e ∙ ap (λ (x : ℕ). x * 2 ^ w + R) (sym (add-zero Q))
 bound-plus p w (boundary true m x) P N h Q R e = omega (arith, e, whole-at m w x (le-trans (le-add-right w 768) (h .far)))
 bound-plus p w (boundary false m x) P N h Q R e = sym e ∙ ap (λ (x : ℕ). x * 2 ^ w + R) (sym (add-zero Q))
 
-pub bound-minus : (p w : ℕ) (b : Boundary) (P N : ℕ) → Placed p w b (withPlus b P) (withMinus b N) → (Q R : ℕ) → Q * 2 ^ w + R ≡ N → withMinus b N ≡ (Q + boundaryMinus b w) * 2 ^ w + R
+pub bound-minus : (p w : ℕ) (b : Boundary) (P N : ℕ) → Placed p w b (withPlus b P) (withMinus b N) → (Q R : ℕ) → Q * 2 ^ w + R ≡ N
+    → withMinus b N ≡ (Q + boundaryMinus b w) * 2 ^ w + R
 bound-minus p w noBoundary P N h Q R e = sym e ∙ ap (λ (x : ℕ). x * 2 ^ w + R) (sym (add-zero Q))
 bound-minus p w (boundary true m x) P N h Q R e = sym e ∙ ap (λ (x : ℕ). x * 2 ^ w + R) (sym (add-zero Q))
 bound-minus p w (boundary false m x) P N h Q R e = omega (arith, e, whole-at m w x (le-trans (le-add-right w 768) (h .far)))
@@ -99,23 +102,27 @@ module _ (p : ℕ) (ts : List Term) (hp : p ≤ 64) (good : AllGood ts) (len : l
       down = subst (λ (x : ℕ). total (cutMinus w) ts + boundaryMinus b w ≤ total (cutPlus w) ts + boundaryPlus b w + x) (sym half-is)
           (le-of-lt (cut-close w _ _ (total (restMinus w) ts) (total (restPlus w) ts) quarter _ _ eC eA R′ quarter-large (close .1)))
 
-  decide-right : (b : Boundary) (w : ℕ) → Inv p (plusSum ts) (minusSum ts) b w → (v : View (total (cutPlus w) ts + boundaryPlus b w) (total (cutMinus w) ts + boundaryMinus b w))
+  decide-right : (b : Boundary) (w : ℕ) → Inv p (plusSum ts) (minusSum ts) b w
+      → (v : View (total (cutPlus w) ts + boundaryPlus b w) (total (cutMinus w) ts + boundaryMinus b w))
       → Right p (plusSum ts) (minusSum ts) (decide p b w (greatest (lostOf w) ts) (record { neg = v .s; mag = v .k }) (size (v .k)))
   unfolding lookAt
   decide-right noBoundary w h v =
       free-right p w (plusSum ts) (minusSum ts) _ _ (total (restPlus w) ts) (total (restMinus w) ts) hp
-      (bound-plus p w noBoundary (plusSum ts) (minusSum ts) tt _ _ (plus-split w ts)) (bound-minus p w noBoundary (plusSum ts) (minusSum ts) tt _ _ (minus-split w ts))
+      (bound-plus p w noBoundary (plusSum ts) (minusSum ts) tt _ _ (plus-split w ts))
+      (bound-minus p w noBoundary (plusSum ts) (minusSum ts) tt _ _ (minus-split w ts))
       (v .s) (v .k) (v .sum) (greatest (lostOf w) ts) (rests w) (losses-le w ts) (fair-look ts good w .high)
   decide-right (boundary z m e) w h v =
       near-right p w (plusSum ts) (minusSum ts) _ _ (total (restPlus w) ts) (total (restMinus w) ts) z m e (h .placed)
-      (bound-plus p w (boundary z m e) (plusSum ts) (minusSum ts) (h .placed) _ _ (plus-split w ts)) (bound-minus p w (boundary z m e) (plusSum ts) (minusSum ts) (h .placed) _ _ (minus-split w ts))
+      (bound-plus p w (boundary z m e) (plusSum ts) (minusSum ts) (h .placed) _ _ (plus-split w ts))
+      (bound-minus p w (boundary z m e) (plusSum ts) (minusSum ts) (h .placed) _ _ (minus-split w ts))
       (v .s) (v .k) (v .sum) (greatest (lostOf w) ts) (rests w) (losses-le w ts) (fair-look ts good w .high)
 
   pub pass-right : (b : Boundary) (w : ℕ) → Inv p (plusSum ts) (minusSum ts) b w → Right p (plusSum ts) (minusSum ts) (pass p b w (lookAt ts w))
   unfolding pass lookAt
   pass-right b w h =
       let v = view (total (cutPlus w) ts + boundaryPlus b w) (total (cutMinus w) ts + boundaryMinus b w) in
-      subst (λ (x : Signed). Right p (plusSum ts) (minusSum ts) (decide p b w (greatest (lostOf w) ts) x (size (x .mag)))) (sym (sum-is b w h ∙ v .is)) (decide-right b w h v)
+      subst (λ (x : Signed). Right p (plusSum ts) (minusSum ts) (decide p b w (greatest (lostOf w) ts) x (size (x .mag)))) (sym (sum-is b w h ∙ v .is))
+      (decide-right b w h v)
 
   run-right : (fuel : ℕ) (b : Boundary) (w : ℕ) → Inv p (plusSum ts) (minusSum ts) b w → Finished (run (lookAt ts) p fuel b w .outcome)
       → Alike p (settled (run (lookAt ts) p fuel b w .outcome)) (difference (plusSum ts) (minusSum ts))
@@ -138,7 +145,9 @@ module _ (p : ℕ) (ts : List Term) (hp : p ≤ 64) (good : AllGood ts) (len : l
       all = mags-le ts good
 
       few : length ts * 2 ^ suc (topOf ts) ≤ 2 ^ (topOf ts - 702 + 765)
-      few = le-trans (mul-le-mul-right (2 ^ suc (topOf ts)) len) (subst (λ (x : ℕ). x ≤ 2 ^ (topOf ts - 702 + 765)) (pow-add 2 28 (suc (topOf ts))) (pow-mono place))
+      few =
+          le-trans (mul-le-mul-right (2 ^ suc (topOf ts)) len)
+          (subst (λ (x : ℕ). x ≤ 2 ^ (topOf ts - 702 + 765)) (pow-add 2 28 (suc (topOf ts))) (pow-mono place))
         where
           place : 28 + suc (topOf ts) ≤ topOf ts - 702 + 765
           place = omega arith

@@ -10,9 +10,11 @@ use Rattle.totals_spec.specs.Basics.{any, isSet}
 use Rattle.totals_spec.specs.Format.{Format, digits, grid}
 use Rattle.totals_spec.specs.Settings.{Settings, Summand, value, magnitude, square, summandOf}
 use Rattle.totals_spec.specs.Decode.{Unpacked, zeroOf, finite, infinity, nan, decode, operand, isSubnormal, signBit}
-use Rattle.totals_spec.specs.Terms.{Item, nanItem, invalidItem, infinite, zeroItem, term, Term, item, itemOf, pairItem, pairOf, isNanItem, isInvalid, isInfinite, terms, exactSum}
+use Rattle.totals_spec.specs.Terms.{Item, nanItem, invalidItem, infinite, zeroItem, term, Term, item, itemOf, pairItem, pairOf, isNanItem, isInvalid}
+use Rattle.totals_spec.specs.Terms.{isInfinite, terms, exactSum}
 use Rattle.totals_spec.specs.Chain.{chain}
-use Rattle.totals_spec.specs.Totals.{sumRounded, reported, towardsNegative, finiteTotal, withoutNan, accepted, sumAccepted, sumAnswer, pairs, dotAccepted, dotAnswer}
+use Rattle.totals_spec.specs.Totals.{sumRounded, reported, towardsNegative, finiteTotal, withoutNan, accepted, sumAccepted, sumAnswer, pairs, dotAccepted}
+use Rattle.totals_spec.specs.Totals.{dotAnswer}
 use Rattle.totals_spec.specs.Promises.{isNumber, AllFinite, Sum-exact, Dot-exact}
 use Rattle.totals_spec.proofs.Order.{dot-lengths}
 

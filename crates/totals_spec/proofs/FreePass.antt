@@ -16,7 +16,8 @@ use Rattle.totals_spec.specs.Chain.{noBoundary, boundary, zeroSum, exact
 use Rattle.totals_spec.proofs.Alike.{diff-plus, oriented-is}
 use Rattle.totals_spec.specs.Settled.{settled}
 use Rattle.totals_spec.proofs.Margin.{Close, terms-max, parts, unit-parts, Inside, final, near-low, near-high, next-close}
-use Rattle.totals_spec.proofs.Invariant.{Right, oriented-sum, sides, rests-oriented, close-oriented, eq-oriented, bound-oriented, close-mono, between-of, rests-unit}
+use Rattle.totals_spec.proofs.Invariant.{Right, oriented-sum, sides, rests-oriented, close-oriented, eq-oriented, bound-oriented, close-mono, between-of}
+use Rattle.totals_spec.proofs.Invariant.{rests-unit}
 
 -- ---- a pass with no boundary
 
@@ -108,7 +109,8 @@ module _ (p w P N a c RA RC : ℕ) (hp : p ≤ 64) (eP : P ≡ a * 2 ^ w + RA) (
     free-near : (q : ℕ) → 2 ^ p ≤ q → Close (cond s N P) (cond s P N + q * 2 ^ (w + (n - p - 1))) (3 * (2 ^ 64 * 2 ^ w))
         → Right p P N (next (boundary s q (w + (n - p - 1))) (w - 701))
     free-near q qp h = record {
-      within = bound-oriented s P N q (w + (n - p - 1)) (3 * 2 ^ (w - 701 + 765)) (subst (λ (x : ℕ). Close (cond s N P) (cond s P N + q * 2 ^ (w + (n - p - 1))) (3 * x)) step h);
+      within = bound-oriented s P N q (w + (n - p - 1)) (3 * 2 ^ (w - 701 + 765))
+          (subst (λ (x : ℕ). Close (cond s N P) (cond s P N + q * 2 ^ (w + (n - p - 1))) (3 * x)) step h);
       placed = record {
         far = omega arith;
         deep = omega arith;
@@ -134,20 +136,26 @@ module _ (p w P N a c RA RC : ℕ) (hp : p ≤ 64) (eP : P ≡ a * 2 ^ w + RA) (
 
     free-settle : Right p P N (finalOrBoundary w (record { neg = s; mag = k }) (n - p - 1) (k % 2 ^ (n - p - 1)))
     free-settle =
-        go (leb (2 ^ 65) d) (leb d (2 ^ (n - p - 1) - 2 ^ 65)) (leb→le (2 ^ 65) d) (nleb→lt (2 ^ 65) d) (leb→le d (2 ^ (n - p - 1) - 2 ^ 65)) (nleb→lt d (2 ^ (n - p - 1) - 2 ^ 65))
+        go (leb (2 ^ 65) d) (leb d (2 ^ (n - p - 1) - 2 ^ 65)) (leb→le (2 ^ 65) d) (nleb→lt (2 ^ 65) d) (leb→le d (2 ^ (n - p - 1) - 2 ^ 65))
+        (nleb→lt d (2 ^ (n - p - 1) - 2 ^ 65))
       where
         d : ℕ
         d = k % 2 ^ (n - p - 1)
 
         near-which : k % 2 ^ (n - p - 1) < 2 ^ 65 ⊎ (2 ^ (n - p - 1) - 2 ^ 65 < k % 2 ^ (n - p - 1))
-            → Right p P N (next (boundary s (cond (ltb (2 ^ (n - p - 1) - 2 ^ 65) (k % 2 ^ (n - p - 1))) (suc (k / 2 ^ (n - p - 1))) (k / 2 ^ (n - p - 1))) (w + (n - p - 1))) (w - 701))
+            → Right p P N
+            (next (boundary s (cond (ltb (2 ^ (n - p - 1) - 2 ^ 65) (k % 2 ^ (n - p - 1))) (suc (k / 2 ^ (n - p - 1))) (k / 2 ^ (n - p - 1)))
+                (w + (n - p - 1))) (w - 701))
         near-which o = pick (ltb (2 ^ (n - p - 1) - 2 ^ 65) (k % 2 ^ (n - p - 1))) (ltb→lt _ _) (nltb→le _ _) o
           where
             at-low : k % 2 ^ (n - p - 1) < 2 ^ 65 → Right p P N (next (boundary s (k / 2 ^ (n - p - 1)) (w + (n - p - 1))) (w - 701))
-            at-low l = free-near (k / 2 ^ (n - p - 1)) quotient-big (near-low w k (cond s N P) (cond s P N) (cond s RC RA) (cond s RA RC) sided (n - p - 1) RO l)
+            at-low l =
+                free-near (k / 2 ^ (n - p - 1)) quotient-big (near-low w k (cond s N P) (cond s P N) (cond s RC RA) (cond s RA RC) sided (n - p - 1) RO l)
 
             at-high : 2 ^ (n - p - 1) - 2 ^ 65 < k % 2 ^ (n - p - 1) → Right p P N (next (boundary s (suc (k / 2 ^ (n - p - 1))) (w + (n - p - 1))) (w - 701))
-            at-high l = free-near (suc (k / 2 ^ (n - p - 1))) (omega (arith, quotient-big)) (near-high w k (cond s N P) (cond s P N) (cond s RC RA) (cond s RA RC) sided (n - p - 1) RO l)
+            at-high l =
+                free-near (suc (k / 2 ^ (n - p - 1))) (omega (arith, quotient-big))
+                (near-high w k (cond s N P) (cond s P N) (cond s RC RA) (cond s RA RC) sided (n - p - 1) RO l)
 
             pick : (b : Bool) → (T b → 2 ^ (n - p - 1) - 2 ^ 65 < k % 2 ^ (n - p - 1)) → (T (not b) → k % 2 ^ (n - p - 1) ≤ 2 ^ (n - p - 1) - 2 ^ 65)
                 → k % 2 ^ (n - p - 1) < 2 ^ 65 ⊎ (2 ^ (n - p - 1) - 2 ^ 65 < k % 2 ^ (n - p - 1))
@@ -158,18 +166,24 @@ module _ (p w P N a c RA RC : ℕ) (hp : p ≤ 64) (eP : P ≡ a * 2 ^ w + RA) (
 
         go : (x y : Bool) → (T x → 2 ^ 65 ≤ k % 2 ^ (n - p - 1)) → (T (not x) → k % 2 ^ (n - p - 1) < 2 ^ 65)
             → (T y → k % 2 ^ (n - p - 1) ≤ 2 ^ (n - p - 1) - 2 ^ 65) → (T (not y) → 2 ^ (n - p - 1) - 2 ^ 65 < k % 2 ^ (n - p - 1))
-            → Right p P N (cond (x && y) (done (nearly s k w)) (next (boundary s (cond (ltb (2 ^ (n - p - 1) - 2 ^ 65) (k % 2 ^ (n - p - 1))) (suc (k / 2 ^ (n - p - 1))) (k / 2 ^ (n - p - 1))) (w + (n - p - 1))) (w - 701)))
+            → Right p P N
+            (cond (x && y) (done (nearly s k w))
+                (next (boundary s (cond (ltb (2 ^ (n - p - 1) - 2 ^ 65) (k % 2 ^ (n - p - 1))) (suc (k / 2 ^ (n - p - 1))) (k / 2 ^ (n - p - 1)))
+                (w + (n - p - 1))) (w - 701)))
         go true true h1 h2 h3 h4 = free-final (h1 tt) (h3 tt)
         go true false h1 h2 h3 h4 = near-which (inr (h4 tt))
         go false y h1 h2 h3 h4 = near-which (inl (h2 tt))
 
-  pub free-right : (lost : ℕ) → RA + RC ≤ terms-max * (2 ^ lost - 1) → lost ≤ w → (0 < lost → room < w) → Right p P N (decide p noBoundary w lost (record { neg = s; mag = k }) (size k))
+  pub free-right : (lost : ℕ) → RA + RC ≤ terms-max * (2 ^ lost - 1) → lost ≤ w → (0 < lost → room < w)
+      → Right p P N (decide p noBoundary w lost (record { neg = s; mag = k }) (size k))
   unfolding decide
   free-right zero R l h = free-exact R
   free-right (suc lost) R l h = go (leb (p + 70) (size k)) (leb→le (p + 70) (size k))
     where
       go : (b : Bool) → (T b → p + 70 ≤ size k)
-          → Right p P N (cond b (finalOrBoundary w (record { neg = s; mag = k }) (size k - p - 1) (k % 2 ^ (size k - p - 1))) (next noBoundary (nextEdge w (size k) (suc lost))))
+          → Right p P N
+          (cond b (finalOrBoundary w (record { neg = s; mag = k }) (size k - p - 1) (k % 2 ^ (size k - p - 1)))
+              (next noBoundary (nextEdge w (size k) (suc lost))))
       go true g = free-settle (rests-unit w (suc lost) (RA + RC) l R) (h (omega arith)) (size k) refl (g tt)
       go false g = record {
         within = close-oriented s P N (3 * 2 ^ (nextEdge w (size k) (suc lost) + 765))

@@ -15,8 +15,10 @@ use lib.Ieee.Digits.{size-lt}
 use Rattle.totals_spec.specs.Basics.{picked, keep, isSet}
 use Rattle.totals_spec.specs.Format.{Format, Kind, ieee, noInf, fnuz, finiteOnly, kindOf, fractionBits, room}
 use Rattle.totals_spec.specs.Settings.{Settings, Summand, value, magnitude, square}
-use Rattle.totals_spec.specs.Decode.{Unpacked, zeroOf, finite, infinity, nan, number, topField, ones, decodeFields, decode, signBit, fieldOf, fractionOf, isSubnormal, operand}
-use Rattle.totals_spec.specs.Terms.{Term, single, product, Item, nanItem, invalidItem, infinite, zeroItem, term, itemOf, item, pairOf, pairItem, unlike, termOf, terms}
+use Rattle.totals_spec.specs.Decode.{Unpacked, zeroOf, finite, infinity, nan, number, topField, ones, decodeFields, decode, signBit, fieldOf, fractionOf}
+use Rattle.totals_spec.specs.Decode.{isSubnormal, operand}
+use Rattle.totals_spec.specs.Terms.{Term, single, product, Item, nanItem, invalidItem, infinite, zeroItem, term, itemOf, item, pairOf, pairItem, unlike}
+use Rattle.totals_spec.specs.Terms.{termOf, terms}
 
 -- ---- a decoded finite number m × 2^k: m is above 0 and has at most p bits, and k is at most the exponent range
 
@@ -101,7 +103,8 @@ good-product : (s : Bool) (k m j n : ℕ) → 0 < m → 0 < n → Good (product 
 unfolding product
 good-product s k m j n h g = record {
   positive = mul-pos (mul-pos h g) (pow-pos (k + j + room));
-  fits = subst (λ (x : ℕ). m * n * 2 ^ (k + j + room) < 2 ^ x) (sym (top-two (size m) (size n) k j room room-pos)) (shl-lt (size m + size n) (k + j + room) (mul-lt-pow m n));
+  fits = subst (λ (x : ℕ). m * n * 2 ^ (k + j + room) < 2 ^ x) (sym (top-two (size m) (size n) k j room room-pos))
+      (shl-lt (size m + size n) (k + j + room) (mul-lt-pow m n));
   units = m * n * 2 ^ (k + j);
   whole = ap (λ (x : ℕ). m * n * x) (pow-add 2 (k + j) room) ∙ sym (mul-assoc (m * n) (2 ^ (k + j)) (2 ^ room));
 }
@@ -154,7 +157,8 @@ good-keep (term t) ts g h = (g, h)
 pub good-terms : (f : Format) (c : Settings) (u : Summand) (l : List ℕ) → AllGood (terms (map (item f c u) l))
 unfolding item
 good-terms f c u [] = tt
-good-terms f c u (b ∷ l) = good-keep (itemOf u (operand f c b)) (terms (map (item f c u) l)) (good-itemOf f u (operand f c b) (decoded-operand f c b)) (good-terms f c u l)
+good-terms f c u (b ∷ l) =
+    good-keep (itemOf u (operand f c b)) (terms (map (item f c u) l)) (good-itemOf f u (operand f c b) (decoded-operand f c b)) (good-terms f c u l)
 
 pub good-pairs : (f : Format) (c : Settings) (l : List (ℕ × ℕ)) → AllGood (terms (map (pairItem f c) l))
 unfolding pairItem

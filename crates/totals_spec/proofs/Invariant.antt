@@ -89,7 +89,8 @@ eq-oriented true A C h = sym h
 eq-oriented false A C h = h
 
 -- the sides less a boundary of S's sign
-pub bound-oriented : (s : Bool) (P N m e K : ℕ) → Close (cond s N P) (cond s P N + m * 2 ^ e) K → Close (withPlus (boundary s m e) P) (withMinus (boundary s m e) N) K
+pub bound-oriented : (s : Bool) (P N m e K : ℕ) → Close (cond s N P) (cond s P N + m * 2 ^ e) K
+    → Close (withPlus (boundary s m e) P) (withMinus (boundary s m e) N) K
 bound-oriented true P N m e K h = close-swap N (P + m * 2 ^ e) K h
 bound-oriented false P N m e K h = h
 

@@ -14,7 +14,8 @@ use lib.Ieee.Digits.{size-lt, size-reaches, size-le}
 use Rattle.totals_spec.specs.Basics.{Signed}
 use Rattle.totals_spec.specs.Format.{room}
 use Rattle.totals_spec.specs.Terms.{Term, topOf}
-use Rattle.totals_spec.specs.Chain.{Look, lookAt, half, residue, signedOf, wrapped, Boundary, noBoundary, boundary, Outcome, zeroSum, exactly, nearly, beside, unfinished, sideOf, Step, done, next, nextEdge, finalOrBoundary, decide, sumOf, pass}
+use Rattle.totals_spec.specs.Chain.{Look, lookAt, half, residue, signedOf, wrapped, Boundary, noBoundary, boundary, Outcome, zeroSum, exactly, nearly}
+use Rattle.totals_spec.specs.Chain.{beside, unfinished, sideOf, Step, done, next, nextEdge, finalOrBoundary, decide, sumOf, pass}
 use Rattle.totals_spec.proofs.Good.{AllGood}
 use Rattle.totals_spec.proofs.Limit.{fair-look, lost-deep}
 use Rattle.totals_spec.proofs.Edges.{top-deep}
@@ -51,7 +52,8 @@ signed-le x h = go (ltb x half) (ltb→lt x half) (nltb→le x half)
     back : half ≤ x → half + half - x ≤ half
     back g = omega arith
 
-    go : (b : Bool) → (T b → x < half) → (T (not b) → half ≤ x) → (cond {A = Signed} b (record { neg = false; mag = x }) (record { neg = true; mag = half + half - x })) .mag ≤ half
+    go : (b : Bool) → (T b → x < half) → (T (not b) → half ≤ x)
+        → (cond {A = Signed} b (record { neg = false; mag = x }) (record { neg = true; mag = half + half - x })) .mag ≤ half
     go true k g = le-of-lt (k tt)
     go false k g = back (g tt)
 
@@ -75,7 +77,9 @@ module _ (p top w : ℕ) (x : Signed) (low : 322 ≤ w) (high : w ≤ top) where
   -- the quotient by 2^r, r = n − p − 1, has p + 1 bits
   module _ (n : ℕ) (xn : size (x .mag) ≡ n) (big : p + 70 ≤ n) where
     quotient-ge : 2 ^ p ≤ x .mag / 2 ^ (n - p - 1)
-    quotient-ge = le-div-iff-mul-le (pow-pos (n - p - 1)) .1 (subst (λ (z : ℕ). z ≤ x .mag) e (size-reaches (x .mag) (n - 1) (subst (λ (z : ℕ). n - 1 < z) (sym xn) less)))
+    quotient-ge =
+        le-div-iff-mul-le (pow-pos (n - p - 1)) .1
+        (subst (λ (z : ℕ). z ≤ x .mag) e (size-reaches (x .mag) (n - 1) (subst (λ (z : ℕ). n - 1 < z) (sym xn) less)))
       where
         less : n - 1 < n
         less = omega arith
@@ -95,14 +99,19 @@ module _ (p top w : ℕ) (x : Signed) (low : 322 ≤ w) (high : w ≤ top) where
         e : 2 ^ n ≡ 2 ^ suc p * 2 ^ (n - p - 1)
         e = ap (λ (z : ℕ). 2 ^ z) place ∙ pow-add 2 (suc p) (n - p - 1)
 
-    whole-le : (up : Bool) → (2 ^ p ≤ cond up (suc (x .mag / 2 ^ (n - p - 1))) (x .mag / 2 ^ (n - p - 1))) × (cond up (suc (x .mag / 2 ^ (n - p - 1))) (x .mag / 2 ^ (n - p - 1)) ≤ 2 ^ suc p)
+    whole-le : (up : Bool) → (2 ^ p ≤ cond up (suc (x .mag / 2 ^ (n - p - 1))) (x .mag / 2 ^ (n - p - 1)))
+        × (cond up (suc (x .mag / 2 ^ (n - p - 1))) (x .mag / 2 ^ (n - p - 1)) ≤ 2 ^ suc p)
     whole-le true = (omega (arith, quotient-ge), quotient-lt)
     whole-le false = (quotient-ge, le-of-lt quotient-lt)
 
     kept-final : n ≤ 768 → 1024 < w → (d : ℕ) → KeptStep p top (finalOrBoundary w x (n - p - 1) d)
     kept-final small deep d = go (leb (2 ^ 65) d && leb d (2 ^ (n - p - 1) - 2 ^ 65))
       where
-        go : (b : Bool) → KeptStep p top (cond b (done (nearly (x .neg) (x .mag) w)) (next (boundary (x .neg) (cond (ltb (2 ^ (n - p - 1) - 2 ^ 65) d) (suc (x .mag / 2 ^ (n - p - 1))) (x .mag / 2 ^ (n - p - 1))) (w + (n - p - 1))) (w - 701)))
+        go : (b : Bool)
+            → KeptStep p top
+            (cond b (done (nearly (x .neg) (x .mag) w))
+                (next (boundary (x .neg) (cond (ltb (2 ^ (n - p - 1) - 2 ^ 65) d) (suc (x .mag / 2 ^ (n - p - 1))) (x .mag / 2 ^ (n - p - 1)))
+                (w + (n - p - 1))) (w - 701)))
         go true = (size-reaches (x .mag) (p + 69) (subst (λ (z : ℕ). p + 69 < z) (sym xn) (omega arith)), low, high)
         go false =
             let q = whole-le (ltb (2 ^ (n - p - 1) - 2 ^ 65) d) in
@@ -125,7 +134,9 @@ module _ (p top w : ℕ) (x : Signed) (low : 322 ≤ w) (high : w ≤ top) where
       deep = d (omega arith)
 
       go : (b : Bool) → (T b → p + 70 ≤ size (x .mag)) → (T (not b) → size (x .mag) < p + 70)
-          → KeptStep p top (cond b (finalOrBoundary w x (size (x .mag) - p - 1) (x .mag % 2 ^ (size (x .mag) - p - 1))) (next noBoundary (nextEdge w (size (x .mag)) (suc lost))))
+          → KeptStep p top
+          (cond b (finalOrBoundary w x (size (x .mag) - p - 1) (x .mag % 2 ^ (size (x .mag) - p - 1)))
+              (next noBoundary (nextEdge w (size (x .mag)) (suc lost))))
       go true g f = kept-final (size (x .mag)) refl (g tt) s (omega (arith, deep, l)) (x .mag % 2 ^ (size (x .mag) - p - 1))
       go false g f = kept-lower noBoundary (size (x .mag)) (suc lost) tt hp (f tt) deep l
   kept-decide (boundary z m e) zero hp k s l d = k
@@ -144,7 +155,8 @@ module _ (p top w : ℕ) (x : Signed) (low : 322 ≤ w) (high : w ≤ top) where
 pub kept-pass : (p : ℕ) (ts : List Term) (b : Boundary) (w : ℕ) → p ≤ 64 → AllGood ts → Kept p (topOf ts) b w → KeptStep p (topOf ts) (pass p b w (lookAt ts w))
 unfolding pass
 kept-pass p ts b w hp g k =
-    kept-decide p (topOf ts) w (sumOf b w (lookAt ts w)) (k .low) (k .high) b (lookAt ts w .lost) hp (k .bound) (sum-size b w (lookAt ts w)) (fair-look ts g w .below) (lost-deep ts w g)
+    kept-decide p (topOf ts) w (sumOf b w (lookAt ts w)) (k .low) (k .high) b (lookAt ts w .lost) hp (k .bound) (sum-size b w (lookAt ts w))
+    (fair-look ts g w .below) (lost-deep ts w g)
 
 -- the first edge
 pub kept-start : (p : ℕ) (ts : List Term) → AllGood ts → 0 < length ts → Kept p (topOf ts) noBoundary (topOf ts - 702)

@@ -4,7 +4,8 @@ use mathlib.Core.Path.{_≡_, refl, sym, ap, ap₂, _∙_}
 use mathlib.Core.Bool.{Bool, true, false, not, _&&_, cond, true≢false}
 use mathlib.Core.List.{List, [], _∷_}
 use Prim.Native.Nat.{ℕ, zero, suc, _+_, _-_, _*_, _/_, _%_, _^_, _≤_, _<_, max, min, suc-le-suc}
-use native.Mathlib.Nat.{le-refl, lt-of-lt-of-le, not-le-of-lt, lt-div-mul-add, max-le, suc-mul, mul-one, mul-le-mul-left, max-zero, not-suc-le-zero, le-of-suc-le-suc, lt-of-not-le}
+use native.Mathlib.Nat.{le-refl, lt-of-lt-of-le, not-le-of-lt, lt-div-mul-add, max-le, suc-mul, mul-one, mul-le-mul-left, max-zero, not-suc-le-zero}
+use native.Mathlib.Nat.{le-of-suc-le-suc, lt-of-not-le}
 use native.Mathlib.Numerals.{one-add}
 use native.Mathlib.Omega.{arith}
 use lib.Dec.{T, leb, ltb, eqb, ltb→lt, nleb→lt}
@@ -20,7 +21,8 @@ use Rattle.totals_spec.specs.Terms.{Term, topOf}
 use Rattle.totals_spec.proofs.Good.{AllGood}
 use Rattle.totals_spec.specs.Limit.{lowOf, bottomOf, ceilDiv}
 use Rattle.totals_spec.specs.Promises.{Finished}
-use Rattle.totals_spec.specs.Chain.{Look, lostEnd, lostOf, lookAt, Boundary, noBoundary, boundary, zeroSum, exactly, nearly, beside, Step, done, next, nextEdge, finalOrBoundary, decide, sumOf, sideOf, pass, follow, run, chain}
+use Rattle.totals_spec.specs.Chain.{Look, lostEnd, lostOf, lookAt, Boundary, noBoundary, boundary, zeroSum, exactly, nearly, beside, Step, done, next}
+use Rattle.totals_spec.specs.Chain.{nextEdge, finalOrBoundary, decide, sumOf, sideOf, pass, follow, run, chain}
 
 -- ---- the lost bit lies below the edge, and nothing is lost at B or below it
 
@@ -44,7 +46,8 @@ losses-le w (t ∷ ts) = max-le (lost-le w (t .mag)) (losses-le w ts)
 losses-none : (w b : ℕ) (ts : List Term) → AllGood ts → w ≤ least b lowOf ts → greatest (lostOf w) ts ≡ 0
 losses-none w b [] g h = refl
 losses-none w b (t ∷ ts) g h =
-    ap₂ max (lost-none w (t .mag) (t .mag / 2 ^ lowBit (t .mag)) (lowBit (t .mag)) (sym (low-divides (t .mag))) (le-of-min-left w (lowOf t) (least b lowOf ts) h) (g .0 .positive))
+    ap₂ max (lost-none w (t .mag) (t .mag / 2 ^ lowBit (t .mag)) (lowBit (t .mag)) (sym (low-divides (t .mag)))
+        (le-of-min-left w (lowOf t) (least b lowOf ts) h) (g .0 .positive))
     (losses-none w b ts (g .1) (le-of-min-right w (lowOf t) (least b lowOf ts) h))
     ∙ max-zero 0
   where
@@ -76,7 +79,8 @@ lost-deep-one w m q e k h = go (ltb m (2 ^ w)) (eqb (m % 2 ^ w) 0) refl h
 
 losses-deep : (w : ℕ) (ts : List Term) → AllGood ts → 0 < greatest (lostOf w) ts → room < greatest (lostOf w) ts
 losses-deep w [] g h = absurd (not-suc-le-zero h)
-losses-deep w (t ∷ ts) g h = deep-max (lostOf w t) (greatest (lostOf w) ts) (lost-deep-one w (t .mag) (g .0 .units) (g .0 .whole) (g .0 .positive)) (losses-deep w ts (g .1)) h
+losses-deep w (t ∷ ts) g h =
+    deep-max (lostOf w t) (greatest (lostOf w) ts) (lost-deep-one w (t .mag) (g .0 .units) (g .0 .whole) (g .0 .positive)) (losses-deep w ts (g .1)) h
 
 pub lost-deep : (ts : List Term) (w : ℕ) → AllGood ts → 0 < lookAt ts w .lost → room < lookAt ts w .lost
 unfolding lookAt
@@ -107,7 +111,10 @@ module _ (p w : ℕ) (hp : p ≤ 64) where
   goes-settle : (lost : ℕ) (x : Signed) (r d : ℕ) → room < w → GoesOn p w (suc lost) (finalOrBoundary w x r d)
   goes-settle lost x r d h = go (leb (2 ^ 65) d && leb d (2 ^ r - 2 ^ 65))
     where
-      go : (b : Bool) → GoesOn p w (suc lost) (cond b (done (nearly (x .neg) (x .mag) w)) (next (boundary (x .neg) (cond (ltb (2 ^ r - 2 ^ 65) d) (suc (x .mag / 2 ^ r)) (x .mag / 2 ^ r)) (w + r)) (w - 701)))
+      go : (b : Bool)
+          → GoesOn p w (suc lost)
+          (cond b (done (nearly (x .neg) (x .mag) w))
+              (next (boundary (x .neg) (cond (ltb (2 ^ r - 2 ^ 65) d) (suc (x .mag / 2 ^ r)) (x .mag / 2 ^ r)) (w + r)) (w - 701)))
       go true = tt
       go false = (omega arith, down-701 h)
 
@@ -123,7 +130,8 @@ module _ (p w : ℕ) (hp : p ≤ 64) where
       r : room < w
       r = h (omega arith)
 
-      go : (b : Bool) → (T (not b) → n < p + 70) → GoesOn p w (suc lost) (cond b (finalOrBoundary w x (n - p - 1) (x .mag % 2 ^ (n - p - 1))) (next noBoundary (nextEdge w n (suc lost))))
+      go : (b : Bool) → (T (not b) → n < p + 70)
+          → GoesOn p w (suc lost) (cond b (finalOrBoundary w x (n - p - 1) (x .mag % 2 ^ (n - p - 1))) (next noBoundary (nextEdge w n (suc lost))))
       go true e = goes-settle lost x (n - p - 1) (x .mag % 2 ^ (n - p - 1)) r
       go false e = (omega arith, down-lower n (suc lost) r g (e tt))
   goes-on (boundary s m q) zero x n g h = tt
@@ -132,7 +140,8 @@ module _ (p w : ℕ) (hp : p ≤ 64) where
       r : room < w
       r = h (omega arith)
 
-      go : (b : Bool) → (T (not b) → n < 66) → GoesOn p w (suc lost) (cond b (done (beside (sideOf s x) s m q)) (next (boundary s m q) (nextEdge w n (suc lost))))
+      go : (b : Bool) → (T (not b) → n < 66)
+          → GoesOn p w (suc lost) (cond b (done (beside (sideOf s x) s m q)) (next (boundary s m q) (nextEdge w n (suc lost))))
       go true e = tt
       go false e = (omega arith, down-near n (suc lost) r g (e tt))
 
@@ -153,12 +162,14 @@ ends-cond false s t h k = k
 decide-ends : (p : ℕ) (b : Boundary) (w lost : ℕ) (x : Signed) (n : ℕ) → Ends (decide p b w lost x n)
 unfolding decide
 decide-ends p noBoundary w zero x n = ends-cond (eqb (x .mag) 0) (done zeroSum) (done (exactly (x .neg) (x .mag) w)) tt tt
-decide-ends p noBoundary w (suc lost) x n = ends-cond (leb (p + 70) n) _ (next noBoundary (nextEdge w n (suc lost))) (settles (n - p - 1) (x .mag % 2 ^ (n - p - 1))) tt
+decide-ends p noBoundary w (suc lost) x n =
+    ends-cond (leb (p + 70) n) _ (next noBoundary (nextEdge w n (suc lost))) (settles (n - p - 1) (x .mag % 2 ^ (n - p - 1))) tt
   where
     settles : (r d : ℕ) → Ends (finalOrBoundary w x r d)
     settles r d = ends-cond (leb (2 ^ 65) d && leb d (2 ^ r - 2 ^ 65)) (done (nearly (x .neg) (x .mag) w)) _ tt tt
 decide-ends p (boundary s m e) w zero x n = tt
-decide-ends p (boundary s m e) w (suc lost) x n = ends-cond (leb 66 n) (done (beside (sideOf s x) s m e)) (next (boundary s m e) (nextEdge w n (suc lost))) tt tt
+decide-ends p (boundary s m e) w (suc lost) x n =
+    ends-cond (leb 66 n) (done (beside (sideOf s x) s m e)) (next (boundary s m e) (nextEdge w n (suc lost))) tt tt
 
 module _ (look : ℕ → Look) (p B : ℕ) (hp : p ≤ 64) (fair : (w : ℕ) → Fair B w (look w)) where
   -- where w is at most j falls above B, at most j + 1 passes
@@ -200,7 +211,8 @@ module _ (look : ℕ → Look) (p B : ℕ) (hp : p ≤ 64) (fair : (w : ℕ) →
         where
           flat : w ≤ B
           flat = omega arith
-  enough (suc fuel) (suc j) b w h k = go (pass p b w (look w)) (pass-goes-on p w hp b B (look w) (fair w)) (pass-finishes b w (look w)) (λ b′ v f. enough fuel j b′ v f (le-of-suc-le-suc k))
+  enough (suc fuel) (suc j) b w h k =
+      go (pass p b w (look w)) (pass-goes-on p w hp b B (look w) (fair w)) (pass-finishes b w (look w)) (λ b′ v f. enough fuel j b′ v f (le-of-suc-le-suc k))
     where
       go : (s : Step) → GoesOn p w (look w .lost) s → Ends s
           → ((b : Boundary) (w : ℕ) → w ≤ B + j * (697 - p) → Finished (run look p fuel b w .outcome))

@@ -3,7 +3,8 @@
 -- most 2^28 terms.
 use mathlib.Core.Path.{_≡_, refl, sym, ap, _∙_, subst}
 use Prim.Native.Nat.{ℕ, suc, _+_, _-_, _*_, _/_, _%_, _^_, _≤_, _<_}
-use native.Mathlib.Nat.{mul-le-mul-right, mul-lt-mul-of-pos-right, mul-assoc, mul-comm, add-mul, suc-mul, div-add-mod', mod-lt, lt-of-lt-of-le, pow-succ', lt-of-mul-lt-mul-right}
+use native.Mathlib.Nat.{mul-le-mul-right, mul-lt-mul-of-pos-right, mul-assoc, mul-comm, add-mul, suc-mul, div-add-mod', mod-lt, lt-of-lt-of-le, pow-succ'}
+use native.Mathlib.Nat.{lt-of-mul-lt-mul-right}
 use native.Mathlib.Omega.{arith}
 use lib.Pow.{pow-add, pow-pos, pow-mono}
 
@@ -22,7 +23,8 @@ terms-max = 268435456
 pub parts : (w k r : ℕ) → k * 2 ^ w ≡ k / 2 ^ r * 2 ^ (w + r) + k % 2 ^ r * 2 ^ w
 parts w k r =
     ap (λ (x : ℕ). x * 2 ^ w) (sym (div-add-mod' k (2 ^ r))) ∙ add-mul (k / 2 ^ r * 2 ^ r) (k % 2 ^ r) (2 ^ w)
-    ∙ ap (λ (x : ℕ). x + k % 2 ^ r * 2 ^ w) (mul-assoc (k / 2 ^ r) (2 ^ r) (2 ^ w) ∙ ap (λ (x : ℕ). k / 2 ^ r * x) (mul-comm (2 ^ r) (2 ^ w) ∙ sym (pow-add 2 w r)))
+    ∙ ap (λ (x : ℕ). x + k % 2 ^ r * 2 ^ w)
+    (mul-assoc (k / 2 ^ r) (2 ^ r) (2 ^ w) ∙ ap (λ (x : ℕ). k / 2 ^ r * x) (mul-comm (2 ^ r) (2 ^ w) ∙ sym (pow-add 2 w r)))
 
 pub unit-parts : (w r : ℕ) → 2 ^ r * 2 ^ w ≡ 2 ^ (w + r)
 unit-parts w r = mul-comm (2 ^ r) (2 ^ w) ∙ sym (pow-add 2 w r)
@@ -51,7 +53,9 @@ module _ (w k hi lo RH RL : ℕ) (H : hi + RL ≡ lo + k * 2 ^ w + RH) where
       least = mul-le-mul-right (2 ^ w) l
 
       most : k % 2 ^ r * 2 ^ w + 2 ^ 65 * 2 ^ w ≤ 2 ^ (w + r)
-      most = subst (λ (x : ℕ). k % 2 ^ r * 2 ^ w + 2 ^ 65 * 2 ^ w ≤ x) (unit-parts w r) (subst (λ (x : ℕ). x ≤ 2 ^ r * 2 ^ w) (add-mul (k % 2 ^ r) (2 ^ 65) (2 ^ w)) (mul-le-mul-right (2 ^ w) room-above))
+      most =
+          subst (λ (x : ℕ). k % 2 ^ r * 2 ^ w + 2 ^ 65 * 2 ^ w ≤ x) (unit-parts w r)
+          (subst (λ (x : ℕ). x ≤ 2 ^ r * 2 ^ w) (add-mul (k % 2 ^ r) (2 ^ 65) (2 ^ w)) (mul-le-mul-right (2 ^ w) room-above))
 
   -- d below 2^65: the sum is near the multiple below
   pub near-low : (r : ℕ) → RH + RL ≤ terms-max * 2 ^ w → k % 2 ^ r < 2 ^ 65 → Close hi (lo + k / 2 ^ r * 2 ^ (w + r)) (3 * (2 ^ 64 * 2 ^ w))
@@ -71,7 +75,9 @@ module _ (w k hi lo RH RL : ℕ) (H : hi + RL ≡ lo + k * 2 ^ w + RH) where
       under = omega (arith, u)
 
       most : 2 ^ (w + r) ≤ k % 2 ^ r * 2 ^ w + 2 ^ 65 * 2 ^ w
-      most = subst (λ (x : ℕ). x ≤ k % 2 ^ r * 2 ^ w + 2 ^ 65 * 2 ^ w) (unit-parts w r) (subst (λ (x : ℕ). 2 ^ r * 2 ^ w ≤ x) (add-mul (k % 2 ^ r) (2 ^ 65) (2 ^ w)) (mul-le-mul-right (2 ^ w) under))
+      most =
+          subst (λ (x : ℕ). x ≤ k % 2 ^ r * 2 ^ w + 2 ^ 65 * 2 ^ w) (unit-parts w r)
+          (subst (λ (x : ℕ). 2 ^ r * 2 ^ w ≤ x) (add-mul (k % 2 ^ r) (2 ^ 65) (2 ^ w)) (mul-le-mul-right (2 ^ w) under))
 
       less : k % 2 ^ r * 2 ^ w < 2 ^ (w + r)
       less = subst (λ (x : ℕ). k % 2 ^ r * 2 ^ w < x) (unit-parts w r) (mul-lt-mul-of-pos-right (mod-lt k (pow-pos r)) (pow-pos w))
@@ -81,7 +87,9 @@ module _ (w k hi lo RH RL : ℕ) (H : hi + RL ≡ lo + k * 2 ^ w + RH) where
   next-close n lost m kn R l u = (omega (arith, top, rest, H, R, pow-pos m), omega (arith, rest, H, R, pow-pos m))
     where
       top : k * 2 ^ w < 2 * 2 ^ m
-      top = subst (λ (x : ℕ). k * 2 ^ w < x) (pow-succ' 2 m) (lt-of-lt-of-le (subst (λ (x : ℕ). k * 2 ^ w < x) (unit-parts w n) (mul-lt-mul-of-pos-right kn (pow-pos w))) (pow-mono l))
+      top =
+          subst (λ (x : ℕ). k * 2 ^ w < x) (pow-succ' 2 m)
+          (lt-of-lt-of-le (subst (λ (x : ℕ). k * 2 ^ w < x) (unit-parts w n) (mul-lt-mul-of-pos-right kn (pow-pos w))) (pow-mono l))
 
       rest : terms-max * 2 ^ lost ≤ 2 ^ m
       rest = subst (λ (x : ℕ). x ≤ 2 ^ m) (sym (mul-comm terms-max (2 ^ lost)) ∙ refl) (subst (λ (x : ℕ). x ≤ 2 ^ m) (pow-add 2 lost 28) (pow-mono fits))

@@ -106,11 +106,14 @@ module _ (p m e P N : ℕ) (deep : 4 ≤ e) (many : 2 ^ p ≤ m) where
   unfolding settled
   side-right z s zero near-it same apart = at-zero z near-it (same refl)
     where
-      at-zero : (z : Bool) → Close (withPlus (boundary z m e) P) (withMinus (boundary z m e) N) (2 ^ (e - 1)) → withPlus (boundary z m e) P ≡ withMinus (boundary z m e) N
+      at-zero : (z : Bool) → Close (withPlus (boundary z m e) P) (withMinus (boundary z m e) N) (2 ^ (e - 1))
+          → withPlus (boundary z m e) P ≡ withMinus (boundary z m e) N
           → Alike p (record { neg = z; mag = m * 2 ^ e }) (difference P N)
       at-zero true h q = on-right p m e N P true deep many (sym q)
       at-zero false h q = on-right p m e P N false deep many q
-  side-right z s (suc k) near-it same apart = subst (λ (b : Bool). Alike p (record { neg = z; mag = besideMag (cond b on (cond (Bool·beq s z) above below)) m e }) (difference P N)) (sym (eqb·suc-zero k)) (at-some z s near-it (apart (omega arith)))
+  side-right z s (suc k) near-it same apart =
+      subst (λ (b : Bool). Alike p (record { neg = z; mag = besideMag (cond b on (cond (Bool·beq s z) above below)) m e }) (difference P N))
+      (sym (eqb·suc-zero k)) (at-some z s near-it (apart (omega arith)))
     where
       at-some : (z s : Bool) → Close (withPlus (boundary z m e) P) (withMinus (boundary z m e) N) (2 ^ (e - 1))
           → cond s (withPlus (boundary z m e) P) (withMinus (boundary z m e) N) < cond s (withMinus (boundary z m e) N) (withPlus (boundary z m e) P)
@@ -121,11 +124,14 @@ module _ (p m e P N : ℕ) (deep : 4 ≤ e) (many : 2 ^ p ≤ m) where
       at-some false false h l = above-right p m e P N false deep many l (h .0)
 
 module _ (p w P N a c RA RC : ℕ) (z : Bool) (m e : ℕ) (hn : Near p w m e (withPlus (boundary z m e) P) (withMinus (boundary z m e) N))
-    (eP : withPlus (boundary z m e) P ≡ a * 2 ^ w + RA) (eN : withMinus (boundary z m e) N ≡ c * 2 ^ w + RC) (s : Bool) (k : ℕ) (sum : cond s c a ≡ cond s a c + k) where
-  near-sided : cond s (withMinus (boundary z m e) N) (withPlus (boundary z m e) P) + cond s RA RC ≡ cond s (withPlus (boundary z m e) P) (withMinus (boundary z m e) N) + k * 2 ^ w + cond s RC RA
+    (eP : withPlus (boundary z m e) P ≡ a * 2 ^ w + RA) (eN : withMinus (boundary z m e) N ≡ c * 2 ^ w + RC) (s : Bool) (k : ℕ)
+        (sum : cond s c a ≡ cond s a c + k) where
+  near-sided : cond s (withMinus (boundary z m e) N) (withPlus (boundary z m e) P) + cond s RA RC
+      ≡ cond s (withPlus (boundary z m e) P) (withMinus (boundary z m e) N) + k * 2 ^ w + cond s RC RA
   near-sided = sides s w a c k (withPlus (boundary z m e) P) (withMinus (boundary z m e) N) RA RC eP eN sum
 
-  pub near-right : (lost : ℕ) → RA + RC ≤ terms-max * (2 ^ lost - 1) → lost ≤ w → (0 < lost → room < w) → Right p P N (decide p (boundary z m e) w lost (record { neg = s; mag = k }) (size k))
+  pub near-right : (lost : ℕ) → RA + RC ≤ terms-max * (2 ^ lost - 1) → lost ≤ w → (0 < lost → room < w)
+      → Right p P N (decide p (boundary z m e) w lost (record { neg = s; mag = k }) (size k))
   unfolding decide
   near-right zero R l h = side-right p m e P N (hn .deep) (hn .many) z s k (hn .close) level apart
     where
@@ -146,7 +152,9 @@ module _ (p w P N a c RA RC : ℕ) (z : Bool) (m e : ℕ) (hn : Near p w m e (wi
       RU = rests-oriented s RA RC (terms-max * 2 ^ w) (rests-unit w (suc lost) (RA + RC) l R)
 
       ending : 66 ≤ size k → Right p P N (done (beside (sideOf z (record { neg = s; mag = k })) z m e))
-      ending q = side-right p m e P N (hn .deep) (hn .many) z s k (hn .close) (λ v. absurd (nought v)) (λ v. sign-large w k _ _ (cond s RC RA) (cond s RA RC) near-sided big RU)
+      ending q =
+          side-right p m e P N (hn .deep) (hn .many) z s k (hn .close) (λ v. absurd (nought v))
+          (λ v. sign-large w k _ _ (cond s RC RA) (cond s RA RC) near-sided big RU)
         where
           big : 2 ^ 65 ≤ k
           big = size-reaches k 65 q
@@ -168,6 +176,7 @@ module _ (p w P N a c RA RC : ℕ) (z : Bool) (m e : ℕ) (hn : Near p w m e (wi
           falls : nextEdge w (size k) (suc lost) ≤ w
           falls = omega (arith, high, l, q)
 
-      go : (b : Bool) → (T b → 66 ≤ size k) → (T (not b) → size k < 66) → Right p P N (cond b (done (beside (sideOf z (record { neg = s; mag = k })) z m e)) (next (boundary z m e) (nextEdge w (size k) (suc lost))))
+      go : (b : Bool) → (T b → 66 ≤ size k) → (T (not b) → size k < 66)
+          → Right p P N (cond b (done (beside (sideOf z (record { neg = s; mag = k })) z m e)) (next (boundary z m e) (nextEdge w (size k) (suc lost))))
       go true g f = ending (g tt)
       go false g f = going (f tt)

@@ -11,9 +11,11 @@ use Rattle.totals_spec.proofs.Perm.{total-perm, greatest-perm, any-perm
 use Rattle.totals_spec.specs.Format.{Format, validFormat, digits}
 use Rattle.totals_spec.specs.Settings.{Settings, validSettings, Summand, value, magnitude, square, summandOf}
 use Rattle.totals_spec.specs.Decode.{fieldOf, signBit, Unpacked, zeroOf, finite, infinity, nan, decode, isFinite, isNan, isSubnormal, operand}
-use Rattle.totals_spec.specs.Terms.{Item, Term, item, itemOf, pairItem, pairOf, isNanItem, isInvalid, isInfinite, isZero, termOf, plusPart, minusPart, plusSum, minusSum, topOfTerm, topOf}
+use Rattle.totals_spec.specs.Terms.{Item, Term, item, itemOf, pairItem, pairOf, isNanItem, isInvalid, isInfinite, isZero, termOf, plusPart, minusPart}
+use Rattle.totals_spec.specs.Terms.{plusSum, minusSum, topOfTerm, topOf}
 use Rattle.totals_spec.specs.Chain.{lookAt, cutPlus, cutMinus, lostOf, chain}
-use Rattle.totals_spec.specs.Totals.{isValue, isSquare, refuseIf, zeroSign, towardsNegative, finiteTotal, withoutNan, accepted, stray, sumRefusal, sumAccepted, sumAnswer, pairs, dotRefusal, dotAccepted, dotAnswer}
+use Rattle.totals_spec.specs.Totals.{isValue, isSquare, refuseIf, zeroSign, towardsNegative, finiteTotal, withoutNan, accepted, stray, sumRefusal}
+use Rattle.totals_spec.specs.Totals.{sumAccepted, sumAnswer, pairs, dotRefusal, dotAccepted, dotAnswer}
 use Rattle.totals_spec.specs.Bytes.{valuesIn, sumEntry, dotEntry}
 use Rattle.totals_spec.specs.Rearranged.{holdsNan, samePair}
 use Rattle.totals_spec.specs.Promises.{Sum-order, Dot-order, Sum-entry-order, Dot-entry-order}
@@ -203,7 +205,8 @@ module _ (f : Format) (c : Settings) (xs ys xs′ ys′ : List ℕ) (d : List·P
   dot-refusal-perm e e′ =
       let n : length xs ≡ length xs′ = sym (pairs-length xs ys e) ∙ length-perm d ∙ pairs-length xs′ ys′ e′ in
       let a : any (stray f) xs ≡ any (stray f) xs′ = sym (pairs-left (stray f) xs ys e) ∙ any-perm (λ x. stray f (x .0)) d ∙ pairs-left (stray f) xs′ ys′ e′ in
-      let b : any (stray f) ys ≡ any (stray f) ys′ = sym (pairs-right (stray f) xs ys e) ∙ any-perm (λ x. stray f (x .1)) d ∙ pairs-right (stray f) xs′ ys′ e′ in
+      let b : any (stray f) ys ≡ any (stray f) ys′ = sym (pairs-right (stray f) xs ys e) ∙ any-perm (λ x. stray f (x .1)) d
+          ∙ pairs-right (stray f) xs′ ys′ e′ in
       let m : length ys ≡ length ys′ = sym e ∙ n ∙ e′ in
       cc
 

@@ -12,7 +12,8 @@ use Rattle.totals_spec.specs.Settings.{Settings, summandOf}
 use Rattle.totals_spec.specs.Decode.{Unpacked, decode, isSubnormal, isSignaling}
 use Rattle.totals_spec.specs.Terms.{Item, item, pairItem, terms}
 use Rattle.totals_spec.specs.Nan.{selectAll}
-use Rattle.totals_spec.specs.Totals.{Answer, refused, special, reported, accepted, answered, isValue, isSquare, stray, refuseIf, firstIndex, sumRefusal, sumTerms, sumAccepted, sumAnswer, pairs, operands, dotRefusal, dotTerms, dotAccepted, dotPlace, dotAnswer}
+use Rattle.totals_spec.specs.Totals.{Answer, refused, special, reported, accepted, answered, isValue, isSquare, stray, refuseIf, firstIndex, sumRefusal}
+use Rattle.totals_spec.specs.Totals.{sumTerms, sumAccepted, sumAnswer, pairs, operands, dotRefusal, dotTerms, dotAccepted, dotPlace, dotAnswer}
 use Rattle.totals_spec.specs.Limit.{mostPasses}
 use Rattle.totals_spec.specs.Promises.{Sum-limit, Dot-limit}
 use Rattle.totals_spec.proofs.Good.{AllGood, good-terms, good-pairs}
@@ -37,7 +38,8 @@ accepted-passes : (f : Format) (c : Settings) (sub products : Bool) (l : List It
     → (infinityFirst signaling : Bool) (v : Unpacked) → (accepted f c sub products infinityFirst signaling v l) .passes ≤ mostPasses f (terms l)
 unfolding mostPasses reported
 accepted-passes f c sub products l hp g =
-    accepted-has (λ a. a .passes ≤ mostPasses f (terms l)) f c sub products l (special-passes (mostPasses f (terms l)) f sub) (chain-limit (digits f) (terms l) hp g)
+    accepted-has (λ a. a .passes ≤ mostPasses f (terms l)) f c sub products l (special-passes (mostPasses f (terms l)) f sub)
+    (chain-limit (digits f) (terms l) hp g)
 
 -- a call by its refusal number: a refused one has no passes
 answered-passes : (k n at : ℕ) (a : Answer) → (n ≡ 0 → a .passes ≤ k) → (answered n at a) .passes ≤ k
@@ -55,7 +57,8 @@ sum-limit f c u l = answered-passes _ (sumRefusal f c u l) (firstIndex (stray f)
   where
     inside : sumRefusal f c u l ≡ 0 → (sumAccepted f c (summandOf u) l) .passes ≤ mostPasses f (sumTerms f c (summandOf u) l)
     inside e = unfold sumRefusal sumAccepted in
-        accepted-passes f c (any (isSubnormal f) l) (isSquare (summandOf u)) (map (item f c (summandOf u)) l) (le-64 (digits-le f (valid-of (validFormat f) 2 _ e))) (good-terms f c (summandOf u) l)
+        accepted-passes f c (any (isSubnormal f) l) (isSquare (summandOf u)) (map (item f c (summandOf u)) l)
+        (le-64 (digits-le f (valid-of (validFormat f) 2 _ e))) (good-terms f c (summandOf u) l)
         (not (isValue (summandOf u))) (any (λ b. isSignaling (decode f b)) l) (selectAll c (map (decode f) l))
 
 pub dot-limit : Dot-limit
@@ -67,5 +70,6 @@ dot-limit f c xs ys = answered-passes _ (dotRefusal f c xs ys) (dotPlace f xs ys
 
     inside : dotRefusal f c xs ys ≡ 0 → (dotAccepted f c (pairs xs ys)) .passes ≤ mostPasses f (dotTerms f c xs ys)
     inside e = unfold dotRefusal dotAccepted in
-        accepted-passes f c (any (λ x. isSubnormal f (x .0) || isSubnormal f (x .1)) l) true (map (pairItem f c) l) (le-64 (digits-le f (valid-of (validFormat f) 2 _ e))) (good-pairs f c l)
+        accepted-passes f c (any (λ x. isSubnormal f (x .0) || isSubnormal f (x .1)) l) true (map (pairItem f c) l)
+        (le-64 (digits-le f (valid-of (validFormat f) 2 _ e))) (good-pairs f c l)
         false (any (λ x. isSignaling (decode f (x .0)) || isSignaling (decode f (x .1))) l) (selectAll c (operands f l))

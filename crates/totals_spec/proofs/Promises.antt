@@ -6,7 +6,10 @@ use native.Mathlib.Nat.{mul-mod-left}
 use Rattle.totals_spec.specs.Settings.{summandOf}
 use Rattle.totals_spec.specs.Totals.{pairs}
 use Rattle.totals_spec.specs.Limit.{lowBit}
-use Rattle.totals_spec.specs.Promises.{Careers-agree, Margins-agree, Examples-agree, Zeros-accepted, Zeros-refused, Sum-refusal, Dot-refusal, Sum-refused, Dot-refused, Sum-place, Dot-place, Sum-entry-refused, Dot-entry-refused, Sum-exact, Dot-exact, Sum-by-chain, Dot-by-chain, Sum-order, Dot-order, Sum-entry-order, Dot-entry-order, Sum-limit, Dot-limit, Binary64-sum-limit, Binary64-square-limit, Binary64-dot-limit, Sum-ends, Dot-ends, Sum-edges, Dot-edges, Low-bit}
+use Rattle.totals_spec.specs.Promises.{Careers-agree, Margins-agree, Examples-agree, Zeros-accepted, Zeros-refused, Sum-refusal, Dot-refusal, Sum-refused}
+use Rattle.totals_spec.specs.Promises.{Dot-refused, Sum-place, Dot-place, Sum-entry-refused, Dot-entry-refused, Sum-exact, Dot-exact, Sum-by-chain}
+use Rattle.totals_spec.specs.Promises.{Dot-by-chain, Sum-order, Dot-order, Sum-entry-order, Dot-entry-order, Sum-limit, Dot-limit, Binary64-sum-limit}
+use Rattle.totals_spec.specs.Promises.{Binary64-square-limit, Binary64-dot-limit, Sum-ends, Dot-ends, Sum-edges, Dot-edges, Low-bit}
 use Rattle.totals_spec.proofs.Bits.{low-divides, low-set}
 use Rattle.totals_spec.proofs.Good.{good-terms, good-pairs}
 use Rattle.totals_spec.proofs.Valid.{digits-le}

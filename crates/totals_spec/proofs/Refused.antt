@@ -14,7 +14,8 @@ use Rattle.totals_spec.specs.Settings.{Settings, validSettings, Summand,
 use Rattle.totals_spec.specs.Decode.{Unpacked, decode, isSubnormal, isSignaling}
 use Rattle.totals_spec.specs.Terms.{item, pairItem}
 use Rattle.totals_spec.specs.Nan.{selectAll}
-use Rattle.totals_spec.specs.Totals.{Answer, refused, special, reported, answered, isValue, isSquare, stray, limit, refuseIf, firstIndex, sumRefusal, sumAccepted, sumAnswer, pairs, operands, dotRefusal, dotAccepted, dotPlace, dotAnswer}
+use Rattle.totals_spec.specs.Totals.{Answer, refused, special, reported, answered, isValue, isSquare, stray, limit, refuseIf, firstIndex, sumRefusal}
+use Rattle.totals_spec.specs.Totals.{sumAccepted, sumAnswer, pairs, operands, dotRefusal, dotAccepted, dotPlace, dotAnswer}
 use Rattle.totals_spec.specs.Bytes.{Entry, valuesIn, uneven, short, entered, written, sumEntry, dotEntry}
 use Rattle.totals_spec.specs.Places.{StrayAt, StrayBy, DotStrayAt}
 use Rattle.totals_spec.specs.Promises.{Sum-refusal, Dot-refusal, Sum-refused, Dot-refused, Sum-place, Dot-place, Sum-entry-refused, Dot-entry-refused}
@@ -35,7 +36,8 @@ special-unrefused f sub v b = record { number = refl; place = refl }
 sum-unrefused : (f : Format) (c : Settings) (u : Summand) (l : List ℕ) → Unrefused (sumAccepted f c u l)
 unfolding sumAccepted reported
 sum-unrefused f c u l =
-    accepted-has Unrefused f c (any (isSubnormal f) l) (isSquare u) (map (item f c u) l) (special-unrefused f (any (isSubnormal f) l)) (record { number = refl; place = refl })
+    accepted-has Unrefused f c (any (isSubnormal f) l) (isSquare u) (map (item f c u) l) (special-unrefused f (any (isSubnormal f) l))
+    (record { number = refl; place = refl })
     (not (isValue u)) (any (λ b. isSignaling (decode f b)) l) (selectAll c (map (decode f) l))
 
 dot-unrefused : (f : Format) (c : Settings) (l : List (ℕ × ℕ)) → Unrefused (dotAccepted f c l)
@@ -134,14 +136,16 @@ pub sum-place : Sum-place
 unfolding sumAnswer
 sum-place f c u l = (
   no-place (sumRefusal f c u l) (firstIndex (stray f) l) (sumAccepted f c (summandOf u) l) (sum-unrefused f c (summandOf u) l),
-  λ h. subst (StrayAt f l) (sym (place-at (sumRefusal f c u l) (firstIndex (stray f) l) (sumAccepted f c (summandOf u) l) h)) (first-stray f l (sum-seven f c u l h .some)),
+  λ h. subst (StrayAt f l) (sym (place-at (sumRefusal f c u l) (firstIndex (stray f) l) (sumAccepted f c (summandOf u) l) h))
+      (first-stray f l (sum-seven f c u l h .some)),
 )
 
 pub dot-place : Dot-place
 unfolding dotAnswer
 dot-place f c xs ys = (
   no-place (dotRefusal f c xs ys) (dotPlace f xs ys) (dotAccepted f c (pairs xs ys)) (dot-unrefused f c (pairs xs ys)),
-  λ h. subst (DotStrayAt f xs ys) (sym (place-at (dotRefusal f c xs ys) (dotPlace f xs ys) (dotAccepted f c (pairs xs ys)) h)) (dot-stray f xs ys (dot-seven f c xs ys h .some)),
+  λ h. subst (DotStrayAt f xs ys) (sym (place-at (dotRefusal f c xs ys) (dotPlace f xs ys) (dotAccepted f c (pairs xs ys)) h))
+      (dot-stray f xs ys (dot-seven f c xs ys h .some)),
 )
 
 -- ---- numbers and places are small
@@ -182,7 +186,8 @@ small-place n at other is = go (eqb n 7) (eqb→eq n 7) (λ e. T-of (eq-eqb n 7 
 pub sum-small : (f : Format) (c : Settings) (u : ℕ) (l : List ℕ) → Small (sumAnswer f c u l)
 sum-small f c u l = record {
   number = subst (λ (n : ℕ). n < 256) (sym (sum-refusal f c u l)) (sum-number f c u l);
-  place = small-place (sumRefusal f c u l) ((sumAnswer f c u l) .place) (sum-place f c u l .0) (λ e. lt-le (sum-place f c u l .1 e .inside) (sum-seven f c u l e .few));
+  place = small-place (sumRefusal f c u l) ((sumAnswer f c u l) .place) (sum-place f c u l .0)
+      (λ e. lt-le (sum-place f c u l .1 e .inside) (sum-seven f c u l e .few));
 }
   where
     lt-le : {a b k : ℕ} → a < b → b ≤ k → a < k
@@ -191,7 +196,8 @@ sum-small f c u l = record {
 pub dot-small : (f : Format) (c : Settings) (xs ys : List ℕ) → Small (dotAnswer f c xs ys)
 dot-small f c xs ys = record {
   number = subst (λ (n : ℕ). n < 256) (sym (dot-refusal f c xs ys)) (dot-number f c xs ys);
-  place = small-place (dotRefusal f c xs ys) ((dotAnswer f c xs ys) .place) (dot-place f c xs ys .0) (λ e. inside _ (any (stray f) xs) (dot-seven f c xs ys e) (dot-place f c xs ys .1 e));
+  place = small-place (dotRefusal f c xs ys) ((dotAnswer f c xs ys) .place) (dot-place f c xs ys .0)
+      (λ e. inside _ (any (stray f) xs) (dot-seven f c xs ys e) (dot-place f c xs ys .1 e));
 }
   where
     inside : (i : ℕ) (b : Bool) → DotSeven f xs ys → StrayBy b f xs ys i → i < limit

@@ -146,14 +146,17 @@ module _ (j t a b : ℕ) (a0 : 0 < a) (a1 : a < 2 ^ t) (b0 : 0 < b) (b1 : b < 2 
         place : t < size (j * 2 ^ t + a) - precisionOf f c
         place = omega (arith, size-above p jp)
 
-        after : ltb (roundedAt (roundingOf (c .rounding)) s (j * 2 ^ t + a) (size (j * 2 ^ t + a) - precisionOf f c)) (2 ^ eminAt f g) ≡ ltb (roundedAt (roundingOf (c .rounding)) s (j * 2 ^ t + b) (size (j * 2 ^ t + b) - precisionOf f c)) (2 ^ eminAt f g)
+        after : ltb (roundedAt (roundingOf (c .rounding)) s (j * 2 ^ t + a) (size (j * 2 ^ t + a) - precisionOf f c)) (2 ^ eminAt f g)
+            ≡ ltb (roundedAt (roundingOf (c .rounding)) s (j * 2 ^ t + b) (size (j * 2 ^ t + b) - precisionOf f c)) (2 ^ eminAt f g)
         after = cc (rounded-same (roundingOf (c .rounding)) s (size (j * 2 ^ t + a) - precisionOf f c) place, size-same j-pos)
 
         before : ltb (j * 2 ^ t + a) (2 ^ eminAt f g) ≡ ltb (j * 2 ^ t + b) (2 ^ eminAt f g)
         before = ltb-size (j * 2 ^ t + a) (eminAt f g) ∙ ap (λ (z : ℕ). leb z (eminAt f g)) (size-same j-pos) ∙ sym (ltb-size (j * 2 ^ t + b) (eminAt f g))
 
-        go : (w : Bool) → cond w (ltb (roundedAt (roundingOf (c .rounding)) s (j * 2 ^ t + a) (size (j * 2 ^ t + a) - precisionOf f c)) (2 ^ eminAt f g)) (ltb (j * 2 ^ t + a) (2 ^ eminAt f g))
-            ≡ cond w (ltb (roundedAt (roundingOf (c .rounding)) s (j * 2 ^ t + b) (size (j * 2 ^ t + b) - precisionOf f c)) (2 ^ eminAt f g)) (ltb (j * 2 ^ t + b) (2 ^ eminAt f g))
+        go : (w : Bool) → cond w (ltb (roundedAt (roundingOf (c .rounding)) s (j * 2 ^ t + a) (size (j * 2 ^ t + a) - precisionOf f c)) (2 ^ eminAt f g))
+            (ltb (j * 2 ^ t + a) (2 ^ eminAt f g))
+            ≡ cond w (ltb (roundedAt (roundingOf (c .rounding)) s (j * 2 ^ t + b) (size (j * 2 ^ t + b) - precisionOf f c)) (2 ^ eminAt f g))
+            (ltb (j * 2 ^ t + b) (2 ^ eminAt f g))
         go true = after
         go false = before
 

@@ -5,7 +5,8 @@ use mathlib.Core.Path.{_≡_, refl, sym, ap, ap₂, _∙_, subst, subst₂}
 use mathlib.Core.Bool.{Bool, true, false, not, cond}
 use mathlib.Core.List.{List, [], _∷_}
 use Prim.Native.Nat.{ℕ, zero, suc, _+_, _-_, _*_, _/_, _%_, _^_, _≤_, _<_, max}
-use native.Mathlib.Nat.{le-refl, le-trans, lt-of-lt-of-le, not-le-of-lt, le-add-right, le-max-left, le-max-right, zero-mul, add-mul, zero-mod, div-eq-of-lt, div-add-mod', mul-assoc, mul-div-cancel, add-zero}
+use native.Mathlib.Nat.{le-refl, le-trans, lt-of-lt-of-le, not-le-of-lt, le-add-right, le-max-left, le-max-right, zero-mul, add-mul, zero-mod, div-eq-of-lt}
+use native.Mathlib.Nat.{div-add-mod', mul-assoc, mul-div-cancel, add-zero}
 use native.Mathlib.Omega.{arith}
 use lib.Dec.{T, ltb, eqb, ltb→lt, nltb→le, eqb→eq}
 use lib.ListN.{length}
@@ -18,7 +19,8 @@ use Rattle.totals_spec.proofs.Bits.{pow-split, multiple-mod}
 use Rattle.totals_spec.specs.Format.{room}
 use Rattle.totals_spec.specs.Terms.{Term, plusSum, minusSum}
 use Rattle.totals_spec.proofs.Good.{AllGood}
-use Rattle.totals_spec.specs.Chain.{lostEnd, lostOf, cutPlus, cutMinus, lookAt, Boundary, noBoundary, boundary, boundaryPlus, boundaryMinus, next, decide, sumOf, pass}
+use Rattle.totals_spec.specs.Chain.{lostEnd, lostOf, cutPlus, cutMinus, lookAt, Boundary, noBoundary, boundary, boundaryPlus, boundaryMinus, next, decide}
+use Rattle.totals_spec.specs.Chain.{sumOf, pass}
 use Rattle.totals_spec.proofs.Limit.{fair-look}
 use Rattle.totals_spec.proofs.Margin.{terms-max}
 use Rattle.totals_spec.proofs.Invariant.{Placed, Inv}
@@ -90,7 +92,8 @@ module _ (v w L : ℕ) (h : v ≤ w) (l : L ≤ v) (d : L < w) where
       → total f ts ≡ total g ts * 2 ^ (w - v)
   totals f g e [] k = sym (zero-mul (2 ^ (w - v)))
   totals f g e (t ∷ ts) k =
-      ap₂ _+_ (e t (le-trans (le-max-left (lostOf w t) (greatest (lostOf w) ts)) k)) (totals f g e ts (le-trans (le-max-right (lostOf w t) (greatest (lostOf w) ts)) k))
+      ap₂ _+_ (e t (le-trans (le-max-left (lostOf w t) (greatest (lostOf w) ts)) k))
+      (totals f g e ts (le-trans (le-max-right (lostOf w t) (greatest (lostOf w) ts)) k))
       ∙ sym (add-mul (g t) (total g ts) (2 ^ (w - v)))
 
   losses : (ts : List Term) → greatest (lostOf w) ts ≤ L → greatest (lostOf v) ts ≡ greatest (lostOf w) ts
@@ -176,7 +179,8 @@ module _ (p : ℕ) (ts : List Term) (hp : p ≤ 64) (good : AllGood ts) (len : l
           ∙ sym (add-mul (total (cutPlus w) ts) (boundaryPlus b w) (2 ^ (w - v)))
           ∙ ap (λ (x : ℕ). x * 2 ^ (w - v)) sides
           ∙ add-mul (total (cutMinus w) ts) (boundaryMinus b w) (2 ^ (w - v))
-          ∙ sym (ap₂ _+_ (totals v w lost h l d (cutMinus v) (cutMinus w) (minus-term v w lost h l d) ts most) (bound-minus-at v w lost h l d p b _ _ (iw .placed)))
+          ∙ sym (ap₂ _+_ (totals v w lost h l d (cutMinus v) (cutMinus w) (minus-term v w lost h l d) ts most)
+              (bound-minus-at v w lost h l d p b _ _ (iw .placed)))
 
   -- ---- k empty passes in a row
 
@@ -207,7 +211,8 @@ module _ (p : ℕ) (ts : List Term) (hp : p ≤ 64) (good : AllGood ts) (len : l
       edge w j = omega arith
 
   -- EMPTY PASSES ARE COUNTED: from an empty pass at the edge w whose lost bit lies more than 64 below w, k passes lead to w − 766 × k, with the same boundary
-  pub skip : (i : ℕ) (b : Boundary) (w lost : ℕ) → Reached p ts i b w → Empty ts b w lost → 0 < lost → lost + 63 < w → Skipped p ts i b w ((w - lost + 702) / 766)
+  pub skip : (i : ℕ) (b : Boundary) (w lost : ℕ) → Reached p ts i b w → Empty ts b w lost → 0 < lost → lost + 63 < w
+      → Skipped p ts i b w ((w - lost + 702) / 766)
   skip i b w lost r e k h = subst (λ (x : ℕ). Skipped p ts i b w x) one-more (steps ((w - lost + 702) / 766 - 1) i b w lost r e k (omega arith))
     where
       one-more : suc ((w - lost + 702) / 766 - 1) ≡ (w - lost + 702) / 766

@@ -2,7 +2,8 @@
 use mathlib.Core.Path.{_≡_, sym, ap, _∙_}
 use mathlib.Core.List.{List, [], _∷_, map}
 use Prim.Native.Nat.{ℕ, suc, _+_, _-_, _*_, _/_, _%_, _^_, _≤_, _<_, zero-le}
-use native.Mathlib.Nat.{le-refl, lt-of-not-le, lt-of-lt-of-le, not-le-of-lt, le-of-suc-le-suc, max-le, le-max-left, le-trans, mul-assoc, mul-div-cancel, mul-mod-left, pow-succ'}
+use native.Mathlib.Nat.{le-refl, lt-of-not-le, lt-of-lt-of-le, not-le-of-lt, le-of-suc-le-suc, max-le, le-max-left, le-trans, mul-assoc, mul-div-cancel}
+use native.Mathlib.Nat.{mul-mod-left, pow-succ'}
 use native.Mathlib.Omega.{arith}
 use lib.Pow.{pow-pos, pow-mono}
 use lib.Ieee.{size}
@@ -11,7 +12,8 @@ use Rattle.totals_spec.specs.Basics.{greatest, least, keep}
 use Rattle.totals_spec.specs.Format.{Format, fractionBits, room}
 use Rattle.totals_spec.specs.Settings.{Settings, Summand, value, magnitude, square}
 use Rattle.totals_spec.specs.Decode.{Unpacked, zeroOf, finite, infinity, nan, operand}
-use Rattle.totals_spec.specs.Terms.{Term, single, product, Item, nanItem, invalidItem, infinite, zeroItem, term, itemOf, item, pairOf, pairItem, termOf, terms, topOf, topOfTerm}
+use Rattle.totals_spec.specs.Terms.{Term, single, product, Item, nanItem, invalidItem, infinite, zeroItem, term, itemOf, item, pairOf, pairItem, termOf}
+use Rattle.totals_spec.specs.Terms.{terms, topOf, topOfTerm}
 use Rattle.totals_spec.specs.Totals.{sumTerms, pairs, dotTerms}
 use Rattle.totals_spec.specs.Limit.{lowBit, lowOf, bottomOf}
 use Rattle.totals_spec.proofs.Bits.{pow-split, low-set, multiple-ge}
@@ -120,7 +122,11 @@ dot-top f c xs ys =
 
 -- a term's top bit lies `room` above the unit at least
 pub top-high : (t : Term) → Good t → room ≤ t .top
-top-high t g = le-of-suc-le-suc (lt-of-not-le (λ (k : suc (t .top) ≤ room). not-le-of-lt (lt-of-lt-of-le (g .fits) (pow-mono k)) (multiple-ge (t .mag) (g .units) room room (g .whole) (le-refl room) (g .positive))))
+top-high t g =
+    le-of-suc-le-suc
+    (lt-of-not-le
+        (λ (k : suc (t .top) ≤ room). not-le-of-lt (lt-of-lt-of-le (g .fits) (pow-mono k))
+        (multiple-ge (t .mag) (g .units) room room (g .whole) (le-refl room) (g .positive))))
 
 -- a multiple of 2^j has no set bit below j
 low-ge : (m q j : ℕ) → m ≡ q * 2 ^ j → 0 < m → j ≤ lowBit m

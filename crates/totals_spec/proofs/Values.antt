@@ -17,7 +17,8 @@ from-length (suc n) bytes = ap suc (from-length n (drop 8 bytes))
 from-at : (n : ℕ) (bytes : List ℕ) (i : ℕ) → i < n → getD (valuesFrom n bytes) i 0 ≡ fromBytes (take 8 (drop (8 * i) bytes))
 from-at zero bytes i h = absurd (not-suc-le-zero h)
 from-at (suc n) bytes zero h = refl
-from-at (suc n) bytes (suc i) h = from-at n (drop 8 bytes) i (le-of-suc-le-suc h) ∙ ap (λ l. fromBytes (take 8 l)) (drop-drop (8 * i) 8 bytes ∙ ap (λ (k : ℕ). drop k bytes) place)
+from-at (suc n) bytes (suc i) h =
+    from-at n (drop 8 bytes) i (le-of-suc-le-suc h) ∙ ap (λ l. fromBytes (take 8 l)) (drop-drop (8 * i) 8 bytes ∙ ap (λ (k : ℕ). drop k bytes) place)
   where
     place : 8 + 8 * i ≡ 8 * suc i
     place = omega arith
@@ -60,7 +61,8 @@ values-small l f i = go (ltb i (length l / 8)) (ltb→lt i (length l / 8)) (nltb
     there : i < length l / 8 → getD (valuesIn l) i 0 < 18446744073709551616
     there h =
         let k = 8 * i in
-        omega (arith, values-at l i h, eight-bytes l (8 * i) (omega arith), f k, f (k + 1), f (k + 2), f (k + 3), f (k + 4), f (k + 4 + 1), f (k + 4 + 2), f (k + 4 + 3))
+        omega (arith, values-at l i h, eight-bytes l (8 * i) (omega arith), f k, f (k + 1), f (k + 2), f (k + 3), f (k + 4), f (k + 4 + 1), f (k + 4 + 2),
+            f (k + 4 + 3))
 
     past : length l / 8 ≤ i → getD (valuesIn l) i 0 < 18446744073709551616
     past h = omega (arith, List·getD-eq-default (valuesIn l) 0 {n = i} (omega (arith, values-length l)))

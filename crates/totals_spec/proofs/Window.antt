@@ -32,7 +32,8 @@ module _ (h : ℕ) (h0 : 0 < h) where
       pos : 0 < h + h
       pos = omega arith
 
-      e : a + (h + h - (b + x) % (h + h)) + (b / (h + h) + x / (h + h) + 1) * (h + h) ≡ a + (h + h - b % (h + h)) + (h + h - x % (h + h)) + (b + x) / (h + h) * (h + h)
+      e : a + (h + h - (b + x) % (h + h)) + (b / (h + h) + x / (h + h) + 1) * (h + h)
+          ≡ a + (h + h - b % (h + h)) + (h + h - x % (h + h)) + (b + x) / (h + h) * (h + h)
       e = same a (h + h) b x ((b + x) % (h + h)) ((b + x) / (h + h)) (b % (h + h)) (b / (h + h)) (x % (h + h)) (x / (h + h))
           (div-add-mod' (b + x) (h + h)) (div-add-mod' b (h + h)) (div-add-mod' x (h + h)) (mod-lt (b + x) pos) (mod-lt b pos) (mod-lt x pos)
         where
