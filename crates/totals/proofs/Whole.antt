@@ -14,24 +14,22 @@ use Rattle.totals_spec.specs.Totals.{sumRefusal, dotRefusal, sumAnswer}
 use Rattle.totals_spec.proofs.Accepts.{sum-accepts, dot-accepts}
 use Rattle.totals_spec.proofs.Values.{values-length}
 use Rattle.values.specs.declared.Walk.{Walk}
-use Rattle.values.specs.Sources.{values, elements, Within, Whole}
+use Rattle.values.specs.Sources.{elements, Within}
 use Rattle.values.specs.Walks.{isDot}
-use Rattle.values.proofs.Sources.{whole-within, whole-elements}
+use Rattle.values.proofs.Sources.{Gives}
 use Rattle.reduction.specs.Answered.{Accepted, answerIn}
 use Rattle.totals.proofs.Answers.{sum-accepted}
 
--- k walks over the values x and y of its slices
-module _ (f : Format) (c : Settings) {k : Walk} {u layout n : ℕ} (h : (k .summand ≡ u) × Whole layout n (k .source)) (lw lb rw′ rb x y : List ℕ)
-    (ex : values (k .source) lw lb ≡ x) (ey : values (k .source) rw′ rb ≡ y) (nx : n ≡ length x) (ny : n ≡ length y) where
+-- k walks over the lists x and y
+module _ (f : Format) (c : Settings) {k : Walk} {u : ℕ} (e : k .summand ≡ u) {lw lb rw′ rb x y : List ℕ}
+    (left : Gives (k .source) lw lb x) (right : Gives (k .source) rw′ rb y) where
   pub asked : Accepted (eqb u 3) f c u x y
       → (Within (k .source) lw lb × Within (k .source) rw′ rb) × Accepted (isDot k) f c (k .summand) (elements (k .source) lw lb) (elements (k .source) rw′ rb)
-  asked a = (
-    (whole-within (h .1) lw lb x ex nx, whole-within (h .1) rw′ rb y ey ny),
-    rw (h .0, whole-elements (h .1) lw lb x ex nx, whole-elements (h .1) rw′ rb y ey ny) a,
-  )
+  asked a = ((left .within, right .within), rw (e, left .are, right .are) a)
 
-  pub told : answerIn (isDot k) f c (summandOf (k .summand)) (elements (k .source) lw lb) (elements (k .source) rw′ rb) ≡ answerIn (eqb u 3) f c (summandOf u) x y
-  told = rw (h .0, whole-elements (h .1) lw lb x ex nx, whole-elements (h .1) rw′ rb y ey ny)
+  pub told : answerIn (isDot k) f c (summandOf (k .summand)) (elements (k .source) lw lb) (elements (k .source) rw′ rb)
+      ≡ answerIn (eqb u 3) f c (summandOf u) x y
+  told = rw (e, left .are, right .are)
 
 -- a sum
 module _ (f : Format) (c : Settings) (u : ℕ) (x y : List ℕ) (e : sumRefusal f c u x ≡ 0) where

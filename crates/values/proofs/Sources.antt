@@ -1,12 +1,13 @@
--- The elements of a source, by their index; and a whole list as a source.
+-- The elements of a source, by their index and as a list.
 use mathlib.Core.Path.{_≡_, refl, sym, ap, _∙_}
 use mathlib.Core.List.{List}
-use Prim.Native.Nat.{ℕ, zero, suc, _+_, _*_, _<_}
+use Prim.Native.Nat.{ℕ, zero, suc, _+_, _*_, _/_, _<_}
 use native.Mathlib.Nat.{le-of-suc-le-suc, not-suc-le-zero, add-zero, zero-mul, mul-one, zero-add}
 use native.Mathlib.Omega.{arith}
 use lib.ListN.{length, getD}
 use lib.Seq.{ext-getD}
 use Rattle.totals_spec.specs.Bytes.{valuesIn}
+use Rattle.totals_spec.proofs.Values.{values-length}
 use Rattle.values.specs.declared.Source.{Source}
 use Rattle.values.specs.Sources.{strided, values, elements, Within, Whole}
 
@@ -32,20 +33,25 @@ pub elements-length : (s : Source) (words bytes : List ℕ) → length (elements
 unfolding elements
 elements-length s words bytes = strided-length (s .start) (s .step) (s .count) _
 
--- ---- a whole list
+-- ---- the list that a source gives
 
+pub record Gives (s : Source) (words bytes l : List ℕ) : Type 0 where
+  pub within : Within s words bytes
+  pub are : elements s words bytes ≡ l
+
+-- a whole one
 module _ {layout count : ℕ} {s : Source} (h : Whole layout count s) (words bytes l : List ℕ) (e : values s words bytes ≡ l) (n : count ≡ length l) where
-  pub whole-within : Within s words bytes
-  whole-within = record { there = λ i k. rw (e, h .start-is, h .step-is) (omega (arith, k, h .count-is, n)) }
-
-  pub whole-elements : elements s words bytes ≡ l
+  whole-gives : Gives s words bytes l
   unfolding elements
-  whole-elements = rw (e, h .start-is, h .step-is, h .count-is ∙ n) (strided-all l)
+  whole-gives = record {
+    within = record { there = λ i k. rw (e, h .start-is, h .step-is) (omega (arith, k, h .count-is, n)) };
+    are = rw (e, h .start-is, h .step-is, h .count-is ∙ n) (strided-all l);
+  }
 
 -- of words, and of values in bytes
 module _ {count : ℕ} {s : Source} (words bytes : List ℕ) where
-  pub in-words : Whole 0 count s → values s words bytes ≡ words
-  in-words h = rw (h .layout-is)
+  pub words-give : Whole 0 count s → count ≡ length words → Gives s words bytes words
+  words-give h n = whole-gives h words bytes words (rw (h .layout-is)) n
 
-  pub in-bytes : Whole 1 count s → values s words bytes ≡ valuesIn bytes
-  in-bytes h = rw (h .layout-is)
+  pub bytes-give : Whole 1 count s → count ≡ length bytes / 8 → Gives s words bytes (valuesIn bytes)
+  bytes-give h n = whole-gives h words bytes (valuesIn bytes) (rw (h .layout-is)) (n ∙ sym (values-length bytes))

@@ -1,13 +1,33 @@
 -- `totals::lists::bytes` meets its contract.
-use mathlib.Core.Path.{sym, _∙_}
+use mathlib.Core.Path.{refl, sym, _∙_}
+use mathlib.Core.List.{List}
+use Prim.Native.Nat.{ℕ}
 use borrow.Author.Needs.{needs}
 use Rattle.totals_spec.specs.Bytes.{valuesIn}
-use Rattle.totals_spec.proofs.Values.{values-length}
+use Rattle.totals_spec.specs.Format.{Format}
+use Rattle.totals_spec.specs.Settings.{Settings}
 use Rattle.format.specs.Joined.{formatOf, settingsOf}
-use Rattle.values.proofs.Sources.{in-bytes}
+use Rattle.values.proofs.Sources.{Gives, bytes-give}
 use Rattle.totals.proofs.Whole.{asked, told}
 use Rattle.totals.proofs.lists.bytes.Statement.{statement}
 use Rattle.totals.proofs.lists.bytes.Tie as tie
+
+-- at the entry: the call in the definitions' words
+abbrev form : tie.Start → Format
+form s = formatOf (s .args .f)
+
+abbrev env : tie.Start → Settings
+env s = settingsOf (s .args .c)
+
+-- once the walk is made: what it gives of each list
+abbrev entry : tie.After-whole → tie.Start
+entry t = t .before .before .before
+
+left : (t : tie.After-whole) (words : List ℕ) → Gives (t .whole .result .source) words (entry t .args .left .now) (valuesIn (entry t .args .left .now))
+left t words = bytes-give words _ (t .whole .ensures .1) refl
+
+right : (t : tie.After-whole) (words : List ℕ) → Gives (t .whole .result .source) words (entry t .args .right .now) (valuesIn (entry t .args .right .now))
+right t words = bytes-give words _ (t .whole .ensures .1) (sym (entry t .pre .0))
 
 whole-requires : tie.Need-whole-requires
 whole-requires c κs = search needs
@@ -20,17 +40,15 @@ slice-aggregate-total-2 c = search needs
 
 total-requires : tie.Need-total-requires
 total-requires c κs =
-    let h = c .before .before .whole .ensures in
-    let s = c .before .before .before .before .before in
-    let a = s .args in
-    asked (formatOf (a .f)) (settingsOf (a .c)) h _ _ _ _ (valuesIn (a .left .now)) (valuesIn (a .right .now)) (in-bytes _ _ (h .1)) (in-bytes _ _ (h .1)) (sym (values-length (a .left .now))) (sym (s .pre .0) ∙ sym (values-length (a .right .now))) (s .pre .1)
+    let t = c .before .before in
+    let s = entry t in
+    asked (form s) (env s) (t .whole .ensures .0) (left t _) (right t _) (s .pre .1)
 
 returns : tie.Need-returns
 returns c =
-    let h = c .before .before .before .whole .ensures in
-    let s = c .before .before .before .before .before .before in
-    let a = s .args in
-    c .total .ensures ∙ told (formatOf (a .f)) (settingsOf (a .c)) h _ _ _ _ (valuesIn (a .left .now)) (valuesIn (a .right .now)) (in-bytes _ _ (h .1)) (in-bytes _ _ (h .1)) (sym (values-length (a .left .now))) (sym (s .pre .0) ∙ sym (values-length (a .right .now)))
+    let t = c .before .before .before in
+    let s = entry t in
+    c .total .ensures ∙ told (form s) (env s) (t .whole .ensures .0) (left t _) (right t _)
 
 pub bytes-spec : {M : Type 1} → statement M
 bytes-spec = tie.close (tie.spec whole-requires slice-aggregate-total slice-aggregate-total-2 total-requires returns)
