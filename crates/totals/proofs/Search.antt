@@ -2,9 +2,9 @@
 use mathlib.Core.Path.{_≡_, refl, sym, ap, ap₂, _∙_}
 use mathlib.Core.Bool.{Bool, true, false, _||_, cond}
 use mathlib.Core.List.{List, [], _∷_}
-use Prim.Native.Nat.{ℕ, zero, suc, _+_, _-_, _*_, _/_, _^_, _≤_, _<_}
+use Prim.Native.Nat.{ℕ, zero, suc, _+_, _-_, _*_, _/_, _^_, _≤_, _<_, zero-le}
 use native.Mathlib.Nat.{not-suc-le-zero, le-of-suc-le-suc, div-eq-of-lt-le, suc-mul, add-mul}
-use native.Mathlib.Numerals.{add-one, sub-one}
+use native.Mathlib.Numerals.{add-one, add-one-le, sub-one}
 use native.Mathlib.Omega.{arith}
 use lib.ListN.{length, take, getD}
 use lib.Seq.{take-length}
@@ -14,7 +14,8 @@ use Rattle.totals_spec.specs.Totals.{firstIndex}
 use borrow.Author.Tests.{le-leb, lt-leb}
 use Rattle.totals_spec.proofs.Walk.{any-take}
 use Rattle.totals_spec.proofs.Order.{or-split}
-use Rattle.totals.specs.Stray.{strayAt}
+use Rattle.totals.specs.Stray.{strayAt, FoundIn}
+use Rattle.totals.specs.declared.stray.Found.the-variants.{At, Nothing}
 
 module _ (t : ℕ → Bool) where
   -- none of the first i + 1
@@ -47,6 +48,32 @@ stray-is w m x e h = let k : 2 ^ w ≤ x = omega (arith, e) in le-leb _ _ k
 
 pub stray-not : (w m x : ℕ) → m + 1 ≡ 2 ^ w → x ≤ m → strayAt w x ≡ false
 stray-not w m x e h = let k : x < 2 ^ w = omega (arith, e) in lt-leb _ _ k
+
+-- ---- the search: none of the first i elements has a stray bit
+
+pub record Clear (w : ℕ) (l : List ℕ) (i : ℕ) : Type 0 where
+  pub within : i ≤ length l
+  pub none : any (strayAt w) (take i l) ≡ false
+
+pub clear-start : (w : ℕ) (l : List ℕ) → Clear w l 0
+clear-start w l = record { within = zero-le; none = refl }
+
+-- m is the greatest encoding, x the element i
+module _ {w m : ℕ} (most : m + 1 ≡ 2 ^ w) {l : List ℕ} {i : ℕ} (k : Clear w l i) (h : i < length l) {x : ℕ} (at : x ≡ getD l i 0) where
+  pub clear-next : x ≤ m → Clear w l (i + 1)
+  clear-next g = record { within = add-one-le h; none = none-next (strayAt w) l i x h at (k .none) (stray-not w m x most g) }
+
+  pub clear-found : m < x → FoundIn (At i) w l
+  clear-found g =
+      let q = ap (strayAt w) (sym at) ∙ stray-is w m x most g in
+      (first-some (strayAt w) l i h (k .none) q, first-index (strayAt w) l i h (k .none) q)
+
+pub clear-end : {w : ℕ} {l : List ℕ} {i : ℕ} → Clear w l i → length l ≤ i → FoundIn Nothing w l
+clear-end {w} {l} {i} k h = none-all (strayAt w) l i (omega arith) (k .none)
+
+-- a width of a whole word leaves no room for one
+pub word-wide : (w : ℕ) (l : List ℕ) → w ≡ 64 → ((k : ℕ) → getD l k 0 < 18446744073709551616) → FoundIn Nothing w l
+word-wide w l e = none-below (strayAt w) _ l (λ x h. stray-not w 18446744073709551615 x (ap (λ (n : ℕ). 2 ^ n) (sym e)) (omega arith))
 
 -- 2^64 − 1 without its lowest 64 − w bits
 pub ones-shifted : (w : ℕ) → w ≤ 64 → 18446744073709551615 / 2 ^ (64 - w) + 1 ≡ 2 ^ w

@@ -8,8 +8,8 @@ mod stray;
 use crate::refusal::dot_refusal;
 use crate::refusal::sum_refusal;
 use crate::stray::Found;
-use crate::stray::find_stray;
-use crate::stray::find_stray_bytes;
+use crate::stray::stray_bytes;
+use crate::stray::stray_words;
 use format::Format;
 use format::env::Settings;
 use reduction::total::Answer;
@@ -28,7 +28,7 @@ pub fn sum(f: Format, c: Settings, u: u64, values: &[u64]) -> Answer
     if number != 0 {
         return refused(number, 0);
     }
-    match find_stray(f.width, values) {
+    match stray_words(f.width, values) {
         Found::At(i) => refused(7, i as u64),
         Found::Nothing => lists::words(f, c, u, values, values),
     }
@@ -42,10 +42,10 @@ pub fn dot(f: Format, c: Settings, left: &[u64], right: &[u64]) -> Answer
     if number != 0 {
         return refused(number, 0);
     }
-    if let Found::At(i) = find_stray(f.width, left) {
+    if let Found::At(i) = stray_words(f.width, left) {
         return refused(7, i as u64);
     }
-    match find_stray(f.width, right) {
+    match stray_words(f.width, right) {
         Found::At(i) => refused(7, i as u64),
         Found::Nothing => lists::words(f, c, 3, left, right),
     }
@@ -59,7 +59,7 @@ pub fn sum_bytes(f: Format, c: Settings, u: u64, values: &[u8]) -> Answer
     if number != 0 {
         return refused(number, 0);
     }
-    match find_stray_bytes(f.width, values) {
+    match stray_bytes(f.width, values) {
         Found::At(i) => refused(7, i as u64),
         Found::Nothing => lists::bytes(f, c, u, values, values),
     }
@@ -72,10 +72,10 @@ pub fn dot_bytes(f: Format, c: Settings, left: &[u8], right: &[u8]) -> Answer
     if number != 0 {
         return refused(number, 0);
     }
-    if let Found::At(i) = find_stray_bytes(f.width, left) {
+    if let Found::At(i) = stray_bytes(f.width, left) {
         return refused(7, i as u64);
     }
-    match find_stray_bytes(f.width, right) {
+    match stray_bytes(f.width, right) {
         Found::At(i) => refused(7, i as u64),
         Found::Nothing => lists::bytes(f, c, 3, left, right),
     }

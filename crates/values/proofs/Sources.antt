@@ -1,15 +1,17 @@
 -- The elements of a source, by their index and as a list.
 use mathlib.Core.Path.{_≡_, refl, sym, ap, _∙_}
+use mathlib.Core.Bool.{Bool, true, false}
 use mathlib.Core.List.{List}
 use Prim.Native.Nat.{ℕ, zero, suc, _+_, _*_, _/_, _<_}
 use native.Mathlib.Nat.{le-of-suc-le-suc, not-suc-le-zero, add-zero, zero-mul, mul-one, zero-add}
 use native.Mathlib.Omega.{arith}
+use lib.Dec.{eqb, lit<}
 use lib.ListN.{length, getD}
 use lib.Seq.{ext-getD}
 use Rattle.totals_spec.specs.Bytes.{valuesIn}
-use Rattle.totals_spec.proofs.Values.{values-length}
+use Rattle.totals_spec.proofs.Values.{values-length, values-small}
 use Rattle.values.specs.declared.Source.{Source}
-use Rattle.values.specs.Sources.{strided, values, elements, Within, Whole}
+use Rattle.values.specs.Sources.{strided, laidOut, values, elements, Within, Whole}
 
 pub strided-length : (at step n : ℕ) (l : List ℕ) → length (strided at step n l) ≡ n
 strided-length at step zero l = refl
@@ -32,6 +34,22 @@ strided-all l =
 pub elements-length : (s : Source) (words bytes : List ℕ) → length (elements s words bytes) ≡ s .count
 unfolding elements
 elements-length s words bytes = strided-length (s .start) (s .step) (s .count) _
+
+-- what bounds every value bounds every element
+strided-small : (b at step n : ℕ) (l : List ℕ) → 0 < b → ((k : ℕ) → getD l k 0 < b) → (i : ℕ) → getD (strided at step n l) i 0 < b
+strided-small b at step zero l z f i = z
+strided-small b at step (suc n) l z f zero = f at
+strided-small b at step (suc n) l z f (suc i) = strided-small b (at + step) step n l z f i
+
+laid-small : (a : Bool) (words bytes : List ℕ) → ((k : ℕ) → getD words k 0 < 18446744073709551616) → ((k : ℕ) → getD bytes k 0 < 256)
+    → (i : ℕ) → getD (laidOut a words bytes) i 0 < 18446744073709551616
+laid-small true words bytes f g = f
+laid-small false words bytes f g = values-small bytes g
+
+pub elements-small : (s : Source) (words bytes : List ℕ) → ((k : ℕ) → getD words k 0 < 18446744073709551616) → ((k : ℕ) → getD bytes k 0 < 256)
+    → (i : ℕ) → getD (elements s words bytes) i 0 < 18446744073709551616
+unfolding elements
+elements-small s words bytes f g = strided-small _ (s .start) (s .step) (s .count) _ (lit< tt) (laid-small (eqb (s .layout) 0) words bytes f g)
 
 -- ---- the list that a source gives
 

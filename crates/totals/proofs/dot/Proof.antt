@@ -41,19 +41,19 @@ right-long : (s : tie.Start) → length (right s) ≡ m s
 right-long s = refl
 
 -- once the left list is searched, and then the right one
-abbrev entry : tie.After-find-stray → tie.Start
+abbrev entry : tie.After-stray-words → tie.Start
 entry t = t .before .before .before .before .before
 
-numbers : (t : tie.After-find-stray) → dotNumbers (form (entry t)) (env (entry t)) (n (entry t)) (m (entry t)) ≡ 0
+numbers : (t : tie.After-stray-words) → dotNumbers (form (entry t)) (env (entry t)) (n (entry t)) (m (entry t)) ≡ 0
 numbers t = sym (t .before .before .dot-refusal .ensures) ∙ t .before .if1 .left
 
-abbrev first : tie.After-find-stray2 → tie.After-find-stray
+abbrev first : tie.After-stray-words2 → tie.After-stray-words
 first t = t .before .before .before
 
-unrefused : (t : tie.After-find-stray2) → t .find-stray2 .result ≡ Nothing → let s = entry (first t) in dotRefusal (form s) (env s) (left s) (right s) ≡ 0
+unrefused : (t : tie.After-stray-words2) → t .stray-words2 .result ≡ Nothing → let s = entry (first t) in dotRefusal (form s) (env s) (left s) (right s) ≡ 0
 unrefused t =
     let s = entry (first t) in
-    dot-unrefused (form s) (env s) (n s) (m s) (left s) (right s) (left-long s) (right-long s) _ _ (numbers (first t)) (first t .find-stray .ensures) (t .before .enum-told .given .1) (t .find-stray2 .ensures)
+    dot-unrefused (form s) (env s) (n s) (m s) (left s) (right s) (left-long s) (right-long s) _ _ (numbers (first t)) (first t .stray-words .ensures) (t .before .enum-told .given .1) (t .stray-words2 .ensures)
 
 dot-refusal-requires : tie.Need-dot-refusal-requires
 dot-refusal-requires c κs = search needs
@@ -66,8 +66,8 @@ returns c =
     let s = c .before .before .before .before .before in
     c .refused .ensures ∙ dot-stopped (form s) (env s) (n s) (m s) (left s) (right s) (left-long s) (right-long s) _ (c .before .before .dot-refusal .ensures) (c .before .if1 .taken)
 
-find-stray-requires : tie.Need-find-stray-requires
-find-stray-requires c κs =
+stray-words-requires : tie.Need-stray-words-requires
+stray-words-requires c κs =
     let s = c .before .before .before .before in
     dot-width (form s) (env s) (n s) (m s) (left s) (right s) (left-long s) (right-long s) (sym (c .before .dot-refusal .ensures) ∙ c .if1 .left)
 
@@ -81,13 +81,13 @@ returns-2 : tie.Need-returns-2
 returns-2 c =
     let t = c .before .before .before .before in
     let s = entry t in
-    c .refused2 .ensures ∙ dot-strayed-left (form s) (env s) (n s) (m s) (left s) (right s) (left-long s) (right-long s) _ _ (numbers t) (t .find-stray .ensures) (c .before .before .i .given .1)
+    c .refused2 .ensures ∙ dot-strayed-left (form s) (env s) (n s) (m s) (left s) (right s) (left-long s) (right-long s) _ _ (numbers t) (t .stray-words .ensures) (c .before .before .i .given .1)
 
 enum-told : tie.Need-enum-told
 enum-told c = search needs
 
-find-stray-requires-2 : tie.Need-find-stray-requires-2
-find-stray-requires-2 c κs =
+stray-words-requires-2 : tie.Need-stray-words-requires-2
+stray-words-requires-2 c κs =
     let t = c .before .before in
     let s = entry t in
     dot-width (form s) (env s) (n s) (m s) (left s) (right s) (left-long s) (right-long s) (numbers t)
@@ -113,7 +113,7 @@ returns-3 c =
     let t = c .before .before .before .before in
     let s = entry (first t) in
     c .refused3 .ensures
-    ∙ dot-strayed-right (form s) (env s) (n s) (m s) (left s) (right s) (left-long s) (right-long s) _ _ _ (numbers (first t)) (first t .find-stray .ensures) (t .before .enum-told .given .1) (t .find-stray2 .ensures)
+    ∙ dot-strayed-right (form s) (env s) (n s) (m s) (left s) (right s) (left-long s) (right-long s) _ _ _ (numbers (first t)) (first t .stray-words .ensures) (t .before .enum-told .given .1) (t .stray-words2 .ensures)
     (c .before .before .i2 .given .1)
 
 returns-4 : tie.Need-returns-4
@@ -129,12 +129,12 @@ dot-spec =
     dot-refusal-requires
     refused-requires
     returns
-    find-stray-requires
+    stray-words-requires
     enum-known-i
     refused-requires-2
     returns-2
     enum-told
-    find-stray-requires-2
+    stray-words-requires-2
     enum-known-i-2
     refused-requires-3
     enum-told-2

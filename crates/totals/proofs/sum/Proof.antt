@@ -32,16 +32,16 @@ long : (s : tie.Start) → length (l s) ≡ n s
 long s = refl
 
 -- once the list is searched
-abbrev entry : tie.After-find-stray → tie.Start
+abbrev entry : tie.After-stray-words → tie.Start
 entry t = t .before .before .before .before
 
-numbers : (t : tie.After-find-stray) → sumNumbers (form (entry t)) (env (entry t)) (entry t .args .u) (n (entry t)) ≡ 0
+numbers : (t : tie.After-stray-words) → sumNumbers (form (entry t)) (env (entry t)) (entry t .args .u) (n (entry t)) ≡ 0
 numbers t = sym (t .before .before .sum-refusal .ensures) ∙ t .before .if1 .left
 
-unrefused : (t : tie.After-find-stray) → t .find-stray .result ≡ Nothing → sumRefusal (form (entry t)) (env (entry t)) (entry t .args .u) (l (entry t)) ≡ 0
+unrefused : (t : tie.After-stray-words) → t .stray-words .result ≡ Nothing → sumRefusal (form (entry t)) (env (entry t)) (entry t .args .u) (l (entry t)) ≡ 0
 unrefused t =
     let s = entry t in
-    sum-unrefused (form s) (env s) (s .args .u) (n s) (l s) (long s) _ (numbers t) (t .find-stray .ensures)
+    sum-unrefused (form s) (env s) (s .args .u) (n s) (l s) (long s) _ (numbers t) (t .stray-words .ensures)
 
 sum-refusal-requires : tie.Need-sum-refusal-requires
 sum-refusal-requires c κs = search needs
@@ -54,8 +54,8 @@ returns c =
     let s = c .before .before .before .before in
     c .refused .ensures ∙ sum-stopped (form s) (env s) (s .args .u) (n s) (l s) (long s) _ (c .before .before .sum-refusal .ensures) (c .before .if1 .taken)
 
-find-stray-requires : tie.Need-find-stray-requires
-find-stray-requires c κs =
+stray-words-requires : tie.Need-stray-words-requires
+stray-words-requires c κs =
     let s = c .before .before .before in
     sum-width (form s) (env s) (s .args .u) (n s) (l s) (long s) (sym (c .before .sum-refusal .ensures) ∙ c .if1 .left)
 
@@ -78,7 +78,7 @@ returns-2 : tie.Need-returns-2
 returns-2 c =
     let t = c .before .before .before .before in
     let s = entry t in
-    c .refused2 .ensures ∙ sum-strayed (form s) (env s) (s .args .u) (n s) (l s) (long s) _ _ (numbers t) (t .find-stray .ensures) (c .before .before .i .given .1)
+    c .refused2 .ensures ∙ sum-strayed (form s) (env s) (s .args .u) (n s) (l s) (long s) _ _ (numbers t) (t .stray-words .ensures) (c .before .before .i .given .1)
 
 returns-3 : tie.Need-returns-3
 returns-3 c =
@@ -93,7 +93,7 @@ sum-spec =
     sum-refusal-requires
     refused-requires
     returns
-    find-stray-requires
+    stray-words-requires
     enum-known-i
     refused-requires-2
     enum-told

@@ -34,16 +34,16 @@ long : (s : tie.Start) → length (l s) ≡ n s
 long s = values-length (s .args .values .now)
 
 -- once the list is searched
-abbrev entry : tie.After-find-stray-bytes → tie.Start
+abbrev entry : tie.After-stray-bytes → tie.Start
 entry t = t .before .before .before .before
 
-numbers : (t : tie.After-find-stray-bytes) → sumNumbers (form (entry t)) (env (entry t)) (entry t .args .u) (n (entry t)) ≡ 0
+numbers : (t : tie.After-stray-bytes) → sumNumbers (form (entry t)) (env (entry t)) (entry t .args .u) (n (entry t)) ≡ 0
 numbers t = sym (t .before .before .sum-refusal .ensures) ∙ t .before .if1 .left
 
-unrefused : (t : tie.After-find-stray-bytes) → t .find-stray-bytes .result ≡ Nothing → sumRefusal (form (entry t)) (env (entry t)) (entry t .args .u) (l (entry t)) ≡ 0
+unrefused : (t : tie.After-stray-bytes) → t .stray-bytes .result ≡ Nothing → sumRefusal (form (entry t)) (env (entry t)) (entry t .args .u) (l (entry t)) ≡ 0
 unrefused t =
     let s = entry t in
-    sum-unrefused (form s) (env s) (s .args .u) (n s) (l s) (long s) _ (numbers t) (t .find-stray-bytes .ensures)
+    sum-unrefused (form s) (env s) (s .args .u) (n s) (l s) (long s) _ (numbers t) (t .stray-bytes .ensures)
 
 sum-refusal-requires : tie.Need-sum-refusal-requires
 sum-refusal-requires c κs = search needs
@@ -56,8 +56,8 @@ returns c =
     let s = c .before .before .before .before in
     c .refused .ensures ∙ sum-stopped (form s) (env s) (s .args .u) (n s) (l s) (long s) _ (c .before .before .sum-refusal .ensures) (c .before .if1 .taken)
 
-find-stray-bytes-requires : tie.Need-find-stray-bytes-requires
-find-stray-bytes-requires c κs =
+stray-bytes-requires : tie.Need-stray-bytes-requires
+stray-bytes-requires c κs =
     let s = c .before .before .before in
     sum-width (form s) (env s) (s .args .u) (n s) (l s) (long s) (sym (c .before .sum-refusal .ensures) ∙ c .if1 .left)
 
@@ -80,7 +80,7 @@ returns-2 : tie.Need-returns-2
 returns-2 c =
     let t = c .before .before .before .before in
     let s = entry t in
-    c .refused2 .ensures ∙ sum-strayed (form s) (env s) (s .args .u) (n s) (l s) (long s) _ _ (numbers t) (t .find-stray-bytes .ensures) (c .before .before .i .given .1)
+    c .refused2 .ensures ∙ sum-strayed (form s) (env s) (s .args .u) (n s) (l s) (long s) _ _ (numbers t) (t .stray-bytes .ensures) (c .before .before .i .given .1)
 
 returns-3 : tie.Need-returns-3
 returns-3 c =
@@ -95,7 +95,7 @@ sum-bytes-spec =
     sum-refusal-requires
     refused-requires
     returns
-    find-stray-bytes-requires
+    stray-bytes-requires
     enum-known-i
     refused-requires-2
     enum-told
