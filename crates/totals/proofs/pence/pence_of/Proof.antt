@@ -1,6 +1,10 @@
 -- `totals::pence::pence_of` meets its contract.
-use mathlib.Core.Path.{sym, ap₂, _∙_}
+use mathlib.Core.Path.{_≡_, sym, ap₂, _∙_}
+use mathlib.Core.Bool.{true}
+use borrow.Author.Needs.{needs}
 use borrow.Author.Tests.{not-true, not-false}
+use Rattle.totals_spec.specs.Format.{Format, validFormat}
+use Rattle.totals_spec.specs.Bounds.{FormatBounds}
 use Rattle.totals_spec.specs.Pence.{figureOf}
 use Rattle.totals_spec.proofs.Bits.{T-of}
 use Rattle.totals_spec.proofs.Valid.{format-bounds}
@@ -8,9 +12,25 @@ use Rattle.format.specs.Joined.{formatOf}
 use Rattle.totals.proofs.Answers.{width-bounds}
 use Rattle.totals.proofs.Search.{stray-is, stray-not}
 use Rattle.totals.proofs.Figures.{bad-format, stray-bit, no-stray-bit, decode-bounded}
-use borrow.Author.Needs.{needs}
 use Rattle.totals.proofs.pence.pence_of.Statement.{statement}
 use Rattle.totals.proofs.pence.pence_of.Tie as tie
+
+-- at the entry, and where the format is valid
+abbrev form : tie.Start → Format
+form s = formatOf (s .args .f)
+
+abbrev entry : tie.Else1 → tie.Start
+entry t = t .before .before
+
+valid : (t : tie.Else1) → validFormat (form (entry t)) ≡ true
+valid t = sym (t .before .valid-format .ensures) ∙ not-false _ (t .if1 .left)
+
+bounds : (t : tie.Else1) → FormatBounds (form (entry t))
+bounds t = format-bounds _ (T-of (valid t))
+
+-- where the encoding is too
+abbrev first : tie.Else2 → tie.Else1
+first e = e .before .before
 
 valid-format-requires : tie.Need-valid-format-requires
 valid-format-requires c κs = search needs
@@ -20,40 +40,35 @@ refused-requires c κs = search needs
 
 returns : tie.Need-returns
 returns c =
-    let s = c .before .before .before .args in
-    c .refused .ensures ∙ bad-format (formatOf (s .f)) (s .b) (sym (c .before .before .valid-format .ensures) ∙ not-true _ (c .before .if1 .taken))
+    let t = c .before in
+    c .refused .ensures ∙ bad-format _ _ (sym (t .before .valid-format .ensures) ∙ not-true _ (t .if1 .taken))
 
 greatest-requires : tie.Need-greatest-requires
-greatest-requires c κs = width-bounds _ (format-bounds (formatOf (c .before .before .args .f)) (T-of (sym (c .before .valid-format .ensures) ∙ not-false _ (c .if1 .left))))
+greatest-requires c κs = width-bounds _ (bounds c)
 
 refused-requires-2 : tie.Need-refused-requires-2
 refused-requires-2 c κs = search needs
 
 returns-2 : tie.Need-returns-2
 returns-2 c =
-    let s = c .before .before .before .before .before .args in
-    c .refused2 .ensures
-    ∙ stray-bit (formatOf (s .f)) (s .b) (sym (c .before .before .before .before .valid-format .ensures) ∙ not-false _ (c .before .before .before .if1 .left))
-    (stray-is (s .f .width) _ (s .b) (c .before .before .greatest .ensures) (c .before .if2 .taken))
+    let g = c .before .before in
+    c .refused2 .ensures ∙ stray-bit _ _ (valid (g .before)) (stray-is _ _ _ (g .greatest .ensures) (c .before .if2 .taken))
 
 depth-requires : tie.Need-depth-requires
-depth-requires c κs = format-bounds _ (T-of (sym (c .before .before .before .valid-format .ensures) ∙ not-false _ (c .before .before .if1 .left)))
+depth-requires c κs = bounds (first c)
 
 decode-requires : tie.Need-decode-requires
-decode-requires c κs = format-bounds _ (T-of (sym (c .before .before .before .before .valid-format .ensures) ∙ not-false _ (c .before .before .before .if1 .left)))
+decode-requires c κs = bounds (first (c .before))
 
 figure-of-requires : tie.Need-figure-of-requires
 figure-of-requires c κs =
-    let s = c .before .before .before .before .before .before .args in
-    decode-bounded (formatOf (s .f)) (s .b)
-    (format-bounds _ (T-of (sym (c .before .before .before .before .before .valid-format .ensures) ∙ not-false _ (c .before .before .before .before .if1 .left)))) _ (c .decode .ensures)
+    decode-bounded _ _ (bounds (first (c .before .before))) _ (c .decode .ensures)
 
 returns-3 : tie.Need-returns-3
 returns-3 c =
-    let s = c .before .before .before .before .before .before .before .args in
+    let e = c .before .before .before in
     c .figure-of .ensures ∙ ap₂ figureOf (c .before .before .depth .ensures .0) (c .before .decode .ensures)
-    ∙ no-stray-bit (formatOf (s .f)) (s .b) (sym (c .before .before .before .before .before .before .valid-format .ensures) ∙ not-false _ (c .before .before .before .before .before .if1 .left))
-    (stray-not (s .f .width) _ (s .b) (c .before .before .before .before .greatest .ensures) (c .before .before .before .if2 .left))
+    ∙ no-stray-bit _ _ (valid (first e)) (stray-not _ _ _ (e .before .greatest .ensures) (e .if2 .left))
 
 pub pence-of-spec : {M : Type 1} → statement M
 pence-of-spec =
