@@ -1,11 +1,23 @@
 -- `totals::pence::magnitude` meets its contract.
-use mathlib.Core.Path.{_∙_, subst}
-use Prim.Native.Nat.{ℕ, _+_, _-_, _<_, _≤_}
+use mathlib.Core.Path.{_∙_}
+use Prim.Native.Nat.{ℕ, _+_, _-_, _*_, _^_, _≤_}
 use native.Mathlib.Nat.{le-of-lt}
-use Rattle.totals.proofs.Figures.{cut-gives, long-gives, short-fits, short-gives}
+use native.Mathlib.Omega.{arith}
 use borrow.Author.Needs.{needs}
+use lib.Ieee.{size}
+use Rattle.totals.proofs.Figures.{cut-gives, long-gives, short-fits, short-gives}
 use Rattle.totals.proofs.pence.magnitude.Statement.{statement}
 use Rattle.totals.proofs.pence.magnitude.Tie as tie
+
+-- once twice the figure is made, and where it is scaled up and keeps within a word
+abbrev twice : tie.After-widening-mul → ℕ
+twice t = t .widening-mul .result .high * 2 ^ 64 + t .widening-mul .result .low
+
+abbrev up : tie.After-widening-mul → ℕ
+up t = t .before .args .k - t .before .args .d
+
+short : (e : tie.Else2) → let t = e .before .before .before in size (twice t) + up t ≤ 64
+short e = omega (arith, e .before .bit-length .ensures)
 
 widening-mul-requires : tie.Need-widening-mul-requires
 widening-mul-requires c κs = search needs
@@ -18,8 +30,8 @@ halved-requires c κs = search needs
 
 returns : tie.Need-returns
 returns c =
-    let s = c .before .before .before .before .args in
-    c .halved .ensures ∙ cut-gives (s .d) (s .k) (s .m) _ (c .before .before .before .widening-mul .ensures) _ (c .before .before .if1 .taken) (c .before .shr .ensures)
+    let t = c .before .before in
+    c .halved .ensures ∙ cut-gives _ _ _ _ (t .before .widening-mul .ensures) _ (t .if1 .taken) (c .before .shr .ensures)
 
 sub-up : tie.Need-sub-up
 sub-up c = search needs
@@ -35,28 +47,21 @@ add-if2 c = search needs
 
 returns-2 : tie.Need-returns-2
 returns-2 c =
-    let s = c .before .before .before .before .args in
-    long-gives (s .d) (s .k) (s .m) _ (c .before .before .before .widening-mul .ensures) (le-of-lt (c .before .before .if1 .left)) (c .before .before .before .before .pre .1)
-    (subst (λ (n : ℕ). 64 < n + (s .k - s .d)) (c .before .bit-length .ensures) (c .if2 .taken))
+    let t = c .before .before in
+    let g = t .before in
+    long-gives _ _ _ _ (g .widening-mul .ensures) (le-of-lt (t .if1 .left)) (g .before .pre .1) (omega (arith, c .before .bit-length .ensures))
 
 scaled-requires : tie.Need-scaled-requires
-scaled-requires c κs =
-    let s = c .before .before .before .before .args in
-    let t = c .before .before .before .widening-mul in
-    short-fits (s .d) (s .k) (s .m) (t .result .low) (t .result .high) (t .ensures)
-    (subst (λ (n : ℕ). n + (s .k - s .d) ≤ 64) (c .before .bit-length .ensures) (c .if2 .left)) (c .before .before .before .before .pre .1)
+scaled-requires c κs = let g = c .before .before .before in short-fits _ _ _ _ _ (g .widening-mul .ensures) (short c) (g .before .pre .1)
 
 halved-requires-2 : tie.Need-halved-requires-2
 halved-requires-2 c κs = search needs
 
 returns-3 : tie.Need-returns-3
 returns-3 c =
-    let s = c .before .before .before .before .before .before .args in
-    let t = c .before .before .before .before .before .widening-mul in
-    c .halved2 .ensures
-    ∙ short-gives (s .d) (s .k) (s .m) (t .result .low) (t .result .high) (t .ensures)
-    (subst (λ (n : ℕ). n + (s .k - s .d) ≤ 64) (c .before .before .before .bit-length .ensures) (c .before .before .if2 .left)) _
-    (le-of-lt (c .before .before .before .before .if1 .left)) (c .before .scaled .ensures)
+    let e = c .before .before in
+    let t = e .before .before in
+    c .halved2 .ensures ∙ short-gives _ _ _ _ _ (t .before .widening-mul .ensures) (short e) _ (le-of-lt (t .if1 .left)) (c .before .scaled .ensures)
 
 pub magnitude-spec : {M : Type 1} → statement M
 magnitude-spec =
