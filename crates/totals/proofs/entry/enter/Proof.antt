@@ -1,9 +1,15 @@
 -- `totals::entry::enter` meets its contract.
-use Rattle.reduction.specs.Answered.{answerOf}
-use Rattle.totals.proofs.Written.{enters-written, enters-refused}
 use borrow.Author.Needs.{needs}
+use Rattle.totals.proofs.Written.{enters-written, enters-refused}
 use Rattle.totals.proofs.entry.enter.Statement.{statement}
 use Rattle.totals.proofs.entry.enter.Tie as tie
+
+-- the words that were written before
+abbrev first : tie.After-put-word2 → tie.After-put-word
+first t = let k = t .before .before in k .before .before
+
+abbrev second : tie.After-put-word3 → tie.After-put-word2
+second t = let k = t .before .before in k .before .before
 
 mul-result : tie.Need-mul-result
 mul-result c = search needs
@@ -12,7 +18,7 @@ add-result : tie.Need-add-result
 add-result c = search needs
 
 returns : tie.Need-returns
-returns c = enters-refused (answerOf (c .before .before .before .before .before .args .a)) _ (c .before .before .if1 .taken)
+returns c = enters-refused _ _ (c .before .before .if1 .taken)
 
 put-word-requires : tie.Need-put-word-requires
 put-word-requires c κs = search needs
@@ -27,7 +33,11 @@ same-length : tie.Need-same-length
 same-length c = search needs
 
 returns-2 : tie.Need-returns-2
-returns-2 c = enters-written (answerOf (c .before .before .before .before .before .before .before .before .before .before .before .before .before .before .before .args .a)) _ _ _ _ (c .before .before .before .before .before .before .before .before .before .before .before .before .if1 .left) (c .before .before .before .before .before .before .before .before .before .before .put-word .ensures) (c .before .before .before .before .before .before .put-word2 .ensures) (c .before .before .put-word3 .ensures)
+returns-2 c =
+    let t = c .before .before in
+    let r = second t in
+    let q = first r in
+    enters-written _ _ _ _ _ (q .before .before .if1 .left) (q .put-word .ensures) (r .put-word2 .ensures) (t .put-word3 .ensures)
 
 pub enter-spec : {M : Type 1} → statement M
 enter-spec =

@@ -1,7 +1,6 @@
 -- `totals::entry::totals_dot` meets its contract.
 use mathlib.Core.Path.{sym, subst}
 use Rattle.totals_spec.proofs.Refused.{Small, dot-small}
-use Rattle.reduction.specs.Answered.{answerOf}
 use Rattle.totals.proofs.Written.{dot-uneven-left, dot-uneven-right, dot-short, dot-enters}
 use borrow.Author.Needs.{needs}
 use Rattle.totals.proofs.entry.totals_dot.Statement.{statement}
@@ -20,13 +19,20 @@ dot-bytes-requires : tie.Need-dot-bytes-requires
 dot-bytes-requires c κs = search needs
 
 enter-requires : tie.Need-enter-requires
-enter-requires c κs = let small = subst Small (sym (c .before .dot-bytes .ensures)) (dot-small _ _ _ _) in (c .before .before .if3 .left, small .number, small .place)
+enter-requires c κs =
+    let t = c .before in
+    let small = subst Small (sym (t .dot-bytes .ensures)) (dot-small _ _ _ _) in
+    (t .before .if3 .left, small .number, small .place)
 
 same-length : tie.Need-same-length
 same-length c = search needs
 
 returns-4 : tie.Need-returns-4
-returns-4 c = dot-enters _ _ _ _ _ (c .before .before .before .before .before .before .before .if1 .left) (c .before .before .before .before .before .before .if2 .left) (c .before .before .before .before .before .if3 .left) (answerOf (c .before .before .before .before .dot-bytes .result)) (c .before .before .before .before .dot-bytes .ensures) _ _ (c .before .before .enter .ensures)
+returns-4 c =
+    let r = c .before .before in
+    let t = r .before .before in
+    let e = t .before in
+    dot-enters _ _ _ _ _ (e .before .before .if1 .left) (e .before .if2 .left) (e .if3 .left) _ (t .dot-bytes .ensures) _ _ (r .enter .ensures)
 
 pub totals-dot-spec : {M : Type 1} → statement M
 totals-dot-spec =

@@ -1,7 +1,6 @@
 -- `totals::entry::totals_sum` meets its contract.
 use mathlib.Core.Path.{sym, subst}
 use Rattle.totals_spec.proofs.Refused.{Small, sum-small}
-use Rattle.reduction.specs.Answered.{answerOf}
 use Rattle.totals.proofs.Written.{sum-uneven, sum-short, sum-enters}
 use borrow.Author.Needs.{needs}
 use Rattle.totals.proofs.entry.totals_sum.Statement.{statement}
@@ -17,13 +16,20 @@ sum-bytes-requires : tie.Need-sum-bytes-requires
 sum-bytes-requires c κs = search needs
 
 enter-requires : tie.Need-enter-requires
-enter-requires c κs = let small = subst Small (sym (c .before .sum-bytes .ensures)) (sum-small _ _ _ _) in (c .before .before .if2 .left, small .number, small .place)
+enter-requires c κs =
+    let t = c .before in
+    let small = subst Small (sym (t .sum-bytes .ensures)) (sum-small _ _ _ _) in
+    (t .before .if2 .left, small .number, small .place)
 
 same-length : tie.Need-same-length
 same-length c = search needs
 
 returns-3 : tie.Need-returns-3
-returns-3 c = sum-enters _ _ _ _ _ (c .before .before .before .before .before .before .if1 .left) (c .before .before .before .before .before .if2 .left) (answerOf (c .before .before .before .before .sum-bytes .result)) (c .before .before .before .before .sum-bytes .ensures) _ _ (c .before .before .enter .ensures)
+returns-3 c =
+    let r = c .before .before in
+    let t = r .before .before in
+    let e = t .before in
+    sum-enters _ _ _ _ _ (e .before .if1 .left) (e .if2 .left) _ (t .sum-bytes .ensures) _ _ (r .enter .ensures)
 
 pub totals-sum-spec : {M : Type 1} → statement M
 totals-sum-spec =
