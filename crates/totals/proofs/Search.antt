@@ -1,5 +1,5 @@
 -- The search for an element with a stray bit: what a walk knows of the elements before i, and what it finds.
-use mathlib.Core.Path.{_≡_, refl, sym, ap, ap₂, _∙_}
+use mathlib.Core.Path.{_≡_, refl, sym, ap, ap₂, _∙_, subst}
 use mathlib.Core.Bool.{Bool, true, false, _||_, cond}
 use mathlib.Core.List.{List, [], _∷_}
 use Prim.Native.Nat.{ℕ, zero, suc, _+_, _-_, _*_, _/_, _^_, _≤_, _<_, zero-le}
@@ -14,31 +14,32 @@ use Rattle.totals_spec.specs.Totals.{firstIndex}
 use borrow.Author.Tests.{le-leb, lt-leb}
 use Rattle.totals_spec.proofs.Walk.{any-take}
 use Rattle.totals_spec.proofs.Order.{or-split}
-use Rattle.totals.specs.Stray.{strayAt, FoundIn}
+use Rattle.totals.specs.Stray.{strayAt, Says, FoundIn, FoundOn}
+use Rattle.totals.specs.declared.stray.Found.{Found}
 use Rattle.totals.specs.declared.stray.Found.the-variants.{At, Nothing}
 
 module _ (t : ℕ → Bool) where
   -- none of the first i + 1
-  pub none-next : (l : List ℕ) (i x : ℕ) → i < length l → x ≡ getD l i 0 → any t (take i l) ≡ false → t x ≡ false → any t (take (i + 1) l) ≡ false
+  none-next : (l : List ℕ) (i x : ℕ) → i < length l → x ≡ getD l i 0 → any t (take i l) ≡ false → t x ≡ false → any t (take (i + 1) l) ≡ false
   none-next l i x h e p q = ap (λ (n : ℕ). any t (take n l)) (add-one i) ∙ any-take t l i 0 h ∙ ap₂ _||_ p (ap t (sym e) ∙ q)
 
   -- none at all
-  pub none-all : (l : List ℕ) (i : ℕ) → i ≡ length l → any t (take i l) ≡ false → any t l ≡ false
+  none-all : (l : List ℕ) (i : ℕ) → i ≡ length l → any t (take i l) ≡ false → any t l ≡ false
   none-all l i e p = ap (any t) (sym (ap (λ (n : ℕ). take n l) e ∙ take-length l)) ∙ p
 
   -- the first one
-  pub first-some : (l : List ℕ) (i : ℕ) → i < length l → any t (take i l) ≡ false → t (getD l i 0) ≡ true → any t l ≡ true
+  first-some : (l : List ℕ) (i : ℕ) → i < length l → any t (take i l) ≡ false → t (getD l i 0) ≡ true → any t l ≡ true
   first-some [] i h p q = absurd (not-suc-le-zero h)
   first-some (x ∷ l) zero h p q = ap (λ (b : Bool). b || any t l) q
   first-some (x ∷ l) (suc i) h p q = rw (or-split (t x) _ p .0) (first-some l i (le-of-suc-le-suc h) (or-split (t x) _ p .1) q)
 
-  pub first-index : (l : List ℕ) (i : ℕ) → i < length l → any t (take i l) ≡ false → t (getD l i 0) ≡ true → firstIndex t l ≡ i
+  first-index : (l : List ℕ) (i : ℕ) → i < length l → any t (take i l) ≡ false → t (getD l i 0) ≡ true → firstIndex t l ≡ i
   first-index [] i h p q = absurd (not-suc-le-zero h)
   first-index (x ∷ l) zero h p q = ap (λ (b : Bool). cond b 0 (suc (firstIndex t l))) q
   first-index (x ∷ l) (suc i) h p q = rw (or-split (t x) _ p .0) (ap suc (first-index l i (le-of-suc-le-suc h) (or-split (t x) _ p .1) q))
 
   -- no element has what every number below b lacks
-  pub none-below : (b : ℕ) (l : List ℕ) → ((x : ℕ) → x < b → t x ≡ false) → ((k : ℕ) → getD l k 0 < b) → any t l ≡ false
+  none-below : (b : ℕ) (l : List ℕ) → ((x : ℕ) → x < b → t x ≡ false) → ((k : ℕ) → getD l k 0 < b) → any t l ≡ false
   none-below b [] h f = refl
   none-below b (x ∷ l) h f = ap₂ _||_ (h x (f 0)) (none-below b l h (λ k. f (suc k)))
 
@@ -74,6 +75,23 @@ clear-end {w} {l} {i} k h = none-all (strayAt w) l i (omega arith) (k .none)
 -- a width of a whole word leaves no room for one
 pub word-wide : (w : ℕ) (l : List ℕ) → w ≡ 64 → ((k : ℕ) → getD l k 0 < 18446744073709551616) → FoundIn Nothing w l
 word-wide w l e = none-below (strayAt w) _ l (λ x h. stray-not w 18446744073709551615 x (ap (λ (n : ℕ). 2 ^ n) (sym e)) (omega arith))
+
+-- ---- what a search says, and what it then says of the lists of a walk
+
+module _ (some : Bool) (first : ℕ) (r : Found) (found : Says r some first) where
+  pub says-at : (i : ℕ) → r ≡ At i → (some ≡ true) × (first ≡ i)
+  says-at i is = subst (λ (x : Found). Says x some first) is found
+
+  pub says-nothing : r ≡ Nothing → some ≡ false
+  says-nothing is = subst (λ (x : Found). Says x some first) is found
+
+module _ (w : ℕ) (x y : List ℕ) (r : Found) (found : FoundIn r w x) where
+  pub found-left : (b : Bool) (i : ℕ) → r ≡ At i → FoundOn b (At i) w x y
+  found-left true i is = let (t, at) = says-at _ _ r found i is in (rw t, rw t at)
+  found-left false i is = says-at _ _ r found i is
+
+  pub found-right : (q : Found) → r ≡ Nothing → FoundIn q w y → FoundOn true q w x y
+  found-right q is next = rw (says-nothing _ _ r found is) next
 
 -- 2^64 − 1 without its lowest 64 − w bits
 pub ones-shifted : (w : ℕ) → w ≤ 64 → 18446744073709551615 / 2 ^ (64 - w) + 1 ≡ 2 ^ w

@@ -1,4 +1,5 @@
 pub mod Refusal
 pub mod Stray
+pub mod Walked
 pub mod Entered
 pub mod PenceRecord

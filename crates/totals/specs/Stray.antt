@@ -1,6 +1,6 @@
 -- The search for a stray bit.
 use mathlib.Core.Path.{_≡_}
-use mathlib.Core.Bool.{Bool, true, false}
+use mathlib.Core.Bool.{Bool, true, false, _||_, cond}
 use mathlib.Core.List.{List}
 use Prim.Native.Nat.{ℕ, _^_}
 use lib.Dec.{leb}
@@ -13,6 +13,16 @@ use Rattle.totals.specs.declared.stray.Found.the-variants.{At, Nothing}
 abbrev pub strayAt : ℕ → ℕ → Bool
 strayAt w b = leb (2 ^ w) b
 
+-- what a search says of whether there is one, and of where the first is
+abbrev pub Says : Found → Bool → ℕ → Type 0
+Says (At i) some first = (some ≡ true) × (first ≡ i)
+Says Nothing some first = some ≡ false
+
 abbrev pub FoundIn : Found → ℕ → List ℕ → Type 0
-FoundIn (At i) w l = (any (strayAt w) l ≡ true) × (firstIndex (strayAt w) l ≡ i)
-FoundIn Nothing w l = any (strayAt w) l ≡ false
+FoundIn r w l = Says r (any (strayAt w) l) (firstIndex (strayAt w) l)
+
+-- in the lists of a walk: in a dot of the left list if that holds one, else of the right
+abbrev pub FoundOn : Bool → Found → ℕ → List ℕ → List ℕ → Type 0
+FoundOn true r w x y =
+    Says r (any (strayAt w) x || any (strayAt w) y) (cond (any (strayAt w) x) (firstIndex (strayAt w) x) (firstIndex (strayAt w) y))
+FoundOn false r w x y = FoundIn r w x

@@ -7,9 +7,6 @@ mod stray;
 
 use crate::refusal::dot_refusal;
 use crate::refusal::sum_refusal;
-use crate::stray::Found;
-use crate::stray::stray_bytes;
-use crate::stray::stray_words;
 use format::Format;
 use format::env::Settings;
 use reduction::total::Answer;
@@ -28,10 +25,7 @@ pub fn sum(f: Format, c: Settings, u: u64, values: &[u64]) -> Answer
     if number != 0 {
         return refused(number, 0);
     }
-    match stray_words(f.width, values) {
-        Found::At(i) => refused(7, i as u64),
-        Found::Nothing => lists::words(f, c, u, values, values),
-    }
+    lists::words(f, c, u, values, values)
 }
 
 // The sum of the products of the pairs.
@@ -42,13 +36,7 @@ pub fn dot(f: Format, c: Settings, left: &[u64], right: &[u64]) -> Answer
     if number != 0 {
         return refused(number, 0);
     }
-    if let Found::At(i) = stray_words(f.width, left) {
-        return refused(7, i as u64);
-    }
-    match stray_words(f.width, right) {
-        Found::At(i) => refused(7, i as u64),
-        Found::Nothing => lists::words(f, c, 3, left, right),
-    }
+    lists::words(f, c, 3, left, right)
 }
 
 // The same over bytes, eight to a value, little end first. Bytes past the last whole value are not looked at.
@@ -59,10 +47,7 @@ pub fn sum_bytes(f: Format, c: Settings, u: u64, values: &[u8]) -> Answer
     if number != 0 {
         return refused(number, 0);
     }
-    match stray_bytes(f.width, values) {
-        Found::At(i) => refused(7, i as u64),
-        Found::Nothing => lists::bytes(f, c, u, values, values),
-    }
+    lists::bytes(f, c, u, values, values)
 }
 
 pub fn dot_bytes(f: Format, c: Settings, left: &[u8], right: &[u8]) -> Answer
@@ -72,11 +57,5 @@ pub fn dot_bytes(f: Format, c: Settings, left: &[u8], right: &[u8]) -> Answer
     if number != 0 {
         return refused(number, 0);
     }
-    if let Found::At(i) = stray_bytes(f.width, left) {
-        return refused(7, i as u64);
-    }
-    match stray_bytes(f.width, right) {
-        Found::At(i) => refused(7, i as u64),
-        Found::Nothing => lists::bytes(f, c, 3, left, right),
-    }
+    lists::bytes(f, c, 3, left, right)
 }

@@ -1,12 +1,12 @@
 // The search for a set bit at position W or above, refusal 7.
 use values::Source;
+use values::Walk;
 use values::element;
-use values::whole;
 ghost use mathlib.Core.Path.{_≡_};
 ghost use Prim.Native.Nat.{_+_, _^_, _<_, _≤_};
-ghost use Rattle.totals_spec.specs.Bytes.{valuesIn};
 ghost use Rattle.values.specs.Sources.{Within, elements};
-ghost use Rattle.totals.specs.Stray.{FoundIn};
+ghost use Rattle.values.specs.Walks.{isDot};
+ghost use Rattle.totals.specs.Stray.{FoundIn, FoundOn};
 
 // An element with a set bit at position W or above.
 pub enum Found {
@@ -42,18 +42,24 @@ pub fn find_stray(width: u64, source: Source, words: &[u64], bytes: &[u8]) -> Fo
     Found::Nothing
 }
 
-// The search of a whole list of words, and of values in bytes.
-pub fn stray_words(width: u64, values: &[u64]) -> Found
+// The same of the lists of a walk: of the left one, and in a dot of the right one where the left has none.
+pub fn walk_stray(
+    width: u64,
+    k: Walk,
+    left_words: &[u64],
+    left_bytes: &[u8],
+    right_words: &[u64],
+    right_bytes: &[u8],
+) -> Found
     requires { ⌜ (0 < width) × (width ≤ 64) ⌝ }
-    ensures { λ r. ⌜ FoundIn r width (now (values .entry)) ⌝ }
+    requires { ⌜ Within (k .source) (now «left_words») (now «left_bytes») × Within (k .source) (now «right_words») (now «right_bytes») ⌝ }
+    ensures { λ r. ⌜ FoundOn (isDot k) r width (elements (k .source) (now («left_words» .entry)) (now («left_bytes» .entry))) (elements (k .source) (now («right_words» .entry)) (now («right_bytes» .entry))) ⌝ }
 {
-    find_stray(width, whole(0, 0, values.len()).source, values, b"")
-}
-
-pub fn stray_bytes(width: u64, values: &[u8]) -> Found
-    requires { ⌜ (0 < width) × (width ≤ 64) ⌝ }
-    ensures { λ r. ⌜ FoundIn r width (valuesIn (now (values .entry))) ⌝ }
-{
-    let none = [0u64; 1];
-    find_stray(width, whole(0, 1, values.len() / 8).source, &none, values)
+    if let Found::At(i) = find_stray(width, k.source, left_words, left_bytes) {
+        return Found::At(i);
+    }
+    if k.summand != 3 {
+        return Found::Nothing;
+    }
+    find_stray(width, k.source, right_words, right_bytes)
 }

@@ -1,49 +1,21 @@
 -- `totals::sum_bytes` meets its contract.
 use mathlib.Core.Path.{_≡_, refl, sym, _∙_}
-use mathlib.Core.List.{List}
 use Prim.Native.Nat.{ℕ, _/_}
 use borrow.Author.Needs.{needs}
 use lib.ListN.{length}
-use Rattle.totals_spec.specs.Format.{Format}
-use Rattle.totals_spec.specs.Settings.{Settings}
-use Rattle.totals_spec.specs.Bytes.{valuesIn}
 use Rattle.totals_spec.proofs.Values.{values-length}
-use Rattle.totals_spec.specs.Totals.{sumRefusal}
 use Rattle.format.specs.Joined.{formatOf, settingsOf}
-use Rattle.totals.specs.declared.stray.Found.the-variants.{Nothing}
 use Rattle.totals.specs.Refusal.{sumNumbers}
-use Rattle.totals.proofs.Answers.{sum-stopped, sum-width, sum-strayed, sum-unrefused}
-use Rattle.totals.proofs.Whole.{sum-asked, sum-told}
+use Rattle.totals.proofs.Answers.{sum-stopped, sum-asked, sum-told}
 use Rattle.totals.proofs.sum_bytes.Statement.{statement}
 use Rattle.totals.proofs.sum_bytes.Tie as tie
 
--- at the entry: the call in the definitions' words
-abbrev form : tie.Start → Format
-form s = formatOf (s .args .f)
+-- at the entry, and where no number was given
+abbrev numbers : tie.Start → ℕ
+numbers s = sumNumbers (formatOf (s .args .f)) (settingsOf (s .args .c)) (s .args .u) (length (s .args .values .now) / 8)
 
-abbrev env : tie.Start → Settings
-env s = settingsOf (s .args .c)
-
-abbrev l : tie.Start → List ℕ
-l s = valuesIn (s .args .values .now)
-
-abbrev n : tie.Start → ℕ
-n s = length (s .args .values .now) / 8
-
-long : (s : tie.Start) → length (l s) ≡ n s
-long s = values-length (s .args .values .now)
-
--- once the list is searched
-abbrev entry : tie.After-stray-bytes → tie.Start
-entry t = t .before .before .before .before
-
-numbers : (t : tie.After-stray-bytes) → sumNumbers (form (entry t)) (env (entry t)) (entry t .args .u) (n (entry t)) ≡ 0
-numbers t = sym (t .before .before .sum-refusal .ensures) ∙ t .before .if1 .left
-
-unrefused : (t : tie.After-stray-bytes) → t .stray-bytes .result ≡ Nothing → sumRefusal (form (entry t)) (env (entry t)) (entry t .args .u) (l (entry t)) ≡ 0
-unrefused t =
-    let s = entry t in
-    sum-unrefused (form s) (env s) (s .args .u) (n s) (l s) (long s) _ (numbers t) (t .stray-bytes .ensures)
+passed : (e : tie.Else1) → numbers (e .before .before .before) ≡ 0
+passed e = sym (e .before .sum-refusal .ensures) ∙ e .if1 .left
 
 sum-refusal-requires : tie.Need-sum-refusal-requires
 sum-refusal-requires c κs = search needs
@@ -52,53 +24,13 @@ refused-requires : tie.Need-refused-requires
 refused-requires c κs = search needs
 
 returns : tie.Need-returns
-returns c =
-    let s = c .before .before .before .before in
-    c .refused .ensures ∙ sum-stopped (form s) (env s) (s .args .u) (n s) (l s) (long s) _ (c .before .before .sum-refusal .ensures) (c .before .if1 .taken)
-
-stray-bytes-requires : tie.Need-stray-bytes-requires
-stray-bytes-requires c κs =
-    let s = c .before .before .before in
-    sum-width (form s) (env s) (s .args .u) (n s) (l s) (long s) (sym (c .before .sum-refusal .ensures) ∙ c .if1 .left)
-
-enum-known-i : tie.Need-enum-known-i
-enum-known-i c = search needs
-
-refused-requires-2 : tie.Need-refused-requires-2
-refused-requires-2 c κs = search needs
-
-enum-told : tie.Need-enum-told
-enum-told c = search needs
+returns c = let t = c .before in c .refused .ensures ∙ sum-stopped _ _ _ _ _ (values-length _) _ (t .before .sum-refusal .ensures) (t .if1 .taken)
 
 bytes-requires : tie.Need-bytes-requires
-bytes-requires c κs =
-    let t = c .before .before in
-    let s = entry t in
-    (refl, sum-asked (form s) (env s) (s .args .u) (l s) (l s) (unrefused t (c .enum-told .given .1)))
+bytes-requires c κs = (refl, sum-asked _ _ _ _ (passed c))
 
 returns-2 : tie.Need-returns-2
-returns-2 c =
-    let t = c .before .before .before .before in
-    let s = entry t in
-    c .refused2 .ensures ∙ sum-strayed (form s) (env s) (s .args .u) (n s) (l s) (long s) _ _ (numbers t) (t .stray-bytes .ensures) (c .before .before .i .given .1)
-
-returns-3 : tie.Need-returns-3
-returns-3 c =
-    let t = c .before .before .before in
-    let s = entry t in
-    c .bytes .ensures ∙ sum-told (form s) (env s) (s .args .u) (l s) (l s) (unrefused t (c .before .enum-told .given .1))
+returns-2 c = c .bytes .ensures ∙ sum-told _ _ _ _ (passed (c .before)) _ _
 
 pub sum-bytes-spec : {M : Type 1} → statement M
-sum-bytes-spec =
-    tie.close
-    (tie.spec
-    sum-refusal-requires
-    refused-requires
-    returns
-    stray-bytes-requires
-    enum-known-i
-    refused-requires-2
-    enum-told
-    bytes-requires
-    returns-2
-    returns-3)
+sum-bytes-spec = tie.close (tie.spec sum-refusal-requires refused-requires returns bytes-requires returns-2)

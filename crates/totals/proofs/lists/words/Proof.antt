@@ -31,23 +31,23 @@ right t bytes = words-give _ bytes (t .whole .ensures .1) (sym (entry t .pre .0)
 whole-requires : tie.Need-whole-requires
 whole-requires c κs = search needs
 
-slice-aggregate-total : tie.Need-slice-aggregate-total
-slice-aggregate-total c = search needs
+slice-aggregate-walked : tie.Need-slice-aggregate-walked
+slice-aggregate-walked c = search needs
 
-slice-aggregate-total-2 : tie.Need-slice-aggregate-total-2
-slice-aggregate-total-2 c = search needs
+slice-aggregate-walked-2 : tie.Need-slice-aggregate-walked-2
+slice-aggregate-walked-2 c = search needs
 
-total-requires : tie.Need-total-requires
-total-requires c κs =
+walked-requires : tie.Need-walked-requires
+walked-requires c κs =
     let t = c .before .before in
     let s = entry t in
-    asked (form s) (env s) (t .whole .ensures .0) (left t _) (right t _) (s .pre .1)
+    asked (form s) (env s) (t .whole .ensures) (left t _) (right t _) (s .pre .1)
 
 returns : tie.Need-returns
 returns c =
     let t = c .before .before .before in
     let s = entry t in
-    c .total .ensures ∙ told (form s) (env s) (t .whole .ensures .0) (left t _) (right t _)
+    c .walked .ensures ∙ told (form s) (env s) (t .whole .ensures) (left t _) (right t _)
 
 pub words-spec : {M : Type 1} → statement M
-words-spec = tie.close (tie.spec whole-requires slice-aggregate-total slice-aggregate-total-2 total-requires returns)
+words-spec = tie.close (tie.spec whole-requires slice-aggregate-walked slice-aggregate-walked-2 walked-requires returns)
