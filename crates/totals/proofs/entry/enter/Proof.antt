@@ -1,8 +1,15 @@
 -- `totals::entry::enter` meets its contract.
+use native.Mathlib.Omega.{arith}
 use borrow.Author.Needs.{needs}
+use Rattle.totals_spec.specs.Totals.{Answer}
+use Rattle.reduction.specs.Answered.{answerOf}
 use Rattle.totals.proofs.Written.{enters-written, enters-refused}
 use Rattle.totals.proofs.entry.enter.Statement.{statement}
 use Rattle.totals.proofs.entry.enter.Tie as tie
+
+-- at the test of the refusal: the record
+abbrev answer : tie.After-struct-known → Answer
+answer t = answerOf (t .before .before .args .a)
 
 -- the words that were written before
 abbrev first : tie.After-put-word2 → tie.After-put-word
@@ -18,7 +25,7 @@ add-result : tie.Need-add-result
 add-result c = search needs
 
 returns : tie.Need-returns
-returns c = enters-refused _ _ (c .before .before .if1 .taken)
+returns c = enters-refused (answer (c .before .before .before)) _ (λ e. omega (arith, e, c .before .before .if1 .taken))
 
 put-word-requires : tie.Need-put-word-requires
 put-word-requires c κs = search needs
@@ -37,7 +44,8 @@ returns-2 c =
     let t = c .before .before in
     let r = second t in
     let q = first r in
-    enters-written _ _ _ _ _ (q .before .before .if1 .left) (q .put-word .ensures) (r .put-word2 .ensures) (t .put-word3 .ensures)
+    let e = q .before .before in
+    enters-written (answer (e .before)) _ _ _ _ (omega (arith, e .if1 .left)) (q .put-word .ensures) (r .put-word2 .ensures) (t .put-word3 .ensures)
 
 pub enter-spec : {M : Type 1} → statement M
 enter-spec =
