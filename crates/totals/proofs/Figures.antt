@@ -2,7 +2,8 @@
 use mathlib.Core.Path.{_≡_, sym, ap, ap₂, _∙_, subst}
 use mathlib.Core.Bool.{Bool, true, false, not, cond}
 use Prim.Native.Nat.{ℕ, zero, suc, _+_, _-_, _*_, _/_, _%_, _^_, _≤_, _<_, min}
-use native.Mathlib.Nat.{zero-add, add-mul, suc-add, mul-assoc, sub-add-cancel, div-one, div-div-eq-div-mul, add-div-right, mul-div-mul-right, mul-le-mul-right, le-trans, le-of-lt, lt-of-lt-of-le, lt-of-le-of-lt, pow-suc, min-eq-left, min-eq-right}
+use native.Mathlib.Nat.{zero-add, add-mul, suc-add, mul-assoc, sub-add-cancel, div-one, div-div-eq-div-mul, add-div-right, mul-div-mul-right, pow-suc}
+use native.Mathlib.Nat.{mul-le-mul-right, le-trans, le-of-lt, lt-of-lt-of-le, lt-of-le-of-lt, min-eq-left, min-eq-right}
 use native.Mathlib.Omega.{arith}
 use lib.Dec.{T, ltb, ltb→lt, nltb→le}
 use lib.IntN.{ℤ, pos, negℤ, _-ℤ_, +ℤ-idl}
@@ -102,11 +103,14 @@ module _ (d k m x : ℕ) (twice : x ≡ 200 * m) where
 module _ (d k m low high : ℕ) (twice : high * 2 ^ 64 + low ≡ 200 * m) (short : size (high * 2 ^ 64 + low) + (k - d) ≤ 64) where
   pub short-fits : 0 < m → (k - d < 64) × (low * 2 ^ (k - d) < 2 ^ 64)
   short-fits p = (
-    omega (arith, size-pos (high * 2 ^ 64 + low) (omega (arith, twice))),
-    lt-of-le-of-lt (mul-le-mul-right (2 ^ (k - d)) part) (lt-of-lt-of-le (shl-lt (size (high * 2 ^ 64 + low)) (k - d) (size-lt (high * 2 ^ 64 + low))) (pow-mono short)),
+    omega (arith, size-pos x (omega (arith, twice))),
+    lt-of-le-of-lt (mul-le-mul-right (2 ^ (k - d)) part) (lt-of-lt-of-le (shl-lt (size x) (k - d) (size-lt x)) (pow-mono short)),
   )
     where
-      part : low ≤ high * 2 ^ 64 + low
+      x : ℕ
+      x = high * 2 ^ 64 + low
+
+      part : low ≤ x
       part = omega arith
 
   pub short-gives : (y : ℕ) → d ≤ k → y ≡ low * 2 ^ (k - d) → min ((0 * 2 ^ 64 + y + 1) / 2) (2 ^ 63) ≡ min (penceOf d k m) (2 ^ 63)

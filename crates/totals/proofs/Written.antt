@@ -16,14 +16,16 @@ use Rattle.totals.specs.Entered.{Enters}
 three-words : (old : List ℕ) (r f p : ℕ) → laid (laid (laid old 0 r) 8 f) 16 p ≡ toBytes 8 r ++ (toBytes 8 f ++ (toBytes 8 p ++ drop 24 old))
 three-words old r f p = ap (λ (t : List ℕ). toBytes 8 r ++ (toBytes 8 f ++ (toBytes 8 p ++ t))) (drop-drop 8 8 (drop 8 old) ∙ drop-drop 16 8 old)
 
-pub enters-written : (a : Answer) (old b₁ b₂ b₃ : List ℕ) → a .refusal ≡ 0 → b₁ ≡ laid old 0 (a .result) → b₂ ≡ laid b₁ 8 (a .flags) → b₃ ≡ laid b₂ 16 (a .passes)
-    → Enters (entered a old) 0 b₃
+pub enters-written : (a : Answer) (old b₁ b₂ b₃ : List ℕ) → a .refusal ≡ 0 → b₁ ≡ laid old 0 (a .result) → b₂ ≡ laid b₁ 8 (a .flags)
+    → b₃ ≡ laid b₂ 16 (a .passes) → Enters (entered a old) 0 b₃
 unfolding entered written
 enters-written a old b₁ b₂ b₃ z e₁ e₂ e₃ =
     rw (eq-eqb (a .refusal) 0 z)
     (record {
       code-is = refl;
-      buffer-is = e₃ ∙ ap (λ (l : List ℕ). laid l 16 (a .passes)) (e₂ ∙ ap (λ (l : List ℕ). laid l 8 (a .flags)) e₁) ∙ three-words old (a .result) (a .flags) (a .passes);
+      buffer-is =
+          e₃ ∙ ap (λ (l : List ℕ). laid l 16 (a .passes)) (e₂ ∙ ap (λ (l : List ℕ). laid l 8 (a .flags)) e₁)
+          ∙ three-words old (a .result) (a .flags) (a .passes);
     })
 
 pub enters-refused : (a : Answer) (old : List ℕ) → a .refusal ≢ 0 → Enters (entered a old) (a .refusal + 256 * a .place) old
@@ -39,8 +41,8 @@ module _ (f : Format) (c : Settings) (u : ℕ) (bytes old : List ℕ) where
   unfolding sumEntry
   sum-short e h = rw (eq-eqb (length bytes % 8) 0 e, lt-ltb (length old) 24 h) (record { code-is = refl; buffer-is = refl })
 
-  pub sum-enters : length bytes % 8 ≡ 0 → 24 ≤ length old → (a : Answer) → a ≡ sumAnswer f c u (valuesIn bytes) → (n : ℕ) (b : List ℕ) → Enters (entered a old) n b
-      → Enters (sumEntry f c u bytes old) n b
+  pub sum-enters : length bytes % 8 ≡ 0 → 24 ≤ length old → (a : Answer) → a ≡ sumAnswer f c u (valuesIn bytes)
+      → (n : ℕ) (b : List ℕ) → Enters (entered a old) n b → Enters (sumEntry f c u bytes old) n b
   unfolding sumEntry
   sum-enters e h a is n b r = rw (eq-eqb (length bytes % 8) 0 e, le-ltb (length old) 24 h) (subst (λ (x : Answer). Enters (entered x old) n b) is r)
 

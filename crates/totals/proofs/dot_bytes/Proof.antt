@@ -25,7 +25,9 @@ refused-requires : tie.Need-refused-requires
 refused-requires c κs = search needs
 
 returns : tie.Need-returns
-returns c = let t = c .before in c .refused .ensures ∙ dot-stopped _ _ _ _ _ _ (values-length _) (values-length _) _ (t .before .dot-refusal .ensures) (t .if1 .taken)
+returns c =
+    let t = c .before in
+    c .refused .ensures ∙ dot-stopped _ _ _ _ _ _ (values-length _) (values-length _) _ (t .before .dot-refusal .ensures) (t .if1 .taken)
 
 bytes-requires : tie.Need-bytes-requires
 bytes-requires c κs = let e = alike _ _ _ _ (passed c) in (omega (arith, e), rw e at (passed c))

@@ -25,7 +25,7 @@ add-result : tie.Need-add-result
 add-result c = search needs
 
 returns : tie.Need-returns
-returns c = enters-refused (answer (c .before .before .before)) _ (λ e. omega (arith, e, c .before .before .if1 .taken))
+returns c = let t = c .before .before in enters-refused (answer (t .before)) _ (λ e. omega (arith, e, t .if1 .taken))
 
 put-word-requires : tie.Need-put-word-requires
 put-word-requires c κs = search needs

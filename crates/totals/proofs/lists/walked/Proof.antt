@@ -72,7 +72,8 @@ returns c =
     let t = i .before .before in
     let s = entry t in
     c .refused .ensures
-    ∙ strayed (form s) (env s) (u s) (left s) (right s) (left-long s) (right-long s) (isDot (s .args .k)) (s .pre .1) _ _ (t .walk-stray .ensures) (i .i .given .1)
+    ∙ strayed (form s) (env s) (u s) (left s) (right s) (left-long s) (right-long s) (isDot (s .args .k)) (s .pre .1) _ _ (t .walk-stray .ensures)
+    (i .i .given .1)
 
 returns-2 : tie.Need-returns-2
 returns-2 c =

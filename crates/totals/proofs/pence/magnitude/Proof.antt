@@ -52,7 +52,9 @@ returns-2 c =
     long-gives _ _ _ _ (g .widening-mul .ensures) (le-of-lt (t .if1 .left)) (g .before .pre .1) (omega (arith, c .before .bit-length .ensures))
 
 scaled-requires : tie.Need-scaled-requires
-scaled-requires c κs = let g = c .before .before .before in short-fits _ _ _ _ _ (g .widening-mul .ensures) (short c) (g .before .pre .1)
+scaled-requires c κs =
+    let g = c .before .before .before in
+    short-fits _ _ _ _ _ (g .widening-mul .ensures) (short c) (g .before .pre .1)
 
 halved-requires-2 : tie.Need-halved-requires-2
 halved-requires-2 c κs = search needs

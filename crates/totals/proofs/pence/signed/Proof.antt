@@ -10,10 +10,10 @@ cast-x : tie.Need-cast-x
 cast-x c = search needs
 
 sub-result : tie.Need-sub-result
-sub-result c = rw (negated (c .before .args .n) (c .before .pre)) (negated-fits (c .before .args .n) (c .before .pre))
+sub-result c = rw (negated _ (c .before .pre)) (negated-fits _ (c .before .pre))
 
 returns : tie.Need-returns
-returns c = rw (negated (c .before .args .n) (c .before .pre), c .if1 .taken) (toZ-ofZ w64 _ (negated-fits (c .before .args .n) (c .before .pre)))
+returns c = rw (negated _ (c .before .pre), c .if1 .taken) (toZ-ofZ w64 _ (negated-fits _ (c .before .pre)))
 
 returns-2 : tie.Need-returns-2
 returns-2 c = rw (c .if1 .left) (toZ-pos w64 _ (c .before .pre))
