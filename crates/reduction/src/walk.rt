@@ -180,9 +180,6 @@ fn pass(
     ensures { λ r. ⌜ Passed (terms.terms (items (formatOf f) (settingsOf c) k (now («left_words» .entry)) (now («left_bytes» .entry)) (now («right_words» .entry)) (now («right_bytes» .entry)))) w r ⌝ }
 {
     let source = k.source;
-    if k.summand < 2 {
-        return pass_singles(f, c, k.summand, source, left_words, left_bytes, w);
-    }
     if k.summand == 3 {
         return pass_pairs(
             f,
@@ -194,6 +191,9 @@ fn pass(
             right_bytes,
             w,
         );
+    }
+    if k.summand < 2 {
+        return pass_singles(f, c, k.summand, source, left_words, left_bytes, w);
     }
     pass_squares(f, c, source, left_words, left_bytes, w)
 }

@@ -33,29 +33,34 @@ PassedBy s r b = Passed (terms.terms (itemsOf b (formatOf (s .args .f)) (setting
 by : (s : tie.Start) (r : Pass) (b : Bool) → isDot (s .args .k) ≡ b → PassedBy s r b → PassedBy s r (isDot (s .args .k))
 by s r b e = subst (PassedBy s r) (sym e)
 
-pass-singles-requires : tie.Need-pass-singles-requires
-pass-singles-requires c κs = search needs
+pass-pairs-requires : tie.Need-pass-pairs-requires
+pass-pairs-requires c κs = search needs
 
 returns : tie.Need-returns
 returns c =
     let k = c .before .before in
-    by (entry k) _ false (ne-eqb (entry k .args .k .summand) 3 (λ e. omega (arith, e, c .before .if1 .taken))) (c .pass-singles .ensures)
+    by (entry k) _ true (eq-eqb _ 3 (c .before .if1 .taken)) (c .pass-pairs .ensures)
 
-pass-pairs-requires : tie.Need-pass-pairs-requires
-pass-pairs-requires c κs = search needs
+-- not of pairs
+single : (d : tie.After-struct-known2) → isDot (entry (d .before .before) .args .k) ≡ false
+single d = ne-eqb _ 3 (d .before .if1 .left)
+
+pass-singles-requires : tie.Need-pass-singles-requires
+pass-singles-requires c κs = search needs
 
 returns-2 : tie.Need-returns-2
 returns-2 c =
     let d = c .before .before in
-    by (entry (d .before .before)) _ true (eq-eqb _ 3 (c .before .if2 .taken)) (c .pass-pairs .ensures)
+    by (entry (d .before .before)) _ false (single d) (c .pass-singles .ensures)
 
 pass-squares-requires : tie.Need-pass-squares-requires
 pass-squares-requires c κs = search needs
 
 returns-3 : tie.Need-returns-3
 returns-3 c =
-    let d = c .before .before .before in
-    by (entry (d .before)) _ false (ne-eqb _ 3 (c .before .if2 .left)) (rw (square-of (entry (d .before) .args .k .summand) (omega (arith, d .if1 .left))) (c .pass-squares .ensures))
+    let d = c .before .before in
+    let s = entry (d .before .before) in
+    by s _ false (single d) (rw (square-of (s .args .k .summand) (omega (arith, c .before .if2 .left))) (c .pass-squares .ensures))
 
 pub pass-spec : {M : Type 1} → statement M
-pass-spec = tie.close (tie.spec pass-singles-requires returns pass-pairs-requires returns-2 pass-squares-requires returns-3)
+pass-spec = tie.close (tie.spec pass-pairs-requires returns pass-singles-requires returns-2 pass-squares-requires returns-3)
