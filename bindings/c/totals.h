@@ -12,7 +12,7 @@
  * The first ten count elements, and answer with a record. They are inline, plain C, and call the
  * last two, which are proved. docs/LINKING.md has each with its special cases and an example.
  * What is claimed of the library stands in docs/PROMISES.md, the exact meaning of each number below
- * in docs/01-scope.md. No function keeps a state, and all may be called from several threads.
+ * in docs/SPECIFICATION.md. No function keeps a state, and all may be called from several threads.
  */
 #ifndef TOTALS_H
 #define TOTALS_H

@@ -1,5 +1,5 @@
 #!/usr/bin/env python3
-"""Expectations for the program `codec_test`, from the text of docs/01-scope.md alone.
+"""Expectations for the program `codec_test`, from the text of document 01 alone.
 
     vectors.py write FILE            writes the program's input
     vectors.py oracle BINARY SEED N  compares this model with the Rust oracle, N random lists

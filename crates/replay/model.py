@@ -1,4 +1,4 @@
-"""What document 01 (docs/01-scope.md) says of a total, in whole numbers of any length.
+"""What document 01 says of a total, in whole numbers of any length.
 
 Written from the text of document 01, and from the Rust's where document 01
 names a function of it (the choice among NaNs, overflow, the largest number).

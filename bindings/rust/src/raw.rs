@@ -1,7 +1,7 @@
 //! The two byte entries of `libtotals.a`, with plain numbers and byte slices.
 //!
-//! The numbers and the layout of the answer are those of the repository's `docs/LINKING.md`. For
-//! most callers [`Totals`](crate::Totals) is the better way in.
+//! The numbers and the layout of the answer are those of the repository's `docs/SPECIFICATION.md`.
+//! For most callers [`Totals`](crate::Totals) is the better way in.
 
 use alloc::vec::Vec;
 

@@ -173,7 +173,7 @@ pub struct Record<T> {
     pub result: T,
     /// What happened on the way.
     pub flags: Flags,
-    /// The passes that the sum took, as document 01 of the repository counts them.
+    /// The passes that the sum took, as `docs/SPECIFICATION.md` of the repository counts them.
     pub passes: u64,
 }
 

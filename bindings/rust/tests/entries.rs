@@ -1,4 +1,4 @@
-//! Both entries with good, refused and empty input. Every byte of the buffer is looked at. The expectations are document 01's: its table of
+//! Both entries with good, refused and empty input. Every byte of the buffer is looked at. The expectations are those of docs/SPECIFICATION.md: its table of
 //! refusals, its layout of the answer, its careers C1 to C12, and small exact sums.
 use fermuzhai::raw::{bytes, dot, sum, Format, Settings};
 

@@ -2,7 +2,7 @@
 
 use fermuzhai::Rounding;
 
-/// In document 01's order.
+/// In the order of their numbers.
 pub const ROUNDINGS: [Rounding; 8] = [
     Rounding::TiesToEven,
     Rounding::TiesToAway,
