@@ -14,7 +14,8 @@ pub enum Kind {
     Finite = 3,
 }
 
-/// A binary floating-point format of at most 64 bits.
+/// A binary floating-point format of at most 64 bits. What its encodings stand for is said in
+/// `docs/SPECIFICATION.md` of the repository.
 ///
 /// Any numbers can be written down here: the library judges them at each call, and refuses a
 /// format that it does not have with [`Refusal::NoSuchFormat`](crate::Refusal::NoSuchFormat).

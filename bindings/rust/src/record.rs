@@ -4,7 +4,8 @@ use core::ops::{BitAnd, BitOr, BitOrAssign};
 
 use crate::Value;
 
-/// What happened on the way to a result.
+/// What happened on the way to a result. The exact rules stand in `docs/SPECIFICATION.md` of the
+/// repository.
 ///
 /// ```
 /// use fermuzhai::{sum, Flags};

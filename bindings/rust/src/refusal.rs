@@ -23,7 +23,8 @@ impl Display for OfList {
     }
 }
 
-/// Why a total was not taken. Where several reasons hold, the first in this order is given.
+/// Why a total was not taken. Where several reasons hold, the first in this order is given. The
+/// numbers and their conditions stand in `docs/SPECIFICATION.md` of the repository.
 ///
 /// Proved: `sum-refusal`, `dot-refusal` in `crates/totals_spec/proofs/Promises.antt`.
 ///

@@ -65,7 +65,8 @@ pub enum Summand {
     Square = 2,
 }
 
-/// How a total is taken. [`Settings::new`] has every number 0, every switch off.
+/// How a total is taken. [`Settings::new`] has every number 0, every switch off. What each means
+/// exactly stands in `docs/SPECIFICATION.md` of the repository.
 ///
 /// ```
 /// use fermuzhai::{Rounding, Settings, Totals};
