@@ -253,7 +253,7 @@ static void floats(void)
 static void words(void)
 {
     const totals_format half = {TOTALS_BINARY16}, none = {TOTALS_IEEE, 11, 12};
-    const uint64_t list[2] = {0x3c00, 0x3800}, stray[3] = {1, 0x10000, 0x20000}, fits[3] = {1, 2, 3};
+    const uint64_t list[2] = {0x3c00, 0x3800}, stray[3] = {1, 0x10000, 0x20000}, fits[3] = {1, 2, 3}, wide[3] = {0x10000, 1, 0x10000};
     totals_record record = totals_sum_words(half, TOTALS_VALUE, list, 2, NULL);
 
     CHECK(record.refusal == TOTALS_ACCEPTED && record.result == 0x3e00 && record.flags == 0 && record.passes == 1);
@@ -262,6 +262,9 @@ static void words(void)
     CHECK(REFUSED(totals_sum_words(half, TOTALS_VALUE, stray, 3, NULL), TOTALS_STRAY_BIT, 1));
     CHECK(REFUSED(totals_dot_words(half, fits, 3, stray + 1, 2, NULL), TOTALS_DIFFERENT_LENGTHS, 0));
     CHECK(REFUSED(totals_dot_words(half, fits, 2, stray, 2, NULL), TOTALS_STRAY_BIT, 1));
+    /* several: the first; in a dot of the left list, though the right one has it earlier */
+    CHECK(REFUSED(totals_dot_words(half, stray, 3, wide, 3, NULL), TOTALS_STRAY_BIT, 1));
+    CHECK(REFUSED(totals_dot_words(half, fits, 3, wide, 3, NULL), TOTALS_STRAY_BIT, 0));
     CHECK(REFUSED(totals_sum_words(half, 3, list, 2, NULL), TOTALS_SETTING_OUT_OF_RANGE, 0));
     CHECK(REFUSED(totals_sum_words(none, 3, list, 2, NULL), TOTALS_NO_SUCH_FORMAT, 0));
     CHECK(REFUSED(totals_dot_words(none, list, 2, list, 1, NULL), TOTALS_NO_SUCH_FORMAT, 0));

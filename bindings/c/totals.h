@@ -148,7 +148,7 @@ enum {
 };
 
 #define TOTALS_REFUSAL(code) ((code) % 256)
-/* For TOTALS_STRAY_BIT, the index of such an element: in a dot of the left list if that holds one, else of the right. */
+/* For TOTALS_STRAY_BIT, the index of the first such element: in a dot of the left list if that holds one, else of the right. */
 #define TOTALS_PLACE(code) ((code) / 256)
 
 /* An answer takes 24 bytes. */

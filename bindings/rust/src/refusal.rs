@@ -64,7 +64,7 @@ pub enum Refusal {
     TooManyElements,
     /// 7: an element has a set bit at the format's width or above.
     StrayBit {
-        /// The index of such an element.
+        /// The index of the first such element: in a dot of the left list if that has one.
         place: usize,
         /// Which list of a dot it stands in, the left one where both hold one; `None` in a sum, and
         /// from [`Refusal::from_code`].

@@ -271,6 +271,15 @@ fn refusals() {
         halves.dot(&[1 << 63, 0], &[1 << 63, 0]),
         stray(0, List::Left)
     );
+    // several in both lists: the first of the left one
+    assert_eq!(
+        halves.dot(&[0, 0x10000, 0x10000], &[0x10000, 0x10000, 0]),
+        stray(1, List::Left)
+    );
+    assert_eq!(
+        halves.dot(&[0, 0, 0, 0], &[0, 0x10000, 0, 0x10000]),
+        stray(1, List::Right)
+    );
     let wide = Totals::of(Format::new(Kind::Ieee, 11, 63));
     assert_eq!(wide.dot(&[1, 1], &[0, 1 << 63]), stray(1, List::Right));
     let refusal: Box<dyn std::error::Error> =

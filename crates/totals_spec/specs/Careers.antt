@@ -155,6 +155,10 @@ refusals =
     -- 7: W 16, value 10000 hex
     && refusedAs 7 1 (sumAnswer binary16 (rounded 0) 0 (0 ∷ 0x10000 ∷ []))
     && refusedAs 7 0 (dotAnswer binary16 (rounded 0) (0 ∷ 0 ∷ []) (0x10000 ∷ 0 ∷ []))
+    -- several: the first; in a dot the first of the left list, even where the right list has one at a lower index
+    && refusedAs 7 1 (sumAnswer binary16 (rounded 0) 0 (0x3c00 ∷ 0x20000 ∷ 0x3c00 ∷ 0x10000 ∷ []))
+    && refusedAs 7 1 (dotAnswer binary16 (rounded 0) (0 ∷ 0x20000 ∷ 0x10000 ∷ []) (0x10000 ∷ 0 ∷ 0 ∷ []))
+    && refusedAs 7 1 (dotAnswer binary16 (rounded 0) (0 ∷ 0 ∷ 0 ∷ 0 ∷ []) (0 ∷ 0x10000 ∷ 0 ∷ 0x10000 ∷ []))
     && enteredAs (7 + 256) (replicate 24 7) (sumEntry binary16 (rounded 0) 0 (replicate 10 0 ++ (1 ∷ replicate 5 0)) (replicate 24 7))
     -- two at once: the smaller number
     && enteredAs 1 (replicate 23 7) (sumEntry binary64 (rounded 0) 0 (replicate 7 0) (replicate 23 7))

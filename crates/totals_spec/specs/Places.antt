@@ -1,7 +1,7 @@
--- The place of refusal 7 as document 01 asks for it: "the index of an element with a set bit at position W or above, in a dot of the left list if
--- that holds one, else of the right". The definitions give the lowest such index.
+-- The place of refusal 7 (document 02, A.1), by what it has to be. The definitions of the answers work it out.
 use mathlib.Core.Bool.{Bool, true, false}
 use mathlib.Core.List.{List}
+use mathlib.Core.Path.{_≡_}
 use Prim.Native.Nat.{ℕ, _<_}
 use lib.ListN.{length, getD}
 use lib.Dec.{T}
@@ -9,10 +9,11 @@ use Rattle.totals_spec.specs.Basics.{any}
 use Rattle.totals_spec.specs.Format.{Format}
 use Rattle.totals_spec.specs.Totals.{stray}
 
--- i is the index of an element of l with a stray bit
+-- i is the lowest index of an element of l with a stray bit
 pub record StrayAt (f : Format) (l : List ℕ) (i : ℕ) : Type 0 where
   pub inside : i < length l
   pub set : T (stray f (getD l i 0))
+  pub lowest : (k : ℕ) → k < i → stray f (getD l k 0) ≡ false
 
 -- by whether the left list holds a stray bit
 abbrev pub StrayBy : Bool → Format → List ℕ → List ℕ → ℕ → Type 0

@@ -163,12 +163,12 @@ impl Bench {
     }
 }
 
-/// Number 7's place is the index of an element of that list with a stray bit.
+/// Number 7's place is the lowest index of an element of that list with a stray bit.
 fn check_place(case: &Case, side: Side, place: u64) -> Result<Seen, String> {
     let list = if side == Side::Left { &case.left } else { &case.right };
-    match list.get(place as usize) {
-        Some(&value) if is_stray(value, case.format[2]) => Ok(Seen::Refused(7)),
-        _ => Err(format!("refusal 7 of the {side:?} list names place {place}")),
+    match list.iter().position(|&value| is_stray(value, case.format[2])) {
+        Some(first) if first as u64 == place => Ok(Seen::Refused(7)),
+        first => Err(format!("refusal 7 of the {side:?} list names place {place}, and the first is {first:?}")),
     }
 }
 
@@ -193,6 +193,7 @@ fn rearranged(case: &Case) -> Case {
 
 #[cfg(test)]
 mod tests {
+    use crate::refusals::is_stray;
     use fermuzhai::raw;
 
     use super::{Answer, Bench, Oracle, word};
@@ -308,6 +309,16 @@ mod tests {
         if code % 256 == 7 { code + 256 } else { code }
     }
 
+    /// Another element with a stray bit, but not the first.
+    fn names_the_last_place(f: [u64; 3], c: [u64; 8], u: u64, values: &[u8], answer: Bytes) -> u64 {
+        let code = raw::sum(f, c, u, values, answer);
+        if code % 256 != 7 {
+            return code;
+        }
+        let words = values.chunks_exact(8).map(|bytes| u64::from_le_bytes(bytes.try_into().unwrap()));
+        7 + 256 * (words.enumerate().filter(|&(_, word)| is_stray(word, f[2])).last().unwrap().0 as u64)
+    }
+
     fn answers_by_the_first_element(f: [u64; 3], c: [u64; 8], u: u64, values: &[u8], answer: Bytes) -> u64 {
         let code = raw::sum(f, c, u, values, answer);
         if code == 0 && values.len() == 24 && values[0] > values[8] {
@@ -324,6 +335,7 @@ mod tests {
         assert!(is_caught(refuses_a_full_precision));
         assert!(is_caught(reads_settings_as_bytes));
         assert!(is_caught(names_the_place_after));
+        assert!(is_caught(names_the_last_place));
         assert!(is_caught(answers_by_the_first_element));
     }
 }
