@@ -82,7 +82,7 @@ multiple-ge m zero j w e h k = absurd (not-le-of-lt (subst (λ (x : ℕ). 0 < x)
 multiple-ge m (suc q) j w e h k =
     le-trans (pow-mono h)
     (le-trans (subst (λ (x : ℕ). x ≤ suc q * 2 ^ j) (one-mul (2 ^ j)) (mul-le-mul-right (2 ^ j) one))
-        (subst (λ (x : ℕ). suc q * 2 ^ j ≤ x) (sym e) (le-refl (suc q * 2 ^ j))))
+    (subst (λ (x : ℕ). suc q * 2 ^ j ≤ x) (sym e) (le-refl (suc q * 2 ^ j))))
   where
     one : 1 ≤ suc q
     one = omega arith

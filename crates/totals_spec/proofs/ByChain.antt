@@ -40,7 +40,7 @@ sum-by-chain f c u l sub products minus e =
     finite-by-chain f c sub products minus (terms (map (item f c (summandOf u)) l)) (le-64 (digits-le f (valid-of (validFormat f) 2 _ e)))
     (precision-le f c (and-left (validSettings f c) (leb u 2) (valid-of (validSettings f c && leb u 2) 3 _ (a .1)))) (good-terms f c (summandOf u) l)
     (many _ (le-trans (picked-length termOf (map (item f c (summandOf u)) l))
-        (le-trans (le-of-eq (length-map l (item f c (summandOf u)))) (ltb-false limit (length l) (g .0)))))
+    (le-trans (le-of-eq (length-map l (item f c (summandOf u)))) (ltb-false limit (length l) (g .0)))))
 
 pub dot-by-chain : (f : Format) (c : Settings) (xs ys : List ℕ) (sub products minus : Bool) → dotRefusal f c xs ys ≡ 0
     → chainTotal f c sub products minus (terms (map (pairItem f c) (pairs xs ys)))
@@ -54,7 +54,7 @@ dot-by-chain f c xs ys sub products minus e =
     finite-by-chain f c sub products minus (terms (map (pairItem f c) (pairs xs ys))) (le-64 (digits-le f (valid-of (validFormat f) 2 _ e)))
     (precision-le f c (valid-of (validSettings f c) 3 _ (a .1))) (good-pairs f c (pairs xs ys))
     (many _ (le-trans (picked-length termOf (map (pairItem f c) (pairs xs ys)))
-        (le-trans (le-of-eq (length-map (pairs xs ys) (pairItem f c) ∙ pairs-length xs ys (lengths e))) (ltb-false limit (length xs) (h .0)))))
+    (le-trans (le-of-eq (length-map (pairs xs ys) (pairItem f c) ∙ pairs-length xs ys (lengths e))) (ltb-false limit (length xs) (h .0)))))
   where
     lengths : dotRefusal f c xs ys ≡ 0 → length xs ≡ length ys
     lengths = dot-lengths f c xs ys

@@ -145,7 +145,7 @@ module _ (p w P N a c RA RC : ℕ) (hp : p ≤ 64) (eP : P ≡ a * 2 ^ w + RA) (
         near-which : k % 2 ^ (n - p - 1) < 2 ^ 65 ⊎ (2 ^ (n - p - 1) - 2 ^ 65 < k % 2 ^ (n - p - 1))
             → Right p P N
             (next (boundary s (cond (ltb (2 ^ (n - p - 1) - 2 ^ 65) (k % 2 ^ (n - p - 1))) (suc (k / 2 ^ (n - p - 1))) (k / 2 ^ (n - p - 1)))
-                (w + (n - p - 1))) (w - 701))
+            (w + (n - p - 1))) (w - 701))
         near-which o = pick (ltb (2 ^ (n - p - 1) - 2 ^ 65) (k % 2 ^ (n - p - 1))) (ltb→lt _ _) (nltb→le _ _) o
           where
             at-low : k % 2 ^ (n - p - 1) < 2 ^ 65 → Right p P N (next (boundary s (k / 2 ^ (n - p - 1)) (w + (n - p - 1))) (w - 701))
@@ -168,8 +168,8 @@ module _ (p w P N a c RA RC : ℕ) (hp : p ≤ 64) (eP : P ≡ a * 2 ^ w + RA) (
             → (T y → k % 2 ^ (n - p - 1) ≤ 2 ^ (n - p - 1) - 2 ^ 65) → (T (not y) → 2 ^ (n - p - 1) - 2 ^ 65 < k % 2 ^ (n - p - 1))
             → Right p P N
             (cond (x && y) (done (nearly s k w))
-                (next (boundary s (cond (ltb (2 ^ (n - p - 1) - 2 ^ 65) (k % 2 ^ (n - p - 1))) (suc (k / 2 ^ (n - p - 1))) (k / 2 ^ (n - p - 1)))
-                (w + (n - p - 1))) (w - 701)))
+            (next (boundary s (cond (ltb (2 ^ (n - p - 1) - 2 ^ 65) (k % 2 ^ (n - p - 1))) (suc (k / 2 ^ (n - p - 1))) (k / 2 ^ (n - p - 1)))
+            (w + (n - p - 1))) (w - 701)))
         go true true h1 h2 h3 h4 = free-final (h1 tt) (h3 tt)
         go true false h1 h2 h3 h4 = near-which (inr (h4 tt))
         go false y h1 h2 h3 h4 = near-which (inl (h2 tt))
@@ -183,7 +183,7 @@ module _ (p w P N a c RA RC : ℕ) (hp : p ≤ 64) (eP : P ≡ a * 2 ^ w + RA) (
       go : (b : Bool) → (T b → p + 70 ≤ size k)
           → Right p P N
           (cond b (finalOrBoundary w (record { neg = s; mag = k }) (size k - p - 1) (k % 2 ^ (size k - p - 1)))
-              (next noBoundary (nextEdge w (size k) (suc lost))))
+          (next noBoundary (nextEdge w (size k) (suc lost))))
       go true g = free-settle (rests-unit w (suc lost) (RA + RC) l R) (h (omega arith)) (size k) refl (g tt)
       go false g = record {
         within = close-oriented s P N (3 * 2 ^ (nextEdge w (size k) (suc lost) + 765))

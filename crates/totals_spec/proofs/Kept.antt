@@ -110,8 +110,8 @@ module _ (p top w : ℕ) (x : Signed) (low : 322 ≤ w) (high : w ≤ top) where
         go : (b : Bool)
             → KeptStep p top
             (cond b (done (nearly (x .neg) (x .mag) w))
-                (next (boundary (x .neg) (cond (ltb (2 ^ (n - p - 1) - 2 ^ 65) d) (suc (x .mag / 2 ^ (n - p - 1))) (x .mag / 2 ^ (n - p - 1)))
-                (w + (n - p - 1))) (w - 701)))
+            (next (boundary (x .neg) (cond (ltb (2 ^ (n - p - 1) - 2 ^ 65) d) (suc (x .mag / 2 ^ (n - p - 1))) (x .mag / 2 ^ (n - p - 1)))
+            (w + (n - p - 1))) (w - 701)))
         go true = (size-reaches (x .mag) (p + 69) (subst (λ (z : ℕ). p + 69 < z) (sym xn) (omega arith)), low, high)
         go false =
             let q = whole-le (ltb (2 ^ (n - p - 1) - 2 ^ 65) d) in
@@ -136,7 +136,7 @@ module _ (p top w : ℕ) (x : Signed) (low : 322 ≤ w) (high : w ≤ top) where
       go : (b : Bool) → (T b → p + 70 ≤ size (x .mag)) → (T (not b) → size (x .mag) < p + 70)
           → KeptStep p top
           (cond b (finalOrBoundary w x (size (x .mag) - p - 1) (x .mag % 2 ^ (size (x .mag) - p - 1)))
-              (next noBoundary (nextEdge w (size (x .mag)) (suc lost))))
+          (next noBoundary (nextEdge w (size (x .mag)) (suc lost))))
       go true g f = kept-final (size (x .mag)) refl (g tt) s (omega (arith, deep, l)) (x .mag % 2 ^ (size (x .mag) - p - 1))
       go false g f = kept-lower noBoundary (size (x .mag)) (suc lost) tt hp (f tt) deep l
   kept-decide (boundary z m e) zero hp k s l d = k

@@ -47,7 +47,7 @@ losses-none : (w b : ℕ) (ts : List Term) → AllGood ts → w ≤ least b lowO
 losses-none w b [] g h = refl
 losses-none w b (t ∷ ts) g h =
     ap₂ max (lost-none w (t .mag) (t .mag / 2 ^ lowBit (t .mag)) (lowBit (t .mag)) (sym (low-divides (t .mag)))
-        (le-of-min-left w (lowOf t) (least b lowOf ts) h) (g .0 .positive))
+    (le-of-min-left w (lowOf t) (least b lowOf ts) h) (g .0 .positive))
     (losses-none w b ts (g .1) (le-of-min-right w (lowOf t) (least b lowOf ts) h))
     ∙ max-zero 0
   where
@@ -114,7 +114,7 @@ module _ (p w : ℕ) (hp : p ≤ 64) where
       go : (b : Bool)
           → GoesOn p w (suc lost)
           (cond b (done (nearly (x .neg) (x .mag) w))
-              (next (boundary (x .neg) (cond (ltb (2 ^ r - 2 ^ 65) d) (suc (x .mag / 2 ^ r)) (x .mag / 2 ^ r)) (w + r)) (w - 701)))
+          (next (boundary (x .neg) (cond (ltb (2 ^ r - 2 ^ 65) d) (suc (x .mag / 2 ^ r)) (x .mag / 2 ^ r)) (w + r)) (w - 701)))
       go true = tt
       go false = (omega arith, down-701 h)
 

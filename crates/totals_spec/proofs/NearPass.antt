@@ -125,7 +125,7 @@ module _ (p m e P N : ℕ) (deep : 4 ≤ e) (many : 2 ^ p ≤ m) where
 
 module _ (p w P N a c RA RC : ℕ) (z : Bool) (m e : ℕ) (hn : Near p w m e (withPlus (boundary z m e) P) (withMinus (boundary z m e) N))
     (eP : withPlus (boundary z m e) P ≡ a * 2 ^ w + RA) (eN : withMinus (boundary z m e) N ≡ c * 2 ^ w + RC) (s : Bool) (k : ℕ)
-        (sum : cond s c a ≡ cond s a c + k) where
+    (sum : cond s c a ≡ cond s a c + k) where
   near-sided : cond s (withMinus (boundary z m e) N) (withPlus (boundary z m e) P) + cond s RA RC
       ≡ cond s (withPlus (boundary z m e) P) (withMinus (boundary z m e) N) + k * 2 ^ w + cond s RC RA
   near-sided = sides s w a c k (withPlus (boundary z m e) P) (withMinus (boundary z m e) N) RA RC eP eN sum

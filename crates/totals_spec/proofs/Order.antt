@@ -206,7 +206,7 @@ module _ (f : Format) (c : Settings) (xs ys xs′ ys′ : List ℕ) (d : List·P
       let n : length xs ≡ length xs′ = sym (pairs-length xs ys e) ∙ length-perm d ∙ pairs-length xs′ ys′ e′ in
       let a : any (stray f) xs ≡ any (stray f) xs′ = sym (pairs-left (stray f) xs ys e) ∙ any-perm (λ x. stray f (x .0)) d ∙ pairs-left (stray f) xs′ ys′ e′ in
       let b : any (stray f) ys ≡ any (stray f) ys′ = sym (pairs-right (stray f) xs ys e) ∙ any-perm (λ x. stray f (x .1)) d
-          ∙ pairs-right (stray f) xs′ ys′ e′ in
+      ∙ pairs-right (stray f) xs′ ys′ e′ in
       let m : length ys ≡ length ys′ = sym e ∙ n ∙ e′ in
       cc
 

@@ -180,7 +180,7 @@ module _ (p : ℕ) (ts : List Term) (hp : p ≤ 64) (good : AllGood ts) (len : l
           ∙ ap (λ (x : ℕ). x * 2 ^ (w - v)) sides
           ∙ add-mul (total (cutMinus w) ts) (boundaryMinus b w) (2 ^ (w - v))
           ∙ sym (ap₂ _+_ (totals v w lost h l d (cutMinus v) (cutMinus w) (minus-term v w lost h l d) ts most)
-              (bound-minus-at v w lost h l d p b _ _ (iw .placed)))
+          (bound-minus-at v w lost h l d p b _ _ (iw .placed)))
 
   -- ---- k empty passes in a row
 

@@ -125,8 +125,8 @@ pub top-high : (t : Term) → Good t → room ≤ t .top
 top-high t g =
     le-of-suc-le-suc
     (lt-of-not-le
-        (λ (k : suc (t .top) ≤ room). not-le-of-lt (lt-of-lt-of-le (g .fits) (pow-mono k))
-        (multiple-ge (t .mag) (g .units) room room (g .whole) (le-refl room) (g .positive))))
+    (λ (k : suc (t .top) ≤ room). not-le-of-lt (lt-of-lt-of-le (g .fits) (pow-mono k))
+    (multiple-ge (t .mag) (g .units) room room (g .whole) (le-refl room) (g .positive))))
 
 -- a multiple of 2^j has no set bit below j
 low-ge : (m q j : ℕ) → m ≡ q * 2 ^ j → 0 < m → j ≤ lowBit m

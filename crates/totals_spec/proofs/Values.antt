@@ -61,8 +61,19 @@ values-small l f i = go (ltb i (length l / 8)) (ltb→lt i (length l / 8)) (nltb
     there : i < length l / 8 → getD (valuesIn l) i 0 < 18446744073709551616
     there h =
         let k = 8 * i in
-        omega (arith, values-at l i h, eight-bytes l (8 * i) (omega arith), f k, f (k + 1), f (k + 2), f (k + 3), f (k + 4), f (k + 4 + 1), f (k + 4 + 2),
-            f (k + 4 + 3))
+        omega (
+          arith,
+          values-at l i h,
+          eight-bytes l (8 * i) (omega arith),
+          f k,
+          f (k + 1),
+          f (k + 2),
+          f (k + 3),
+          f (k + 4),
+          f (k + 4 + 1),
+          f (k + 4 + 2),
+          f (k + 4 + 3),
+        )
 
     past : length l / 8 ≤ i → getD (valuesIn l) i 0 < 18446744073709551616
     past h = omega (arith, List·getD-eq-default (valuesIn l) 0 {n = i} (omega (arith, values-length l)))
