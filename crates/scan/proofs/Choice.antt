@@ -58,7 +58,7 @@ module _ (n : Nan) where
   pub held-if : ifNan (nanOf n) ≡ nanOf n
   held-if = go (n .some)
     where
-      go : (b : Bool) → ifNan (cond b (dec.nan (n .negative) (n .signaling) (n .payload)) (dec.zeroOf false)) ≡ cond b (dec.nan (n .negative) (n .signaling) (n .payload)) (dec.zeroOf false)
+      go : (b : Bool) → let v = cond b (dec.nan (n .negative) (n .signaling) (n .payload)) (dec.zeroOf false) in ifNan v ≡ v
       go true = refl
       go false = refl
 
@@ -135,13 +135,14 @@ module _ (r : env.Propagation) where
 
   pub chosen-nan : (x : dec.Unpacked) (l : List dec.Unpacked) → dec.isNan (nans.chosenOf r x l) ≡ (dec.isNan x || any dec.isNan l)
   chosen-nan x [] = sym (or-false (dec.isNan x))
-  chosen-nan x (v ∷ l) = chosen-nan (nans.choose r x v) l ∙ ap (λ b. b || any dec.isNan l) (choose-nan r x v) ∙ or-assoc (dec.isNan x) (dec.isNan v) (any dec.isNan l)
+  chosen-nan x (v ∷ l) = chosen-nan (nans.choose r x v) l ∙ rw (choose-nan r x v, or-assoc)
 
   pub chosen-none : (x : dec.Unpacked) (l : List dec.Unpacked) → any dec.isNan l ≡ false → ifNan (nans.chosenOf r x l) ≡ ifNan x
   chosen-none x [] e = refl
   chosen-none x (v ∷ l) e = let a = or-split (dec.isNan v) (any dec.isNan l) e in chosen-none (nans.choose r x v) l (a .1) ∙ choose-none r x v (a .0)
 
-  pub chosen-encodes : (f : spec.Format) (x : dec.Unpacked) (l : List dec.Unpacked) → Encodes f (ifNan x) → AllEncode f l → Encodes f (ifNan (nans.chosenOf r x l))
+  pub chosen-encodes : (f : spec.Format) (x : dec.Unpacked) (l : List dec.Unpacked) → Encodes f (ifNan x) → AllEncode f l
+      → Encodes f (ifNan (nans.chosenOf r x l))
   chosen-encodes f x [] h k = h
   chosen-encodes f x (v ∷ l) h k = chosen-encodes f (nans.choose r x v) l (choose-encodes r f x v h (k .0)) (k .1)
 
@@ -164,13 +165,15 @@ module _ (f : spec.Format) where
     -- a payload is below 2^(fraction bits - 1)
     encodes-fields : (k : spec.Kind) → Encodes f (ifNan (dec.decodeFields k f s x m))
     encodes-fields spec.ieee =
-        encodes-cond (dec.topField f x)
-        (cond (eqb m 0) (dec.infinity s) (dec.nan s (ltb m (2 ^ (spec.fractionBits f - 1))) (m % 2 ^ (spec.fractionBits f - 1))))
-        (dec.number (spec.fractionBits f) s x m)
-        (encodes-cond (eqb m 0) (dec.infinity s) (dec.nan s (ltb m (2 ^ (spec.fractionBits f - 1))) (m % 2 ^ (spec.fractionBits f - 1))) tt (mod-lt m (pow-pos (spec.fractionBits f - 1))))
+        let n = dec.nan s (ltb m (2 ^ (spec.fractionBits f - 1))) (m % 2 ^ (spec.fractionBits f - 1)) in
+        encodes-cond (dec.topField f x) (cond (eqb m 0) (dec.infinity s) n) (dec.number (spec.fractionBits f) s x m)
+        (encodes-cond (eqb m 0) (dec.infinity s) n tt (mod-lt m (pow-pos (spec.fractionBits f - 1)))) encodes-number
+    encodes-fields spec.noInf =
+        encodes-cond (dec.topField f x && dec.ones f m) (dec.nan s false 0) (dec.number (spec.fractionBits f) s x m) (pow-pos (spec.fractionBits f - 1))
         encodes-number
-    encodes-fields spec.noInf = encodes-cond (dec.topField f x && dec.ones f m) (dec.nan s false 0) (dec.number (spec.fractionBits f) s x m) (pow-pos (spec.fractionBits f - 1)) encodes-number
-    encodes-fields spec.fnuz = encodes-cond (s && eqb x 0 && eqb m 0) (dec.nan s false 0) (dec.number (spec.fractionBits f) s x m) (pow-pos (spec.fractionBits f - 1)) encodes-number
+    encodes-fields spec.fnuz =
+        encodes-cond (s && eqb x 0 && eqb m 0) (dec.nan s false 0) (dec.number (spec.fractionBits f) s x m) (pow-pos (spec.fractionBits f - 1))
+        encodes-number
     encodes-fields spec.finiteOnly = encodes-number
 
   pub decoded-encodes : (b : ℕ) → Encodes f (ifNan (dec.decode f b))

@@ -25,7 +25,8 @@ use ghost.Atoms.{Atoms, sem}
 use contract.Monad.{fact}
 use contract.Lifetimes.{Lfts}
 use contract.Running.{Running, GhostRules, givenOf, tables, tablesOf}
-use types.Kit.{Given, Item, Goal, Post as After, atRet, runs, allocs, frees, Sq, ‵, raw, some, later, _⊛_, _$_, _∵_, !, qed, by, move, keep, drop, use1, use2, use3, split, join, pick}
+use types.Kit.{Given, Item, Goal, Post as After, atRet, runs, allocs, frees, Sq, ‵, raw, some, later, _⊛_, _$_, _∵_, !, qed, by, move, keep, drop}
+use types.Kit.{use1, use2, use3, split, join, pick}
 use types.Kit.{fsplit, fsplit3, fjoin, fjoin3, feqI, suffices, frame, await, done}
 use types.Run.{look, init, forget, stop, from, load, addr, unit-lit, of-opd, and-then, no-more, assigns, land, returns}
 use types.Run.{enter, alloc1, alloc0, params1, pass1, pass0, free1, free0}
@@ -188,7 +189,8 @@ module _ (u : Change) (ts : List Ty) {M : Type 1} (𝓤 : URA M) where
   abbrev Has : (b o l₁ l₂ : ℕ) → Places ts → X u → Scan → List (Item 𝓤) → List (Item 𝓤)
   Has b o l₁ l₂ ls x r Γ =
       rooms 𝓤 ts ls
-      (‵ (fat fullShare T′.mir b o (mach r)) ∷ ‵ (fat fullShare (tyRef (named 0) mut Ref) l₁ 0 (vptr b o)) ∷ ‵ (fat fullShare (u .datum .τ) l₂ 0 (u .laws .val x)) ∷ Γ)
+      (‵ (fat fullShare T′.mir b o (mach r)) ∷ ‵ (fat fullShare (tyRef (named 0) mut Ref) l₁ 0 (vptr b o))
+      ∷ ‵ (fat fullShare (u .datum .τ) l₂ 0 (u .laws .val x)) ∷ Γ)
 
   module _ (H : Heap 𝓤) where
     -- the function's locals
@@ -305,7 +307,8 @@ module _ (u : Change) {M : Type 1} (𝓤 : URA M) (H : Heap 𝓤) (A : Atoms �
             assigns ! (addr ! (from ! (stop !))) (from ! (stop !)) (init ! 0 refl (tt, tt)) $
             -- the local is lent for a lifetime ν of the call
             move ! (4 ∷ []) $ use1 W (‵ (partAt R fullShare h l₃ 0)) (lies-in 𝓤 H A W h l₃ hs) $ lft-new ! tt (λ ν. move ! (1 ∷ []) $
-            use1 W (later (some (λ (δ : GName). ‵ (MutRef (named 0) (ν ∷ []) R .own (lent l₃ δ) (vptr l₃ 0 ∷ [])) ⊛ ‵ (flent (ν ∷ []) (Borrowed (mem R) l₃ 0 δ)))))
+            use1 W (later (some (λ (δ : GName).
+            ‵ (MutRef (named 0) (ν ∷ []) R .own (lent l₃ δ) (vptr l₃ 0 ∷ [])) ⊛ ‵ (flent (ν ∷ []) (Borrowed (mem R) l₃ 0 δ)))))
             (lends-ref 𝓤 H A W R (named 0) (ν ∷ []) h l₃ 0) $ await ! tt $ pick ! (λ δ. split ! $
             move ! (2 ∷ 0 ∷ []) $ use2 W (raw (Update u 𝓤 H A .pre (to-update ν l₃ δ))) (goes-update ν l₃ δ) $
             -- [what the callee asks; the lender's part; _5; …; room for _4; …; what frees _3; _2; …; _1; …; room for _0; …]

@@ -3,9 +3,9 @@
 use mathlib.Core.Path.{_≡_, refl, sym, ap, ap₂, _∙_}
 use mathlib.Core.Bool.{Bool, _||_, or-false, or-assoc}
 use mathlib.Core.List.{List, [], _∷_, _++_, map, map-append}
-use Prim.Native.Nat.{ℕ, _+_, _≤_, _<_, max}
+use Prim.Native.Nat.{ℕ, _≤_, _<_}
 use native.Mathlib.Omega.{arith}
-use lib.ListN.{length, take, getD}
+use lib.ListN.{length, getD}
 use Rattle.totals_spec.specs.Basics.{keep}
 use Rattle.totals_spec.specs.Format as spec
 use Rattle.totals_spec.specs.Settings as env
@@ -15,15 +15,15 @@ use Rattle.totals_spec.specs.Terms as terms
 use Rattle.totals_spec.specs.Totals as totals
 use Rattle.totals_spec.proofs.Good.{AllGood, good-terms, good-pairs}
 use Rattle.totals_spec.proofs.Tops.{top-high}
-use Rattle.totals_spec.proofs.Order.{item-nan, pair-nan, pairs-length}
+use Rattle.totals_spec.proofs.Order.{item-nan, pair-nan}
 use Rattle.binary.specs.Joined.{nanOf}
 use Rattle.arithmetic.specs.Joined.{itemOf, PlainField, PlainFields, fieldTop, fieldsTop}
 use Rattle.arithmetic.proofs.Elements.{field-none, field-max, fields-max}
 use Rattle.arithmetic.proofs.Pairs.{pairs-at}
 use Rattle.scan.specs.declared.Scan.{Scan}
-use Rattle.scan.specs.Joined.{topOfItem, taken, raised, seen, ifNan, Reads, ScannedPairs, Takes, TakesPair}
+use Rattle.scan.specs.Joined.{topOfItem, taken, seen, ifNan, Reads, Takes, TakesPair}
 use Rattle.scan.proofs.Choice.{if-left, if-right, if-signaling, none-signaling, decoded-encodes, operand-held}
-use Rattle.scan.proofs.Step.{Reading, Plainly, over-taken, walk-taken, walk-plain, walk-done}
+use Rattle.scan.proofs.Step.{Reading, Plainly, over-taken}
 
 -- ---- what was read
 
@@ -89,7 +89,8 @@ module _ (f : spec.Format) (c : env.Settings) (u : env.Summand) where
   }
 
   -- what `take` gives
-  pub list-taken : (b : ℕ) (s t r : Scan) → Reads (c .nanPropagation) (dec.isSubnormal f b) (dec.operand f c b) s t → r ≡ taken (itemOf (terms.item f c u b)) t → Takes f c u b s r
+  pub list-taken : (b : ℕ) (s t r : Scan) → Reads (c .nanPropagation) (dec.isSubnormal f b) (dec.operand f c b) s t
+      → r ≡ taken (itemOf (terms.item f c u b)) t → Takes f c u b s r
   list-taken b s t r h e l apart =
       let k = reads-as (c .nanPropagation) (dec.isSubnormal f b) (dec.operand f c b) (dec.decode f b) s t (operand-held f c b) h in
       over-taken f c list l b s r (t .nan) (e ∙ ap (taken (itemOf (terms.item f c u b))) (k .rest)) (k .nan) apart
@@ -102,7 +103,8 @@ module _ (f : spec.Format) (c : env.Settings) (u : env.Summand) where
 
 -- ---- the pairs of a dot
 
-pub operands-more : (f : spec.Format) (l : List (ℕ × ℕ)) (x : ℕ × ℕ) → totals.operands f (l ++ (x ∷ [])) ≡ totals.operands f l ++ (dec.decode f (x .0) ∷ dec.decode f (x .1) ∷ [])
+pub operands-more : (f : spec.Format) (l : List (ℕ × ℕ)) (x : ℕ × ℕ)
+    → totals.operands f (l ++ (x ∷ [])) ≡ totals.operands f l ++ (dec.decode f (x .0) ∷ dec.decode f (x .1) ∷ [])
 operands-more f [] x = refl
 operands-more f (y ∷ l) x = ap (λ r. dec.decode f (y .0) ∷ dec.decode f (y .1) ∷ r) (operands-more f l x)
 
@@ -132,8 +134,7 @@ module _ (f : spec.Format) (c : env.Settings) where
       let a = reads-as (c .nanPropagation) (dec.isSubnormal f x) (dec.operand f c x) (dec.decode f x) s t (operand-held f c x) h in
       let b = reads-as (c .nanPropagation) (dec.isSubnormal f y) (dec.operand f c y) (dec.decode f y) t q (operand-held f c y) k in
       over-taken f c dot l (x, y) s r (q .nan)
-      (e ∙ ap (taken (itemOf (terms.pairItem f c (x, y)))) (twice-rest (c .nanPropagation) (dec.isSubnormal f x) (dec.isSubnormal f y) (dec.decode f x) (dec.decode f y) s t q a b))
-      (twice-nan (c .nanPropagation) (dec.isSubnormal f x) (dec.isSubnormal f y) (dec.decode f x) (dec.decode f y) s t q a b) apart
+      (e ∙ ap (taken (itemOf (terms.pairItem f c (x, y)))) (twice-rest _ _ _ _ _ s t q a b)) (twice-nan _ _ _ _ _ s t q a b) apart
 
   -- what `plain_fields` says
   pub pair-plainly : (x y n : ℕ) → 0 < n → PlainFields n f x y → Plainly f c dot (x, y) n
@@ -146,23 +147,7 @@ module _ (f : spec.Format) (c : env.Settings) where
         item = a .4;
       }
 
-  -- ---- the walk over two lists of one length: its invariant is about their pairs
-
-  module _ (xs ys : List ℕ) (j : length ys ≡ length xs) where
-    pub pairs-done : (i : ℕ) (s r : Scan) (m t : ℕ) → i ≡ length xs → r ≡ raised t s → t ≡ fieldsTop f m → ScannedPairs f c (take i (totals.pairs xs ys)) (raised (fieldsTop f m) s)
-        → ScannedPairs f c (totals.pairs xs ys) r
-    pairs-done i s r m t e = walk-done f c dot (totals.pairs xs ys) i s r m t (e ∙ sym (pairs-length xs ys (sym j)))
-
-    -- a turn, at the elements x and y of index i
-    module _ (i x y : ℕ) (s : Scan) (m : ℕ) (h : i < length xs) (d : x ≡ getD xs i 0) (e : y ≡ getD ys i 0) (g : ScannedPairs f c (take i (totals.pairs xs ys)) (raised (fieldsTop f m) s)) where
-      inside : i < length (totals.pairs xs ys)
-      inside = rw (pairs-length xs ys (sym j)) h
-
-      here : (x, y) ≡ getD (totals.pairs xs ys) i (0, 0)
-      here = ap₂ (λ a b. (a, b)) d e ∙ sym (pairs-at xs ys i j h)
-
-      pub pairs-taken : (r : Scan) → TakesPair f c (x, y) s r → ScannedPairs f c (take (i + 1) (totals.pairs xs ys)) (raised (fieldsTop f m) r)
-      pairs-taken = walk-taken f c dot (totals.pairs xs ys) i (0, 0) (x, y) s m inside here g
-
-      pub pairs-plain : (n m′ : ℕ) → 0 < n → PlainFields n f x y → m′ ≡ max m n → ScannedPairs f c (take (i + 1) (totals.pairs xs ys)) (raised (fieldsTop f m′) s)
-      pairs-plain n m′ z a = walk-plain f c dot (totals.pairs xs ys) i (0, 0) (x, y) s m inside here g n m′ (pair-plainly x y n z a)
+-- the elements of index i of two lists of one length are their pair
+pub pair-here : (xs ys : List ℕ) (i x y : ℕ) → length ys ≡ length xs → i < length xs → x ≡ getD xs i 0 → y ≡ getD ys i 0
+    → (x, y) ≡ getD (totals.pairs xs ys) i (0, 0)
+pair-here xs ys i x y j h d e = ap₂ (λ a b. (a, b)) d e ∙ sym (pairs-at xs ys i j h)

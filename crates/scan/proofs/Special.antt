@@ -58,7 +58,8 @@ some-term (t ∷ ts) h = refl
 
 -- ---- the record, by the fields of the scan
 
-module _ {f : spec.Format} {c : env.Settings} {sub sig : Bool} {ops : List dec.Unpacked} {l : List terms.Item} {s : Scan} (g : Gathered f c sub sig ops l s) (products first : Bool) where
+module _ {f : spec.Format} {c : env.Settings} {sub sig : Bool} {ops : List dec.Unpacked} {l : List terms.Item} {s : Scan}
+    (g : Gathered f c sub sig ops l s) (products first : Bool) where
   accepted-is : (v : dec.Unpacked) → totals.accepted f c sub products first sig v l
       ≡ cond (nanDecides first s) (totals.special f sub v (s .signaling || s .invalid)) (totals.withoutNan f c sub products l)
   unfolding totals.accepted
@@ -85,7 +86,8 @@ module _ {f : spec.Format} {c : env.Settings} {sub sig : Bool} {ops : List dec.U
 -- ---- the outcomes
 
 module _ (c : env.Settings) (first : Bool) (s : Scan) where
-  pub by-nan : (v : Unpacked) (i : Bool) → nanDecides first s ≡ true → unpackedOf v ≡ selectedOf c (nanOf (s .nan)) → i ≡ (s .signaling || s .invalid) → Decides (Given v i) c first s
+  pub by-nan : (v : Unpacked) (i : Bool) → nanDecides first s ≡ true → unpackedOf v ≡ selectedOf c (nanOf (s .nan)) → i ≡ (s .signaling || s .invalid)
+      → Decides (Given v i) c first s
   by-nan v i t e h f sub products sig ops l g = (
     accepted-is g products first (nans.selectAll c ops) ∙ rw (t, e, h, selected-is g products first t),
     subst (Encodes f) (sym e) (unfold selectedOf in selected-encodes f (env.propagationOf (c .nanPropagation)) c (nanOf (s .nan)) (g .encodes)),
@@ -99,7 +101,8 @@ module _ (c : env.Settings) (first : Bool) (s : Scan) where
     )
 
     module _ (i : s .invalid ≡ false) where
-      pub by-both : (v : Unpacked) → s .«positive_infinity» ≡ true → s .«negative_infinity» ≡ true → unpackedOf v ≡ nans.defaultNanOf c → Decides (Given v true) c first s
+      pub by-both : (v : Unpacked) → s .«positive_infinity» ≡ true → s .«negative_infinity» ≡ true → unpackedOf v ≡ nans.defaultNanOf c
+          → Decides (Given v true) c first s
       by-both v p n e f sub products sig ops l g = (
         accepted-is g products first (nans.selectAll c ops) ∙ rw t (without-is g products first ∙ rw (i, p, n, e)),
         subst (Encodes f) (sym e) (default-encodes f c),

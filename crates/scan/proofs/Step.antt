@@ -81,13 +81,16 @@ module _ (f : spec.Format) (c : env.Settings) where
             ∙ ap ifNan (sym (chosen-append (ruleOf c) (dec.zeroOf false) ops vs));
         some = sym (held-some n) ∙ ap dec.isNan e ∙ if-nan (nans.chosenOf (ruleOf c) (nanOf (s .nan)) vs) ∙ chosen-nan (ruleOf c) (nanOf (s .nan)) vs
             ∙ ap₂ _||_ (held-some (s .nan) ∙ g .some) (sym (a .nan)) ∙ sym (any-one terms.isNanItem l i);
-        encodes = subst (Encodes f) (sym e) (chosen-encodes (ruleOf c) f (nanOf (s .nan)) vs (subst (Encodes f) (sym (held-if (s .nan))) (g .encodes)) (a .encode));
+        encodes =
+            rw e (chosen-encodes (ruleOf c) f (nanOf (s .nan)) vs (subst (Encodes f) (sym (held-if (s .nan))) (g .encodes)) (a .encode));
         invalid = ap₂ _||_ (g .invalid) (invalid-is i) ∙ sym (any-one terms.isInvalid l i);
         positive-infinity = ap₂ _||_ (g .positive-infinity) (infinite-is false i) ∙ sym (any-one (terms.isInfinite false) l i);
         negative-infinity = ap₂ _||_ (g .negative-infinity) (infinite-is true i) ∙ sym (any-one (terms.isInfinite true) l i);
         positive-zero = ap₂ _||_ (g .positive-zero) (zero-is false i) ∙ sym (any-one (terms.isZero false) l i);
         negative-zero = ap₂ _||_ (g .negative-zero) (zero-is true i) ∙ sym (any-one (terms.isZero true) l i);
-        top = ap₂ max (g .top) (top-is i) ∙ sym (greatest-append terms.topOfTerm (terms.terms l) (keep (terms.termOf i) [])) ∙ ap (greatest terms.topOfTerm) (sym (picked-append terms.termOf l (i ∷ [])));
+        top =
+            ap₂ max (g .top) (top-is i) ∙ sym (greatest-append terms.topOfTerm (terms.terms l) (keep (terms.termOf i) []))
+            ∙ ap (greatest terms.topOfTerm) (sym (picked-append terms.termOf l (i ∷ [])));
         no-term = λ z. picked-append terms.termOf l (i ∷ []) ∙ ap₂ _++_ (g .no-term (omega (arith, z))) (a .placed (omega (arith, z)));
       }
 
@@ -163,13 +166,14 @@ module _ {A : Type 0} (f : spec.Format) (c : env.Settings) (q : Reading f A) whe
       → Over (l ++ (x ∷ [])) (taken (itemOf (q .item x)) (seen (q .subnormal x) (q .signaling x) n s))
   more l x s n g e =
       rw (any-one (q .subnormal) l x, any-one (q .signaling) l x, q .all-more l x, map-append (q .item) l (x ∷ []))
-      (gathered-more f c (any (q .subnormal) l) (any (q .signaling) l) (q .subnormal x) (q .signaling x) (q .all l) (q .operands x) (map (q .item) l) (q .item x) s n g (q .adds x) e)
+      (gathered-more f c _ _ (q .subnormal x) (q .signaling x) (q .all l) (q .operands x) (map (q .item) l) (q .item x) s n g (q .adds x) e)
 
   -- an element that was taken, with a position t kept apart
   pub over-taken : (l : List A) (x : A) (s r : Scan) (n : Nan) → r ≡ taken (itemOf (q .item x)) (seen (q .subnormal x) (q .signaling x) n s)
       → nanOf n ≡ ifNan (nans.chosenOf (ruleOf c) (nanOf (s .nan)) (q .operands x)) → (t : ℕ) → Over l (raised t s) → Over (l ++ (x ∷ [])) (raised t r)
   over-taken l x s r n e h t g =
-      subst (Over (l ++ (x ∷ []))) (sym (ap (raised t) e ∙ taken-raised (itemOf (q .item x)) t (seen (q .subnormal x) (q .signaling x) n s))) (more l x (raised t s) n g h)
+      subst (Over (l ++ (x ∷ []))) (sym (ap (raised t) e ∙ taken-raised (itemOf (q .item x)) t (seen (q .subnormal x) (q .signaling x) n s)))
+      (more l x (raised t s) n g h)
 
   -- an element that is plainly normal, with its field n
   pub record Plainly (x : A) (n : ℕ) : Type 0 where
@@ -178,7 +182,8 @@ module _ {A : Type 0} (f : spec.Format) (c : env.Settings) (q : Reading f A) whe
     pub nan : any dec.isNan (q .operands x) ≡ false
     pub item : itemOf (q .item x) ≡ item.Top (q .position n)
 
-  over-plain : (l : List A) (x : A) (m n : ℕ) (s : Scan) → Plainly x n → Over l (raised (q .position m) s) → Over (l ++ (x ∷ [])) (raised (q .position (max m n)) s)
+  over-plain : (l : List A) (x : A) (m n : ℕ) (s : Scan) → Plainly x n → Over l (raised (q .position m) s)
+      → Over (l ++ (x ∷ [])) (raised (q .position (max m n)) s)
   over-plain l x m n s h g =
       subst (Over (l ++ (x ∷ [])))
       (sym (ap (λ (t : ℕ). raised t s) (q .position-max m n) ∙ raised-more (q .position m) (q .position n) s ∙ rw (h .subnormal, h .signaling, h .item)))
@@ -189,16 +194,24 @@ module _ {A : Type 0} (f : spec.Format) (c : env.Settings) (q : Reading f A) whe
   pub walk-start : (l : List A) (s : Scan) → Over [] s → Over (take 0 l) (raised (q .position 0) s)
   walk-start l s g = rw (q .position-none) (subst (Over []) (raised-none s) g)
 
-  pub walk-done : (l : List A) (i : ℕ) (s r : Scan) (m t : ℕ) → i ≡ length l → r ≡ raised t s → t ≡ q .position m → Over (take i l) (raised (q .position m) s) → Over l r
+  pub walk-done : (l : List A) (i : ℕ) (s r : Scan) (m t : ℕ) → i ≡ length l → r ≡ raised t s → t ≡ q .position m
+      → Over (take i l) (raised (q .position m) s) → Over l r
   walk-done l i s r m t e h k g = rw (h, k) (subst (λ y. Over y (raised (q .position m) s)) (ap (λ (n : ℕ). take n l) e ∙ take-length l) g)
 
-  -- a turn, at the element x of index i
-  module _ (l : List A) (i : ℕ) (d x : A) (s : Scan) (m : ℕ) (h : i < length l) (e : x ≡ getD l i d) (g : Over (take i l) (raised (q .position m) s)) where
-    next : (r : Scan) → Over (take i l ++ (x ∷ [])) r → Over (take (i + 1) l) r
-    next r = subst (λ k. Over k r) (ap (λ y. take i l ++ (y ∷ [])) e ∙ sym (take-suc l i d h) ∙ ap (λ (n : ℕ). take n l) (sym (add-one i)))
+  -- a turn, at the element x of index i; d stands past the end
+  pub record Turn (l : List A) (d : A) (i : ℕ) (x : A) (s : Scan) (m : ℕ) : Type 0 where
+    pub inside : i < length l
+    pub here : x ≡ getD l i d
+    pub so-far : Over (take i l) (raised (q .position m) s)
 
-    pub walk-taken : (r : Scan) → ((k : List A) (t : ℕ) → Over k (raised t s) → Over (k ++ (x ∷ [])) (raised t r)) → Over (take (i + 1) l) (raised (q .position m) r)
-    walk-taken r a = next (raised (q .position m) r) (a (take i l) (q .position m) g)
+module _ {A : Type 0} {f : spec.Format} {c : env.Settings} {q : Reading f A} {l : List A} {d : A} {i : ℕ} {x : A} {s : Scan} {m : ℕ}
+    (t : Turn f c q l d i x s m) where
+  next : (r : Scan) → Over f c q (take i l ++ (x ∷ [])) r → Over f c q (take (i + 1) l) r
+  next r = rw (add-one i, take-suc l i d (t .inside), ← t .here) (λ g. g)
 
-    pub walk-plain : (n m′ : ℕ) → Plainly x n → m′ ≡ max m n → Over (take (i + 1) l) (raised (q .position m′) s)
-    walk-plain n m′ a b = rw b (next (raised (q .position (max m n)) s) (over-plain (take i l) x m n s a g))
+  pub walk-taken : (r : Scan) → ((k : List A) (p : ℕ) → Over f c q k (raised p s) → Over f c q (k ++ (x ∷ [])) (raised p r))
+      → Over f c q (take (i + 1) l) (raised (q .position m) r)
+  walk-taken r a = next (raised (q .position m) r) (a (take i l) (q .position m) (t .so-far))
+
+  pub walk-plain : (n m′ : ℕ) → Plainly f c q x n → m′ ≡ max m n → Over f c q (take (i + 1) l) (raised (q .position m′) s)
+  walk-plain n m′ a b = rw b (next (raised (q .position (max m n)) s) (over-plain f c q (take i l) x m n s a (t .so-far)))

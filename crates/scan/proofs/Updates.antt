@@ -127,7 +127,8 @@ module _ (rule : ℕ) (s : Scan) where
     nan = sym (choose-none (env.propagationOf rule) (nanOf (s .nan)) v e ∙ held-if (s .nan));
   }
 
-  pub read-nan : (v : dec.Unpacked) (sub b : Bool) (r : Scan) → b ≡ (s .subnormal || sub) → Reads rule false v (with b (s .signaling) (s .nan)) r → Reads rule sub v s r
+  pub read-nan : (v : dec.Unpacked) (sub b : Bool) (r : Scan) → b ≡ (s .subnormal || sub) → Reads rule false v (with b (s .signaling) (s .nan)) r
+      → Reads rule sub v s r
   read-nan v sub b r h k = record {
     rest = k .rest ∙ same (r .nan) (or-false b ∙ h) refl;
     nan = k .nan;

@@ -1,64 +1,88 @@
 -- `scan::decided` meets its contract.
-use mathlib.Core.Path.{sym, _∙_}
+use mathlib.Core.Path.{_≡_, sym, _∙_}
+use mathlib.Core.Bool.{false}
+use Rattle.totals_spec.specs.Settings.{Settings}
 use Rattle.format.specs.Joined.{settingsOf}
+use Rattle.scan.specs.Joined.{nanDecides}
 use Rattle.scan.proofs.Special.{by-nan, by-invalid, by-both, by-positive, by-negative, by-zeros, by-terms}
 use borrow.Author.Needs.{needs}
 use Rattle.scan.proofs.decided.Statement.{statement}
 use Rattle.scan.proofs.decided.Tie as tie
 
-nan-decides-requires : tie.Need-nan-decides-requires
-nan-decides-requires c κs = search needs
+abbrev env : tie.Start → Settings
+env s = settingsOf (s .args .c)
 
-selected-requires : tie.Need-selected-requires
-selected-requires c κs = search needs
+-- where no NaN decides
+abbrev entry : tie.Else1 → tie.Start
+entry k = k .before .before
 
-either-requires : tie.Need-either-requires
-either-requires c κs = search needs
+no-nan : (k : tie.Else1) → nanDecides (entry k .args .infinity-first) (entry k .args .s) ≡ false
+no-nan k = sym (k .before .nan-decides .ensures) ∙ k .if1 .left
 
 returns : tie.Need-returns
-returns c = by-nan (settingsOf (c .before .before .before .before .before .args .c)) (c .before .before .before .before .before .args .infinity-first) (c .before .before .before .before .before .args .s) (c .before .selected .result) (c .either .result) (sym (c .before .before .before .before .nan-decides .ensures) ∙ c .before .before .before .if1 .taken) (c .before .selected .ensures) (c .either .ensures)
-
-default-nan-requires : tie.Need-default-nan-requires
-default-nan-requires c κs = search needs
+returns c =
+    let t = c .before .before .before in
+    let s = t .before .before in
+    by-nan (env s) (s .args .infinity-first) (s .args .s) (c .before .selected .result) _ (sym (t .before .nan-decides .ensures) ∙ t .if1 .taken)
+    (c .before .selected .ensures) (c .either .ensures)
 
 returns-2 : tie.Need-returns-2
-returns-2 c = by-invalid (settingsOf (c .before .before .before .before .args .c)) (c .before .before .before .before .args .infinity-first) (c .before .before .before .before .args .s) (sym (c .before .before .before .nan-decides .ensures) ∙ c .before .before .if1 .left) (c .default-nan .result) (c .before .if2 .taken) (c .default-nan .ensures)
-
-default-nan-requires-2 : tie.Need-default-nan-requires-2
-default-nan-requires-2 c κs = search needs
+returns-2 c =
+    let e = c .before .before in
+    let s = entry e in
+    by-invalid (env s) (s .args .infinity-first) (s .args .s) (no-nan e) (c .default-nan .result) (c .before .if2 .taken) (c .default-nan .ensures)
 
 returns-3 : tie.Need-returns-3
-returns-3 c = by-both (settingsOf (c .before .before .before .before .before .before .args .c)) (c .before .before .before .before .before .before .args .infinity-first) (c .before .before .before .before .before .before .args .s) (sym (c .before .before .before .before .before .nan-decides .ensures) ∙ c .before .before .before .before .if1 .left) (c .before .before .before .if2 .left) (c .default-nan2 .result) (c .before .before .if3 .taken) (c .before .if4 .taken) (c .default-nan2 .ensures)
+returns-3 c =
+    let t = c .before .before in
+    let i = t .before in
+    let s = entry (i .before) in
+    by-both (env s) (s .args .infinity-first) (s .args .s) (no-nan (i .before)) (i .if2 .left) (c .default-nan2 .result) (t .if3 .taken)
+    (c .before .if4 .taken) (c .default-nan2 .ensures)
 
 returns-4 : tie.Need-returns-4
-returns-4 c = by-positive (settingsOf (c .before .before .before .before .before .args .c)) (c .before .before .before .before .before .args .infinity-first) (c .before .before .before .before .before .args .s) (sym (c .before .before .before .before .nan-decides .ensures) ∙ c .before .before .before .if1 .left) (c .before .before .if2 .left) (c .before .if3 .taken) (c .if4 .left)
+returns-4 c =
+    let i = c .before .before in
+    let s = entry (i .before) in
+    by-positive (env s) (s .args .infinity-first) (s .args .s) (no-nan (i .before)) (i .if2 .left) (c .before .if3 .taken) (c .if4 .left)
 
 returns-5 : tie.Need-returns-5
-returns-5 c = by-negative (settingsOf (c .before .before .before .before .before .args .c)) (c .before .before .before .before .before .args .infinity-first) (c .before .before .before .before .before .args .s) (sym (c .before .before .before .before .nan-decides .ensures) ∙ c .before .before .before .if1 .left) (c .before .before .if2 .left) (c .before .if3 .left) (c .if5 .taken)
-
-zero-sum-sign-requires : tie.Need-zero-sum-sign-requires
-zero-sum-sign-requires c κs = search needs
+returns-5 c =
+    let i = c .before .before in
+    let s = entry (i .before) in
+    by-negative (env s) (s .args .infinity-first) (s .args .s) (no-nan (i .before)) (i .if2 .left) (c .before .if3 .left) (c .if5 .taken)
 
 returns-6 : tie.Need-returns-6
-returns-6 c = by-zeros (settingsOf (c .before .before .before .before .before .before .before .before .args .c)) (c .before .before .before .before .before .before .before .before .args .infinity-first) (c .before .before .before .before .before .before .before .before .args .s) (sym (c .before .before .before .before .before .before .before .nan-decides .ensures) ∙ c .before .before .before .before .before .before .if1 .left) (c .before .before .before .before .before .if2 .left) (c .before .before .before .before .if3 .left) (c .before .before .before .if5 .left) (c .zero-sum-sign .result) (c .before .if6 .taken) (c .zero-sum-sign .ensures)
+returns-6 c =
+    let n = c .before .before .before in
+    let p = n .before in
+    let i = p .before in
+    let s = entry (i .before) in
+    by-zeros (env s) (s .args .infinity-first) (s .args .s) (no-nan (i .before)) (i .if2 .left) (p .if3 .left) (n .if5 .left) _ (c .before .if6 .taken)
+    (c .zero-sum-sign .ensures)
 
 returns-7 : tie.Need-returns-7
-returns-7 c = by-terms (settingsOf (c .before .before .before .before .before .before .before .args .c)) (c .before .before .before .before .before .before .before .args .infinity-first) (c .before .before .before .before .before .before .before .args .s) (sym (c .before .before .before .before .before .before .nan-decides .ensures) ∙ c .before .before .before .before .before .if1 .left) (c .before .before .before .before .if2 .left) (c .before .before .before .if3 .left) (c .before .before .if5 .left) (c .if6 .left)
+returns-7 c =
+    let n = c .before .before in
+    let p = n .before in
+    let i = p .before in
+    let s = entry (i .before) in
+    by-terms (env s) (s .args .infinity-first) (s .args .s) (no-nan (i .before)) (i .if2 .left) (p .if3 .left) (n .if5 .left) (c .if6 .left)
 
 pub decided-spec : {M : Type 1} → statement M
 decided-spec =
     tie.close
     (tie.spec
-    nan-decides-requires
-    selected-requires
-    either-requires
+    (λ c κs. search needs)
+    (λ c κs. search needs)
+    (λ c κs. search needs)
     returns
-    default-nan-requires
+    (λ c κs. search needs)
     returns-2
-    default-nan-requires-2
+    (λ c κs. search needs)
     returns-3
     returns-4
     returns-5
-    zero-sum-sign-requires
+    (λ c κs. search needs)
     returns-6
     returns-7)

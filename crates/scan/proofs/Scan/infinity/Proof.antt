@@ -16,6 +16,7 @@ pub infinity-spec : {M : Type 1} → statement M
 unfolding code.routine
 infinity-spec 𝓤 H 𝓜 𝓖 𝓡 =
     update-holds infinity 𝓤 H 𝓜 𝓖 𝓡 code.env name temporaries (body 4 3) (code.unfolded 𝓤 H 𝓜 𝓡)
-    (notes (λ s. Infinite s) 4 3 (record { d = 4; lies = refl; stored = λ h. refl; no-term = refl }) (record { d = 3; lies = refl; stored = λ h. refl; no-term = refl })
+    (notes (λ s. Infinite s) 4 3 (record { d = 4; lies = refl; stored = λ h. refl; no-term = refl })
+    (record { d = 3; lies = refl; stored = λ h. refl; no-term = refl })
     𝓤 H (𝓖 .A) (givenOf 𝓤 H 𝓜 𝓖) (tables 𝓤 H 𝓜 𝓡 code.env .C) (tables 𝓤 H 𝓜 𝓡 code.env .Λ))
     (clauses 𝓤 H (𝓖 .A) (𝓜 .mem) (𝓡 .run)) (λ κs a k r e. factI 𝓤 _ (emp 𝓤) e)

@@ -7,30 +7,6 @@ use borrow.Author.Needs.{needs}
 use Rattle.scan.proofs.Scan.item.Statement.{statement}
 use Rattle.scan.proofs.Scan.item.Tie as tie
 
-enum-told : tie.Need-enum-told
-enum-told c = search needs
-
-enum-told-2 : tie.Need-enum-told-2
-enum-told-2 c = search needs
-
-enum-known-i : tie.Need-enum-known-i
-enum-known-i c = search needs
-
-noted-infinity-requires : tie.Need-noted-infinity-requires
-noted-infinity-requires c κs = search needs
-
-enum-known-i-2 : tie.Need-enum-known-i-2
-enum-known-i-2 c = search needs
-
-noted-zero-requires : tie.Need-noted-zero-requires
-noted-zero-requires c κs = search needs
-
-enum-known-i-3 : tie.Need-enum-known-i-3
-enum-known-i-3 c = search needs
-
-noted-top-requires : tie.Need-noted-top-requires
-noted-top-requires c κs = search needs
-
 returns : tie.Need-returns
 returns c = rw (c .enum-told .given .1) (taken-is (c .before .before .args .self) item.Nan _ (sym (max-zero _)))
 
@@ -44,20 +20,20 @@ returns-4 : tie.Need-returns-4
 returns-4 c = rw (c .before .before .i2 .given .1) (c .noted-zero .ensures)
 
 returns-5 : tie.Need-returns-5
-returns-5 c = rw (c .before .before .i3 .given .1) (c .noted-top .ensures ∙ taken-is (c .before .before .before .before .args .self) (item.Top _) _ refl)
+returns-5 c = let i = c .before .before in rw (i .i3 .given .1) (c .noted-top .ensures ∙ taken-is (i .before .before .args .self) (item.Top _) _ refl)
 
 pub item-spec : {M : Type 1} → statement M
 item-spec =
     tie.close
     (tie.spec
-    enum-told
-    enum-told-2
-    enum-known-i
-    noted-infinity-requires
-    enum-known-i-2
-    noted-zero-requires
-    enum-known-i-3
-    noted-top-requires
+    (λ c. search needs)
+    (λ c. search needs)
+    (λ c. search needs)
+    (λ c κs. search needs)
+    (λ c. search needs)
+    (λ c κs. search needs)
+    (λ c. search needs)
+    (λ c κs. search needs)
     returns
     returns-2
     returns-3

@@ -124,17 +124,21 @@ module _ {M : Type 1} (𝓤 : URA M) (H : Heap 𝓤) (A : Atoms 𝓤) (mem : Mem
         (and-then ! (load ! (from ! (stop !)) (look ! 5 refl)) (and-then ! (load ! (from ! (stop !)) (look ! 9 refl)) (no-more !)))) (λ v.
         use1 W (later (some (λ (m : Nan). (‵ ftrue ⊛ ‵ (B.the-row .own m (v ∷ [])))
         ⊛ raw (ensured 𝓤 H A select.ended (select.clauses 𝓤 H A mem run) tt (x .rule, (h .nan, (next x, tt))) tt m)))) (id⊢ 𝓤 _) $
-        await ! tt $ pick ! (λ m. split ! $ move ! (1 ∷ []) $ use1 W (raw (fact 𝓤 (Chosen (x .rule) (h .nan) (next x) m))) (chosen (x .rule) (h .nan) (next x) m) $
-        heard ! (Chosen (x .rule) (h .nan) (next x) m) (λ e. split ! $ drop ! $ peeks ! B.the-row (Is B.the-row) (shows 𝓤 H A B.the-row) m (v ∷ []) (λ ms. drop ! $
+        await ! tt $ pick ! (λ m. split ! $ move ! (1 ∷ []) $
+        use1 W (raw (fact 𝓤 (Chosen (x .rule) (h .nan) (next x) m))) (chosen (x .rule) (h .nan) (next x) m) $
+        heard ! (Chosen (x .rule) (h .nan) (next x) m) (λ e. split ! $ drop ! $
+        peeks ! B.the-row (Is B.the-row) (shows 𝓤 H A B.the-row) m (v ∷ []) (λ ms. drop ! $
         land ! (from ! (stop !)) (init ! 6 refl (typedᴺ m v ms)) $
         rewrite ! 6 (λ (w : Val). ‵ (fat fullShare B′.mir (ls .1 .0) 0 w)) (ap one (LL.tells B.the-type B′.the-laws m (v ∷ []) ms)) refl $
         -- the two stores
         assigns ! (of-opd ! (load ! (from ! (stop !)) (look ! 6 refl))) (from ! (hop ! (look ! 11 refl) (fld ! refl (stop !))))
         (store-in ! 10 (sub ! 8 refl (whole !)) (typedᴺ m _ (spelled m v ms))) $
-        assigns ! (of-opd ! (load ! (from ! (hop ! (look ! 11 refl) (fld ! refl (stop !)))) (look-in ! 10 (sub ! 1 refl (whole !))))) (from ! (stop !)) (init ! 2 refl (tt, tt)) $
+        assigns ! (of-opd ! (load ! (from ! (hop ! (look ! 11 refl) (fld ! refl (stop !)))) (look-in ! 10 (sub ! 1 refl (whole !))))) (from ! (stop !))
+        (init ! 2 refl (tt, tt)) $
         assigns ! (bin ! (load ! (from ! (stop !)) (look ! 2 refl)) (load ! (from ! (fld ! refl (stop !))) (look-in ! 12 (sub ! 2 refl (whole !)))) tt)
         (from ! (stop !)) (init ! 0 refl (tt, tt)) $
-        assigns ! (of-opd ! (load ! (from ! (stop !)) (look ! 0 refl))) (from ! (hop ! (look ! 11 refl) (fld ! refl (stop !)))) (store-in ! 10 (sub ! 1 refl (whole !)) (tt, tt)) $
+        assigns ! (of-opd ! (load ! (from ! (stop !)) (look ! 0 refl))) (from ! (hop ! (look ! 11 refl) (fld ! refl (stop !))))
+        (store-in ! 10 (sub ! 1 refl (whole !)) (tt, tt)) $
         forget ! 0 refl $ forget ! 2 refl $ forget ! 4 refl $ forget ! 6 refl $ forget ! 8 refl $
         k (result m) (is-scan (result m) (top-fits h hs) (spelled m v ms)) (nan-read x h m (h .signaling || x .signaling) refl e)))))
       where

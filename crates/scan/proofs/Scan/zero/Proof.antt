@@ -16,6 +16,7 @@ pub zero-spec : {M : Type 1} → statement M
 unfolding code.routine
 zero-spec 𝓤 H 𝓜 𝓖 𝓡 =
     update-holds zero 𝓤 H 𝓜 𝓖 𝓡 code.env name temporaries (body 6 5) (code.unfolded 𝓤 H 𝓜 𝓡)
-    (notes (λ s. Zero s) 6 5 (record { d = 6; lies = refl; stored = λ h. refl; no-term = refl }) (record { d = 5; lies = refl; stored = λ h. refl; no-term = refl })
+    (notes (λ s. Zero s) 6 5 (record { d = 6; lies = refl; stored = λ h. refl; no-term = refl })
+    (record { d = 5; lies = refl; stored = λ h. refl; no-term = refl })
     𝓤 H (𝓖 .A) (givenOf 𝓤 H 𝓜 𝓖) (tables 𝓤 H 𝓜 𝓡 code.env .C) (tables 𝓤 H 𝓜 𝓡 code.env .Λ))
     (clauses 𝓤 H (𝓖 .A) (𝓜 .mem) (𝓡 .run)) (λ κs a k r e. factI 𝓤 _ (emp 𝓤) e)

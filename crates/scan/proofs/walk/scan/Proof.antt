@@ -18,17 +18,18 @@ Is s r b =
     GatheredIn b (formatOf (a .f)) (settingsOf (a .c)) (summandOf (a .k .summand)) (elements (a .k .source) (a .left-words .now) (a .left-bytes .now))
     (elements (a .k .source) (a .right-words .now) (a .right-bytes .now)) r
 
-scan-pairs-requires : tie.Need-scan-pairs-requires
-scan-pairs-requires c κs = search needs
+abbrev entry : tie.After-struct-known → tie.Start
+entry k = let s = k .before .before .before in s .before .before .before
 
 returns : tie.Need-returns
-returns c = subst (Is (c .before .before .before .before .before .before .before .before) (c .scan-pairs .result)) (sym (eq-eqb _ 3 (c .before .if1 .taken))) (c .scan-pairs .ensures)
-
-scan-list-requires : tie.Need-scan-list-requires
-scan-list-requires c κs = search needs
+returns c =
+    let t = c .before in
+    subst (Is (entry (t .before)) (c .scan-pairs .result)) (sym (eq-eqb _ 3 (t .if1 .taken))) (c .scan-pairs .ensures)
 
 returns-2 : tie.Need-returns-2
-returns-2 c = subst (Is (c .before .before .before .before .before .before .before .before) (c .scan-list .result)) (sym (ne-eqb _ 3 (c .before .if1 .left))) (c .scan-list .ensures)
+returns-2 c =
+    let t = c .before in
+    subst (Is (entry (t .before)) (c .scan-list .result)) (sym (ne-eqb _ 3 (t .if1 .left))) (c .scan-list .ensures)
 
 pub scan-spec : {M : Type 1} → statement M
-scan-spec = tie.close (tie.spec scan-pairs-requires returns scan-list-requires returns-2)
+scan-spec = tie.close (tie.spec (λ c κs. search needs) returns (λ c κs. search needs) returns-2)

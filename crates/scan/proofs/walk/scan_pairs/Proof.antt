@@ -1,7 +1,7 @@
 -- `scan::walk::scan_pairs` meets its contract. The invariant: the scan, raised to the position of the fields kept apart, is that of the first i pairs.
 use mathlib.Core.Path.{_≡_, sym, _∙_}
 use mathlib.Core.List.{List}
-use Prim.Native.Nat.{ℕ, _+_, _≤_, _-_, _<_, max}
+use Prim.Native.Nat.{ℕ, _≤_, _-_, _<_}
 use native.Mathlib.Numerals.{add-one-le}
 use native.Mathlib.Omega.{arith}
 use borrow.Author.Needs.{needs}
@@ -9,14 +9,14 @@ use lib.ListN.{length, take}
 use Rattle.totals_spec.specs.Format.{Format}
 use Rattle.totals_spec.specs.Settings.{Settings}
 use Rattle.totals_spec.specs.Totals.{pairs}
+use Rattle.totals_spec.proofs.Order.{pairs-length}
 use Rattle.format.specs.Joined.{formatOf, settingsOf}
 use Rattle.arithmetic.specs.Joined.{fieldsTop}
 use Rattle.values.specs.Sources.{elements}
 use Rattle.values.proofs.Sources.{elements-length}
-use Rattle.scan.specs.declared.Scan.{Scan}
-use Rattle.scan.specs.Joined.{raised, ScannedPairs, TakesPair}
-use Rattle.scan.proofs.Step.{walk-start}
-use Rattle.scan.proofs.Lists.{dot, pairs-taken, pairs-plain, pairs-done}
+use Rattle.scan.specs.Joined.{raised, ScannedPairs}
+use Rattle.scan.proofs.Step.{Reading, Plainly, Turn, walk-start, walk-taken, walk-plain, walk-done}
+use Rattle.scan.proofs.Lists.{dot, pair-here, pair-plainly}
 use Rattle.scan.proofs.walk.scan_pairs.Statement.{statement}
 use Rattle.scan.proofs.walk.scan_pairs.Tie as tie
 
@@ -38,104 +38,86 @@ form e = formatOf (e .args .f)
 abbrev env : Entry → Settings
 env e = settingsOf (e .args .c)
 
+abbrev by : (e : Entry) → Reading (form e) (ℕ × ℕ)
+by e = dot (form e) (env e)
+
 abbrev left : Entry → List ℕ
 left e = elements (e .args .source) (e .args .left-words .now) (e .args .left-bytes .now)
 
 abbrev right : Entry → List ℕ
 right e = elements (e .args .source) (e .args .right-words .now) (e .args .right-bytes .now)
 
-long : (e : Entry) → length (left e) ≡ e .args .source .count
-long e = elements-length (e .args .source) (e .args .left-words .now) (e .args .left-bytes .now)
+abbrev all : Entry → List (ℕ × ℕ)
+all e = pairs (left e) (right e)
 
-same : (e : Entry) → length (right e) ≡ length (left e)
-same e = elements-length (e .args .source) (e .args .right-words .now) (e .args .right-bytes .now) ∙ sym (long e)
+many : (e : Entry) → length (left e) ≡ e .args .source .count
+many e = elements-length (e .args .source) (e .args .left-words .now) (e .args .left-bytes .now)
 
--- in a turn, once the pair's fields are known
-abbrev Turn : Type 0
-Turn = tie.After-plain-fields Inv-loop μ-loop
+alike : (e : Entry) → length (right e) ≡ length (left e)
+alike e = elements-length (e .args .source) (e .args .right-words .now) (e .args .right-bytes .now) ∙ sym (many e)
 
-abbrev head : Turn → tie.At-loop Inv-loop μ-loop
-head t = t .before .before .before .before .before
+long : (e : Entry) → length (all e) ≡ e .args .source .count
+long e = pairs-length (left e) (right e) (sym (alike e)) ∙ many e
 
 abbrev entry : tie.At-loop Inv-loop μ-loop → Entry
-entry h = h .before .before .before .before .before .before
+entry h = let s = h .before .before .before in s .before .before .before
 
-inside : (t : Turn) → head t .loop .i < length (left (entry (head t)))
-inside t = rw (long (entry (head t))) (t .before .before .before .if1 .taken)
+-- in a turn, once the pair's fields are known
+abbrev Known : Type 0
+Known = tie.After-plain-fields Inv-loop μ-loop
 
-taken : (t : Turn) (r : Scan) → let e = entry (head t) in TakesPair (form e) (env e) (t .before .before .element .result, t .before .element2 .result) (head t .loop .s) r
-    → ScannedPairs (form e) (env e) (take (head t .loop .i + 1) (pairs (left e) (right e))) (raised (fieldsTop (form e) (head t .loop .greatest)) r)
-taken t r =
+abbrev inside : Known → tie.Then1 Inv-loop μ-loop
+inside t = t .before .before .before
+
+abbrev head : Known → tie.At-loop Inv-loop μ-loop
+head t = inside t .before .before
+
+abbrev pair : Known → ℕ × ℕ
+pair t = (t .before .before .element .result, t .before .element2 .result)
+
+turn : (t : Known) → let e = entry (head t) in let l = head t .loop in
+    Turn (form e) (env e) (by e) (all e) (0, 0) (l .i) (pair t) (l .s) (l .greatest)
+turn t =
     let e = entry (head t) in
-    let l = head t .loop in
-    pairs-taken (form e) (env e) (left e) (right e) (same e) (l .i) _ _ (l .s) (l .greatest) (inside t) (t .before .before .element .ensures) (t .before .element2 .ensures) (l .inv .2) r
+    let y = t .before in
+    let i = inside t .if1 .taken in
+    record {
+      inside = rw (long e) i;
+      here = pair-here (left e) (right e) _ _ _ (alike e) (rw (many e) i) (y .before .element .ensures) (y .element2 .ensures);
+      so-far = head t .loop .inv .2;
+    }
 
-plain : (t : Turn) (m : ℕ) → 0 < t .plain-fields .result → m ≡ max (head t .loop .greatest) (t .plain-fields .result)
-    → let e = entry (head t) in ScannedPairs (form e) (env e) (take (head t .loop .i + 1) (pairs (left e) (right e))) (raised (fieldsTop (form e) m) (head t .loop .s))
-plain t m z =
-    let e = entry (head t) in
-    let l = head t .loop in
-    pairs-plain (form e) (env e) (left e) (right e) (same e) (l .i) _ _ (l .s) (l .greatest) (inside t) (t .before .before .element .ensures) (t .before .element2 .ensures) (l .inv .2)
-    (t .plain-fields .result) m z (t .plain-fields .ensures .1)
-
-new-requires : tie.Need-new-requires Inv-loop μ-loop
-new-requires c κs = search needs
+plainly : (t : Known) → 0 < t .plain-fields .result → let e = entry (head t) in Plainly (form e) (env e) (by e) (pair t) (t .plain-fields .result)
+plainly t z = let e = entry (head t) in pair-plainly (form e) (env e) _ _ _ z (t .plain-fields .ensures .1)
 
 loop-holds : tie.Need-loop-holds Inv-loop μ-loop
 loop-holds c =
-    let e = c .before .before .before .before .before in
-    (search needs, search needs, walk-start (form e) (env e) (dot (form e) (env e)) (pairs (left e) (right e)) _ (c .new .ensures .1 (form e) (env e)))
-
-element-requires : tie.Need-element-requires Inv-loop μ-loop
-element-requires c κs = search needs
-
-element-requires-2 : tie.Need-element-requires-2 Inv-loop μ-loop
-element-requires-2 c κs = search needs
-
-add-i : tie.Need-add-i Inv-loop μ-loop
-add-i c = search needs
-
-plain-fields-requires : tie.Need-plain-fields-requires Inv-loop μ-loop
-plain-fields-requires c κs = search needs
-
-take-pair-requires : tie.Need-take-pair-requires Inv-loop μ-loop
-take-pair-requires c κs = search needs
-
-loop-less : tie.Need-loop-less Inv-loop μ-loop
-loop-less c = search needs
+    let s = c .before .before .before in
+    let e = s .before .before in
+    (search needs, search needs, walk-start (form e) (env e) (by e) (all e) _ (c .new .ensures .1 (form e) (env e)))
 
 loop-again : tie.Need-loop-again Inv-loop μ-loop
 loop-again c =
     let t = c .before .before in
-    (add-one-le (t .before .before .before .if1 .taken), head t .loop .inv .1, taken t _ (c .take-pair .ensures))
-
-loop-less-2 : tie.Need-loop-less-2 Inv-loop μ-loop
-loop-less-2 c = search needs
+    (add-one-le (inside t .if1 .taken), head t .loop .inv .1, walk-taken (turn t) _ (c .take-pair .ensures))
 
 loop-again-2 : tie.Need-loop-again-2 Inv-loop μ-loop
 loop-again-2 c =
     let t = c .before .before in
-    (add-one-le (t .before .before .before .if1 .taken), t .plain-fields .ensures .0, plain t (t .plain-fields .result) (omega arith) (omega arith))
-
-loop-less-3 : tie.Need-loop-less-3 Inv-loop μ-loop
-loop-less-3 c = search needs
+    (add-one-le (inside t .if1 .taken), t .plain-fields .ensures .0, walk-plain (turn t) _ (t .plain-fields .result) (plainly t (omega arith)) (omega arith))
 
 loop-again-3 : tie.Need-loop-again-3 Inv-loop μ-loop
 loop-again-3 c =
     let t = c .before .before in
-    (add-one-le (t .before .before .before .if1 .taken), head t .loop .inv .1, plain t (head t .loop .greatest) (omega arith) (omega arith))
-
-plain-pair-top-requires : tie.Need-plain-pair-top-requires Inv-loop μ-loop
-plain-pair-top-requires c κs = search needs
-
-noted-top-requires : tie.Need-noted-top-requires Inv-loop μ-loop
-noted-top-requires c κs = search needs
+    (add-one-le (inside t .if1 .taken), head t .loop .inv .1, walk-plain (turn t) _ (head t .loop .greatest) (plainly t (omega arith)) (omega arith))
 
 returns : tie.Need-returns Inv-loop μ-loop
 returns c =
-    let h = c .before .before .before .before in
+    let p = c .before in
+    let h = p .before .before .before in
     let e = entry h in
-    pairs-done (form e) (env e) (left e) (right e) (same e) (h .loop .i) (h .loop .s) _ (h .loop .greatest) _ (omega (arith, long e)) (c .noted-top .ensures) (c .before .plain-pair-top .ensures) (h .loop .inv .2)
+    walk-done (form e) (env e) (by e) (all e) (h .loop .i) (h .loop .s) _ (h .loop .greatest) _ (omega (arith, long e)) (c .noted-top .ensures)
+    (p .plain-pair-top .ensures) (h .loop .inv .2)
 
 pub scan-pairs-spec : {M : Type 1} → statement M
 scan-pairs-spec =
@@ -143,19 +125,19 @@ scan-pairs-spec =
     (tie.spec
     Inv-loop
     μ-loop
-    new-requires
+    (λ c κs. search needs)
     loop-holds
-    element-requires
-    element-requires-2
-    add-i
-    plain-fields-requires
-    take-pair-requires
-    loop-less
+    (λ c κs. search needs)
+    (λ c κs. search needs)
+    (λ c. search needs)
+    (λ c κs. search needs)
+    (λ c κs. search needs)
+    (λ c. search needs)
     loop-again
-    loop-less-2
+    (λ c. search needs)
     loop-again-2
-    loop-less-3
+    (λ c. search needs)
     loop-again-3
-    plain-pair-top-requires
-    noted-top-requires
+    (λ c κs. search needs)
+    (λ c κs. search needs)
     returns)
