@@ -14,7 +14,8 @@ use Rattle.limbs.specs.Value.{value}
 use Rattle.limbs.proofs.Length.{size-zero}
 use Rattle.totals_spec.specs.Basics as words
 use Rattle.totals_spec.specs.Chain as chain
-use Rattle.window.specs.Joined.{signedOf, boundBy, boundOf, outcomeBy, sidedOf, exactOf, nearBy, counted, Ready, Ends, Sides, Goes, Bounds, Follows, totalOf, Steps}
+use Rattle.window.specs.Joined.{signedOf, boundBy, boundOf, outcomeBy, sidedOf, exactOf, nearBy, counted}
+use Rattle.window.specs.Joined.{Ready, Ends, Sides, Goes, Bounds, Follows, totalOf, Steps}
 use Rattle.window.specs.declared.Pass.{Pass}
 use Rattle.window.specs.declared.Signed.{Signed}
 use Rattle.window.specs.declared.Chain.{Chain}
@@ -90,7 +91,9 @@ settledBy High w x r = chain.next (chain.boundary (x .neg) (x .mag / 2 ^ r + 1) 
 settledBy Between w x r = chain.done (chain.nearly (x .neg) (x .mag) w)
 
 settles : (w : ℕ) (x : words.Signed) (r d : ℕ) → 66 < r → chain.finalOrBoundary w x r d ≡ settledBy (nearBy d r) w x r
-settles w x r d h = rw (leb-ltb (2 ^ 65) d, leb-ltb d (2 ^ r - 2 ^ 65)) (go (ltb d (2 ^ 65)) (ltb→lt d (2 ^ 65)) (ltb (2 ^ r - 2 ^ 65) d) (ltb→lt (2 ^ r - 2 ^ 65) d))
+settles w x r d h =
+    rw (leb-ltb (2 ^ 65) d, leb-ltb d (2 ^ r - 2 ^ 65))
+    (go (ltb d (2 ^ 65)) (ltb→lt d (2 ^ 65)) (ltb (2 ^ r - 2 ^ 65) d) (ltb→lt (2 ^ r - 2 ^ 65) d))
   where
     wide : 2 * 2 ^ 65 ≤ 2 ^ r
     wide = subst (λ (n : ℕ). n ≤ 2 ^ r) (pow-succ' 2 65) (pow-mono high)
@@ -129,7 +132,8 @@ module _ (p w : ℕ) (x : words.Signed) (n lost : ℕ) where
       go zero z = absurd (z refl)
       go (suc k) z = rw (lt-leb (p + 70) n h)
 
-  pub decide-settles : (lost ≡ 0 → ⊥) → p + 70 ≤ n → chain.decide p chain.noBoundary w lost x n ≡ settledBy (nearBy (x .mag % 2 ^ (n - p - 1)) (n - p - 1)) w x (n - p - 1)
+  pub decide-settles : (lost ≡ 0 → ⊥) → p + 70 ≤ n
+      → chain.decide p chain.noBoundary w lost x n ≡ settledBy (nearBy (x .mag % 2 ^ (n - p - 1)) (n - p - 1)) w x (n - p - 1)
   unfolding chain.decide
   decide-settles l h = go lost l
     where
@@ -178,10 +182,13 @@ same-bound c d e f g h = ap (λ (b : Bool). boundBy b d) e ∙ go (c .near)
     go false = refl
 
 module _ (p : ℕ) (c : Chain) (s : Signed) (n lost : ℕ) (r : Step) where
-  abbrev AsDecided : Type 0
-  AsDecided = Follows (r .verdict) (chain.decide p (boundOf c) (c .edge) lost (signedOf s) n) (counted (c .edge) n lost) c (r .chain)
+  abbrev with : chain.Boundary → chain.Step
+  with b = chain.decide p b (c .edge) lost (signedOf s) n
 
-  goes-follows : chain.decide p (boundOf c) (c .edge) lost (signedOf s) n ≡ chain.next (boundOf c) (chain.nextEdge (c .edge) n lost) → Goes n lost c r → AsDecided
+  abbrev AsDecided : Type 0
+  AsDecided = Follows (r .verdict) (with (boundOf c)) (counted (c .edge) n lost) c (r .chain)
+
+  goes-follows : with (boundOf c) ≡ chain.next (boundOf c) (chain.nextEdge (c .edge) n lost) → Goes n lost c r → AsDecided
   goes-follows e g =
       next-follows c r _ _ (g .verdict)
       (e ∙ ap₂ chain.next (sym (same-bound c (r .chain) (g .near) (g .negative) (g .place) (g .whole))) (sym (g .edge)))
@@ -192,62 +199,68 @@ module _ (p : ℕ) (c : Chain) (s : Signed) (n lost : ℕ) (r : Step) where
     no-bound : boundOf c ≡ chain.noBoundary
     no-bound = ap (λ (b : Bool). boundBy b c) free
 
-    decided : chain.decide p (boundOf c) (c .edge) lost (signedOf s) n ≡ chain.decide p chain.noBoundary (c .edge) lost (signedOf s) n
-    decided = ap (λ (b : chain.Boundary). chain.decide p b (c .edge) lost (signedOf s) n) no-bound
+    decided : with (boundOf c) ≡ with chain.noBoundary
+    decided = ap with no-bound
 
     pub exactly-follows : lost ≡ 0 → (zero : Bool) → zero ≡ eqb (value (s .magnitude)) 0 → Ends (exactOf zero) s c r → AsDecided
     exactly-follows l true z g =
-        done-follows c r _ _ out.Zero (g .verdict) (decided ∙ decide-zero p (c .edge) (signedOf s) n lost l (eqb-true (value (s .magnitude)) 0 (sym z))) (g .passes) (g .edge)
+        done-follows c r _ _ out.Zero (g .verdict) (decided ∙ decide-zero p (c .edge) (signedOf s) n lost l (eqb-true (value (s .magnitude)) 0 (sym z)))
+        (g .passes) (g .edge)
     exactly-follows l false z g =
         done-follows c r _ _ out.Exact (g .verdict) (decided ∙ decide-exact p (c .edge) (signedOf s) n lost l (eqb-false (value (s .magnitude)) 0 (sym z)) ∙ cc)
         (g .passes) (g .edge)
 
     pub lower-follows : (lost ≡ 0 → ⊥) → n < p + 70 → Goes n lost c r → AsDecided
     lower-follows l h g =
-        goes-follows (decided ∙ decide-lower p (c .edge) (signedOf s) n lost l h ∙ ap (λ (b : chain.Boundary). chain.next b (chain.nextEdge (c .edge) n lost)) (sym no-bound)) g
+        goes-follows (decided ∙ decide-lower p (c .edge) (signedOf s) n lost l h
+        ∙ ap (λ (b : chain.Boundary). chain.next b (chain.nextEdge (c .edge) n lost)) (sym no-bound)) g
 
     module _ (l : lost ≡ 0 → ⊥) (h : p + 70 ≤ n) (v : Nearness) (e : v ≡ nearBy (value (s .magnitude) % 2 ^ (n - p - 1)) (n - p - 1)) where
       far : counted (c .edge) n lost ≡ 1
       far = counted-some (c .edge) n lost (λ z. omega (arith, z))
 
-      settled : chain.decide p (boundOf c) (c .edge) lost (signedOf s) n ≡ settledBy v (c .edge) (signedOf s) (n - p - 1)
-      settled = decided ∙ decide-settles p (c .edge) (signedOf s) n lost l h ∙ ap (λ (u : Nearness). settledBy u (c .edge) (signedOf s) (n - p - 1)) (sym e)
+      -- the step by where the remainder stands, and the multiple of 2^(n − p − 1) that `up` chooses
+      abbrev by : Nearness → chain.Step
+      by u = settledBy u (c .edge) (signedOf s) (n - p - 1)
+
+      abbrev multiple : Bool → chain.Boundary
+      multiple up = chain.boundary (s .negative) (value (s .magnitude) / 2 ^ (n - p - 1) + words.flag 1 up) (c .edge + (n - p - 1))
+
+      settled : with (boundOf c) ≡ by v
+      settled = decided ∙ decide-settles p (c .edge) (signedOf s) n lost l h ∙ ap by (sym e)
 
       pub inexact-follows : v ≡ Between → Ends out.Inexact s c r → AsDecided
-      inexact-follows u g =
-          done-follows c r _ _ out.Inexact (g .verdict) (settled ∙ ap (λ (u : Nearness). settledBy u (c .edge) (signedOf s) (n - p - 1)) u ∙ cc) (g .passes) (g .edge)
+      inexact-follows u g = done-follows c r _ _ out.Inexact (g .verdict) (settled ∙ ap by u ∙ cc) (g .passes) (g .edge)
 
-      -- `up` is the choice of the multiple
-      bounds-follow : (up : Bool) → settledBy v (c .edge) (signedOf s) (n - p - 1) ≡ chain.next (chain.boundary (s .negative) (value (s .magnitude) / 2 ^ (n - p - 1) + words.flag 1 up) (c .edge + (n - p - 1))) (c .edge - 701)
-          → Bounds s (n - p - 1) up c r → AsDecided
+      bounds-follow : (up : Bool) → by v ≡ chain.next (multiple up) (c .edge - 701) → Bounds s (n - p - 1) up c r → AsDecided
       bounds-follow up u g = next-follows c r _ _ (g .verdict) (settled ∙ u ∙ ap₂ chain.next bound edge) (g .passes ∙ ap (λ (k : ℕ). c .passes + k) (sym far))
         where
-          bound : chain.boundary (s .negative) (value (s .magnitude) / 2 ^ (n - p - 1) + words.flag 1 up) (c .edge + (n - p - 1)) ≡ boundOf (r .chain)
+          bound : multiple up ≡ boundOf (r .chain)
           bound = sym (ap (λ (b : Bool). boundBy b (r .chain)) (g .near) ∙ cc)
 
           edge : c .edge - 701 ≡ r .chain .edge + 766 * (counted (c .edge) n lost - 1)
           edge = rw far (omega (arith, g .edge))
 
       pub low-follows : v ≡ Low → Bounds s (n - p - 1) false c r → AsDecided
-      low-follows u g = bounds-follow false (ap (λ (u : Nearness). settledBy u (c .edge) (signedOf s) (n - p - 1)) u) g
+      low-follows u g = bounds-follow false (ap by u) g
 
       pub high-follows : v ≡ High → Bounds s (n - p - 1) true c r → AsDecided
-      high-follows u g = bounds-follow true (ap (λ (u : Nearness). settledBy u (c .edge) (signedOf s) (n - p - 1)) u) g
+      high-follows u g = bounds-follow true (ap by u) g
 
   -- beside a boundary
   module _ (near : c .near ≡ true) (e : n ≡ size (value (s .magnitude))) where
-    a-bound : boundOf c ≡ chain.boundary (c .negative) (value (c .whole)) (c .place)
+    a-bound : boundOf c ≡ boundBy true c
     a-bound = ap (λ (b : Bool). boundBy b c) near
 
-    with-bound : chain.decide p (boundOf c) (c .edge) lost (signedOf s) n ≡ chain.decide p (chain.boundary (c .negative) (value (c .whole)) (c .place)) (c .edge) lost (signedOf s) n
-    with-bound = ap (λ (b : chain.Boundary). chain.decide p b (c .edge) lost (signedOf s) n) a-bound
+    with-bound : with (boundOf c) ≡ with (boundBy true c)
+    with-bound = ap with a-bound
 
     pub again-follows : (lost ≡ 0 → ⊥) → n < 66 → Goes n lost c r → AsDecided
     again-follows l h g =
         goes-follows (with-bound ∙ decide-again p (c .edge) (signedOf s) n lost (c .negative) (value (c .whole)) (c .place) l h
         ∙ ap (λ (b : chain.Boundary). chain.next b (chain.nextEdge (c .edge) n lost)) (sym a-bound)) g
 
-    side-follows : chain.decide p (chain.boundary (c .negative) (value (c .whole)) (c .place)) (c .edge) lost (signedOf s) n ≡ chain.done (chain.beside (chain.sideOf (c .negative) (signedOf s)) (c .negative) (value (c .whole)) (c .place))
+    side-follows : with (boundBy true c) ≡ chain.done (chain.beside (chain.sideOf (c .negative) (signedOf s)) (c .negative) (value (c .whole)) (c .place))
         → Sides s n c r → AsDecided
     side-follows d g =
         done-follows c r _ _ (sidedOf (c .negative) (s .negative) n) (g .verdict)
@@ -269,6 +282,7 @@ module _ (p : ℕ) (c : Chain) (s : Signed) (n lost : ℕ) (r : Step) where
 -- S of a pass, as its sign and magnitude were worked out
 pub steps-by : (p : ℕ) (c : Chain) (q : Pass) (s : Signed) (n : ℕ) (r : Step) → signedOf s ≡ totalOf q → n ≡ size (value (s .magnitude))
     → Follows (r .verdict) (chain.decide p (boundOf c) (c .edge) (q .lost) (signedOf s) n) (counted (c .edge) n (q .lost)) c (r .chain) → Steps p c q r
-steps-by p c q s n r e f h =
-    subst (λ (x : words.Signed). Follows (r .verdict) (chain.decide p (boundOf c) (c .edge) (q .lost) x (size (x .mag))) (counted (c .edge) (size (x .mag)) (q .lost)) c (r .chain)) e
-    (subst (λ (k : ℕ). Follows (r .verdict) (chain.decide p (boundOf c) (c .edge) (q .lost) (signedOf s) k) (counted (c .edge) k (q .lost)) c (r .chain)) f h)
+steps-by p c q s n r e f h = subst (λ (x : words.Signed). By x (size (x .mag))) e (subst (By (signedOf s)) f h)
+  where
+    By : words.Signed → ℕ → Type 0
+    By x k = Follows (r .verdict) (chain.decide p (boundOf c) (c .edge) (q .lost) x k) (counted (c .edge) k (q .lost)) c (r .chain)

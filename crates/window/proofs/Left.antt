@@ -68,7 +68,8 @@ module _ (c : Chain) (v : Unrounded) where
     long = λ p k t. absurd (not-sticky v (a .1) t);
   })
 
-  pub inexact-left : (o : Outcome) → o ≡ out.Inexact → Roundable o (value (c .whole)) → Parts v (c .negative) true (c .place) (c .whole) → 0 < c .place → Leaves (End o c) v
+  pub inexact-left : (o : Outcome) → o ≡ out.Inexact → Roundable o (value (c .whole)) → Parts v (c .negative) true (c .place) (c .whole) → 0 < c .place
+      → Leaves (End o c) v
   unfolding settled
   inexact-left o q h a d = rw q (record {
     stands = rw (a .1, a .2, a .3) (midway (value (c .whole)) (c .place) d);
@@ -88,13 +89,13 @@ module _ (c : Chain) (v : Unrounded) (w : List ℕ) (deep : 3 ≤ c .place) (a :
   quarters = rw (a .1, a .2, a .3) (midway (value w) (c .place - 2) (omega arith))
 
   some-of : (m : ℕ) → 0 < m → 4 * m ≤ value w + 1 → 0 < value (v .significand)
-  some-of m h k = subst (λ (l : List ℕ). 0 < value l) (sym (a .3)) (more m (value w) h k)
+  some-of m h k = rw (a .3) (more m (value w) h k)
     where
       more : (m x : ℕ) → 0 < m → 4 * m ≤ x + 1 → 0 < x
       more m x h k = omega arith
 
   long-of : (m p : ℕ) → 2 ^ p ≤ m → 4 * m ≤ value w + 1 → 2 ^ suc p ≤ value (v .significand)
-  long-of m p h k = subst (λ (l : List ℕ). 2 ^ suc p ≤ value l) (sym (a .3)) (subst (λ (n : ℕ). n ≤ value w) (sym (pow-succ' 2 p)) (more m (2 ^ p) (value w) (pow-pos p) h k))
+  long-of m p h k = rw (a .3, pow-succ' 2 p) (more m (2 ^ p) (value w) (pow-pos p) h k)
     where
       more : (m q x : ℕ) → 0 < q → q ≤ m → 4 * m ≤ x + 1 → 2 * q ≤ x
       more m q x g h k = omega arith
@@ -114,8 +115,8 @@ module _ (c : Chain) (v : Unrounded) (w : List ℕ) (deep : 3 ≤ c .place) (a :
         long = λ p b t. long-of (value (c .whole)) p (b .0 .many) k;
       })
 
-  pub below-left : (x y : List ℕ) (o : Outcome) → o ≡ out.Below → Roundable o (value (c .whole)) → value x ≡ value (c .whole) * 2 ^ 2 % 2 ^ 768 → value y ≡ 2 ^ 0 % 2 ^ 768
-      → value w ≡ (value x + (2 ^ 768 - value y % 2 ^ 768)) % 2 ^ 768 → Leaves (End o c) v
+  pub below-left : (x y : List ℕ) (o : Outcome) → o ≡ out.Below → Roundable o (value (c .whole)) → value x ≡ value (c .whole) * 2 ^ 2 % 2 ^ 768
+      → value y ≡ 2 ^ 0 % 2 ^ 768 → value w ≡ (value x + (2 ^ 768 - value y % 2 ^ 768)) % 2 ^ 768 → Leaves (End o c) v
   unfolding settled
   below-left x y o q h ex ey e =
       let g : Roundable out.Below (value (c .whole)) = rw q at h in
@@ -166,7 +167,8 @@ roundable-of o p m e l n h = go o n h
     go out.Above n h = bounded (h .0)
 
 -- what `near_boundary` requires
-pub ended-roundable : (p : ℕ) (e : ExactSum) → p ≤ 64 → (e .outcome ≡ out.Zero → ⊥) → Ended p e → (3 ≤ e .chain .place) × Roundable (e .outcome) (value (e .chain .whole))
+pub ended-roundable : (p : ℕ) (e : ExactSum) → p ≤ 64 → (e .outcome ≡ out.Zero → ⊥) → Ended p e
+    → (3 ≤ e .chain .place) × Roundable (e .outcome) (value (e .chain .whole))
 ended-roundable p e l n h =
     let d = deep-of (e .outcome) p (value (e .chain .whole)) (e .chain .place) n (h .ends) in
     (omega (arith, d .high), roundable-of (e .outcome) p (value (e .chain .whole)) (e .chain .place) l n (h .ends))
@@ -177,7 +179,8 @@ stands-some true m unit x h k s = omega (arith, s .0)
 stands-some false m unit x h k s = subst (λ (n : ℕ). 0 < n) (sym s) (mul-pos h k)
 
 leaves-some : (e : ExactSum) (v : Unrounded) → Leaves e v → settled (outcomeOf e) .mag ≡ 0 → ⊥
-leaves-some e v l z = none (subst (λ (n : ℕ). 0 < n) z (stands-some (v .sticky) (value (v .significand)) (2 ^ (v .position)) _ (l .some) (pow-pos (v .position)) (l .stands)))
+leaves-some e v l z =
+    none (rw z at (stands-some (v .sticky) (value (v .significand)) (2 ^ (v .position)) _ (l .some) (pow-pos (v .position)) (l .stands)))
   where
     none : _<_ 0 0 → ⊥
     none h = omega arith

@@ -1,6 +1,6 @@
 -- Laws over plain numbers: the window as a signed number, differences and quotients in it, how two numbers compare, and the value a quarter of a
 -- unit off a boundary.
-use mathlib.Core.Path.{_≡_, refl, sym, ap, ap₂, _∙_, subst}
+use mathlib.Core.Path.{_≡_, refl, sym, ap, _∙_}
 use mathlib.Core.Bool.{Bool, true, false, not, cond}
 use mathlib.Core.List.{[], _∷_}
 use mathlib.Core.Logic.{_⊎_, inl, inr}
@@ -86,7 +86,8 @@ one-more x r h u = mod-eq-of-lt (lt-of-le-of-lt up (pow-lt {i = 767} {j = 768} (
     up = next _ _ small
 
 -- 2^r − 2^65
-pub ceiling-is : (r a b c : ℕ) → 66 < r → r < 768 → a ≡ 2 ^ r % 2 ^ 768 → b ≡ 2 ^ 65 % 2 ^ 768 → c ≡ (a + (2 ^ 768 - b % 2 ^ 768)) % 2 ^ 768 → c ≡ 2 ^ r - 2 ^ 65
+pub ceiling-is : (r a b c : ℕ) → 66 < r → r < 768 → a ≡ 2 ^ r % 2 ^ 768 → b ≡ 2 ^ 65 % 2 ^ 768 → c ≡ (a + (2 ^ 768 - b % 2 ^ 768)) % 2 ^ 768
+    → c ≡ 2 ^ r - 2 ^ 65
 ceiling-is r a b c l u ea eb ec =
     ec ∙ rw (ea ∙ mod-eq-of-lt (pow-lt u), eb) (taken-off (2 ^ r) (2 ^ 65) (2 ^ 768) (pow-mono high) (pow-lt u))
   where
@@ -134,27 +135,20 @@ compared-not-greater a b e = go (ltb a b) (ltb b a) (λ q. le-ltb b a (le-of-lt 
     go false true k q = absurd (none q)
     go false false k q = refl
 
--- where a remainder d by 2^r stands, by its comparisons with the margin m and with the ceiling t
-module _ (d r b m : ℕ) (eb : b ≡ d) (em : m ≡ 2 ^ 65 % 2 ^ 768) (o : Order) (eo : o ≡ compared b m) where
-  with-margin : o ≡ compared d (2 ^ 65)
-  with-margin = eo ∙ ap₂ compared eb em
-
+-- where a remainder d by 2^r stands, by its comparisons with the margin 2^65 and with the ceiling 2^r − 2^65
+module _ (d r : ℕ) (o : Order) (eo : o ≡ compared d (2 ^ 65)) where
   pub near-low : o ≡ Less → Low ≡ nearBy d r
-  near-low e = rw (compared-less d (2 ^ 65) (sym with-margin ∙ e))
+  near-low e = rw (compared-less d (2 ^ 65) (sym eo ∙ e))
 
-  module _ (off : OneOf (1 ∷ 2 ∷ []) (tagOf order.the-type o)) (l : 66 < r) (u : r < 768) (a t : ℕ) (ea : a ≡ 2 ^ r % 2 ^ 768) (et : t ≡ (a + (2 ^ 768 - m % 2 ^ 768)) % 2 ^ 768)
-      (h : Order) (eh : h ≡ compared b t) where
-    with-ceiling : h ≡ compared d (2 ^ r - 2 ^ 65)
-    with-ceiling = eh ∙ ap₂ compared eb (ceiling-is r a m t l u ea em et)
-
+  module _ (off : OneOf (1 ∷ 2 ∷ []) (tagOf order.the-type o)) (h : Order) (eh : h ≡ compared d (2 ^ r - 2 ^ 65)) where
     not-low : ltb d (2 ^ 65) ≡ false
-    not-low = compared-not-less d (2 ^ 65) (subst (λ (v : Order). OneOf (1 ∷ 2 ∷ []) (tagOf order.the-type v)) with-margin off)
+    not-low = compared-not-less d (2 ^ 65) (rw eo at off)
 
     pub near-high : h ≡ Greater → High ≡ nearBy d r
-    near-high e = rw (not-low, compared-greater d (2 ^ r - 2 ^ 65) (sym with-ceiling ∙ e))
+    near-high e = rw (not-low, compared-greater d (2 ^ r - 2 ^ 65) (sym eh ∙ e))
 
     pub near-neither : OneOf (0 ∷ 1 ∷ []) (tagOf order.the-type h) → Between ≡ nearBy d r
-    near-neither e = rw (not-low, compared-not-greater d (2 ^ r - 2 ^ 65) (subst (λ (v : Order). OneOf (0 ∷ 1 ∷ []) (tagOf order.the-type v)) with-ceiling e))
+    near-neither e = rw (not-low, compared-not-greater d (2 ^ r - 2 ^ 65) (rw eh at e))
 
 -- ---- a quarter of a unit off a boundary m × 2^e
 

@@ -2,7 +2,8 @@
 use mathlib.Core.Path.{_≡_, refl, sym, ap, ap₂, _∙_, subst}
 use mathlib.Core.Bool.{Bool, true, false, not, cond}
 use Prim.Native.Nat.{ℕ, zero, suc, _+_, _-_, _*_, _/_, _%_, _^_, _≤_, _<_}
-use native.Mathlib.Nat.{lt-of-lt-of-le, mul-pos, mul-assoc, zero-mul, mul-one, add-zero, mul-mod-left, mul-div-cancel, div-eq-of-lt, div-le-self, mul-le-mul-right}
+use native.Mathlib.Nat.{lt-of-lt-of-le, mul-pos, mul-assoc, zero-mul, mul-one, add-zero, mul-mod-left, mul-le-mul-right}
+use native.Mathlib.Nat.{mul-div-cancel, div-eq-of-lt, div-le-self}
 use native.Mathlib.Omega.{arith}
 use lib.Dec.{eqb}
 use lib.Pow.{pow-pos, pow-mono, shl-lt, shl-shr, shr-shr, mod-pow-add}

@@ -3,14 +3,13 @@
 use mathlib.Core.Path.{_≡_, refl, sym, ap, ap₂, _∙_, subst}
 use mathlib.Core.Bool.{Bool, true, false, cond}
 use mathlib.Core.List.{List}
-use Prim.Native.Nat.{ℕ, _+_, _-_, _*_, _/_, _^_, _≤_, _<_}
+use Prim.Native.Nat.{ℕ, _+_, _-_, _*_, _/_, _≤_, _<_}
 use native.Mathlib.Nat.{add-zero}
 use native.Mathlib.Numerals.{add-one}
 use native.Mathlib.Omega.{arith}
 use lib.Dec.{T, eqb, ltb, eqb→eq, ltb→lt}
 use lib.ListN.{length}
 use lib.Ieee.{size}
-use lib.Ieee.Digits.{size-lt}
 use Rattle.limbs.specs.Value.{value}
 use Rattle.totals_spec.specs.Basics as basics
 use Rattle.totals_spec.specs.Terms as terms
@@ -28,9 +27,9 @@ use Rattle.window.specs.declared.Chain.{Chain}
 use Rattle.window.specs.declared.Step.{Step}
 use Rattle.window.specs.declared.Outcome.{Outcome}
 use Rattle.window.specs.declared.Outcome.the-variants as out
-use Rattle.window.specs.declared.Verdict.{Verdict}
 use Rattle.window.specs.declared.Verdict.the-variants.{Done, Next}
 use Rattle.window.specs.Joined.{Passed, boundOf, outcomeBy, runOf, counted, Ready, Follows, totalOf, widthOf, Steps, Deep, EndsWith, Ended}
+use Rattle.window.proofs.Decided.{no-bits}
 
 -- S without the boundary is S
 total-seen : (p : ℕ) (ts : List terms.Term) (b : chain.Boundary) (w : ℕ) (q : Pass) → Inv p (terms.plusSum ts) (terms.minusSum ts) b w → Passed ts w q
@@ -49,6 +48,10 @@ unfolding chain.pass
 pass-seen p ts b w q i h =
     ap₂ (λ (x : basics.Signed) (n : ℕ). chain.decide p b w n x (size (x .mag))) (total-seen p ts b w q i h) (sym (h .lost))
 
+-- what is decided after the pass q
+abbrev says : ℕ → Chain → Pass → chain.Step
+says p c q = chain.decide p (boundOf c) (c .edge) (q .lost) (totalOf q) (widthOf q)
+
 -- what the loop holds of its chain
 pub record Walked (p : ℕ) (ts : List terms.Term) (c : Chain) : Type 0 where
   pub reached : Reached p ts (c .passes) (boundOf c) (c .edge)
@@ -65,9 +68,6 @@ next-bound b b′ v v′ e = cc
 
 next-edge : (b b′ : chain.Boundary) (v v′ : ℕ) → chain.next b v ≡ chain.next b′ v′ → v ≡ v′
 next-edge b b′ v v′ e = cc
-
-no-bits : (m : ℕ) → size m ≡ 0 → m ≡ 0
-no-bits m e = let h : m < 1 = subst (λ (n : ℕ). m < 2 ^ n) e (size-lt m) in omega arith
 
 -- what a chain ends with, by the code's outcome
 deep-place : (top e k : ℕ) → top < 2147483648 → 322 ≤ e → e ≤ top + k → k ≤ 768 → Deep e
@@ -99,23 +99,25 @@ module _ (p : ℕ) (ts : List terms.Term) (hp : p ≤ 64) (good : AllGood ts) (l
       low = subst (λ (n : ℕ). n ≤ c .edge) (sym (g .lost)) (fair-look ts good (c .edge) .below);
     }
 
-    seen : chain.pass p (boundOf c) (c .edge) (chain.lookAt ts (c .edge)) ≡ chain.decide p (boundOf c) (c .edge) (q .lost) (totalOf q) (widthOf q)
+    seen : chain.pass p (boundOf c) (c .edge) (chain.lookAt ts (c .edge)) ≡ says p c q
     seen = pass-seen p ts (boundOf c) (c .edge) q (h .reached .inv) g
 
     -- a step that goes on: 0 < lost, and the edge falls
-    going : (b : chain.Boundary) (v : ℕ) → chain.decide p (boundOf c) (c .edge) (q .lost) (totalOf q) (widthOf q) ≡ chain.next b v
+    going : (b : chain.Boundary) (v : ℕ) → says p c q ≡ chain.next b v
         → (0 < chain.lookAt ts (c .edge) .lost) × (v + (697 - p) ≤ c .edge)
     going b v e =
         subst (λ (s : chain.Step). GoesOn p (c .edge) (chain.lookAt ts (c .edge) .lost) s) (seen ∙ e)
         (pass-goes-on p (c .edge) hp (boundOf c) _ (chain.lookAt ts (c .edge)) (fair-look ts good (c .edge)))
 
     -- one pass
-    one : (r : Chain) → chain.decide p (boundOf c) (c .edge) (q .lost) (totalOf q) (widthOf q) ≡ chain.next (boundOf r) (r .edge) → r .passes ≡ c .passes + 1 → Lower p ts c r
+    one : (r : Chain) → says p c q ≡ chain.next (boundOf r) (r .edge) → r .passes ≡ c .passes + 1 → Lower p ts c r
     one r e k =
         let l = going (boundOf r) (r .edge) e in
         record {
           walked = record {
-            reached = subst (λ (i : ℕ). Reached p ts i (boundOf r) (r .edge)) (sym (k ∙ add-one (c .passes))) (at-next p ts hp good len (c .passes) (boundOf c) (c .edge) (boundOf r) (r .edge) (h .reached) (seen ∙ e));
+            reached =
+                subst (λ (i : ℕ). Reached p ts i (boundOf r) (r .edge)) (sym (k ∙ add-one (c .passes)))
+                (at-next p ts hp good len (c .passes) (boundOf c) (c .edge) (boundOf r) (r .edge) (h .reached) (seen ∙ e));
             kept = subst (λ (s : chain.Step). KeptStep p (terms.topOf ts) s) (seen ∙ e) (kept-pass p ts (boundOf c) (c .edge) hp good (h .kept));
             most = omega (arith, k, l .1, h .most, hp);
           };
@@ -130,11 +132,13 @@ module _ (p : ℕ) (ts : List terms.Term) (hp : p ≤ 64) (good : AllGood ts) (l
     }
 
     many : (r : Chain) (k : ℕ) → k ≡ (c .edge - q .lost + 702) / 766 → widthOf q ≡ 0 → q .lost + 63 < c .edge
-        → chain.decide p (boundOf c) (c .edge) (q .lost) (totalOf q) (widthOf q) ≡ chain.next (boundOf r) (r .edge + 766 * (k - 1)) → r .passes ≡ c .passes + k → Lower p ts c r
+        → says p c q ≡ chain.next (boundOf r) (r .edge + 766 * (k - 1)) → r .passes ≡ c .passes + k → Lower p ts c r
     many r k ek z far e kp =
         let some : 0 < q .lost = subst (λ (n : ℕ). 0 < n) (sym (g .lost)) (going (boundOf r) (r .edge + 766 * (k - 1)) e .0) in
-        let s : Skipped p ts (c .passes) (boundOf c) (c .edge) k = subst (λ (n : ℕ). Skipped p ts (c .passes) (boundOf c) (c .edge) n) (sym ek) (skip p ts hp good len (c .passes) (boundOf c) (c .edge) (q .lost) (h .reached) (empty z) some far) in
-        let f : chain.next (boundOf r) (r .edge + 766 * (k - 1)) ≡ chain.next (boundOf c) (c .edge - 766) = sym e ∙ sym seen ∙ pass-empty p ts hp good len (boundOf c) (c .edge) (q .lost) (empty z) some far in
+        let s : Skipped p ts (c .passes) (boundOf c) (c .edge) k =
+        rw ek (skip p ts hp good len (c .passes) (boundOf c) (c .edge) (q .lost) (h .reached) (empty z) some far) in
+        let f : chain.next (boundOf r) (r .edge + 766 * (k - 1)) ≡ chain.next (boundOf c) (c .edge - 766) =
+        sym e ∙ sym seen ∙ pass-empty p ts hp good len (boundOf c) (c .edge) (q .lost) (empty z) some far in
         let bs : boundOf r ≡ boundOf c = next-bound _ _ _ _ f in
         let ws : r .edge + 766 * (k - 1) ≡ c .edge - 766 = next-edge _ _ _ _ f in
         let pos : 0 < k = omega (arith, ek, far) in
@@ -152,11 +156,11 @@ module _ (p : ℕ) (ts : List terms.Term) (hp : p ≤ 64) (good : AllGood ts) (l
     pub walked-next : (r : Step) → Steps p c q r → r .verdict ≡ Next → Lower p ts c (r .chain)
     walked-next r s v = go (eqb (widthOf q) 0) (eqb→eq (widthOf q) 0) (ltb (q .lost + 63) (c .edge)) (ltb→lt (q .lost + 63) (c .edge)) follows
       where
-        follows : Follows Next (chain.decide p (boundOf c) (c .edge) (q .lost) (totalOf q) (widthOf q)) (counted (c .edge) (widthOf q) (q .lost)) c (r .chain)
-        follows = subst (λ (x : Verdict). Follows x (chain.decide p (boundOf c) (c .edge) (q .lost) (totalOf q) (widthOf q)) (counted (c .edge) (widthOf q) (q .lost)) c (r .chain)) v s
+        follows : Follows Next (says p c q) (counted (c .edge) (widthOf q) (q .lost)) c (r .chain)
+        follows = rw v at s
 
         go : (a : Bool) → (T a → widthOf q ≡ 0) → (b : Bool) → (T b → q .lost + 63 < c .edge)
-            → Follows Next (chain.decide p (boundOf c) (c .edge) (q .lost) (totalOf q) (widthOf q)) (cond a (cond b ((c .edge - q .lost + 702) / 766) 1) 1) c (r .chain)
+            → Follows Next (says p c q) (cond a (cond b ((c .edge - q .lost + 702) / 766) 1) 1) c (r .chain)
             → Lower p ts c (r .chain)
         go true z true l f = many (r .chain) ((c .edge - q .lost + 702) / 766) refl (z tt) (l tt) (f .0) (f .1)
         go true z false l f = one (r .chain) (f .0 ∙ ap (chain.next (boundOf (r .chain))) (add-zero (r .chain .edge))) (f .1)
@@ -169,10 +173,10 @@ module _ (p : ℕ) (ts : List terms.Term) (hp : p ≤ 64) (good : AllGood ts) (l
       at-done p ts hp good len (c .passes) (boundOf c) (c .edge) (outcomeBy o (r .chain)) (h .reached) (seen ∙ f .0)
           ∙ (λ i. record { outcome = outcomeBy o (r .chain); passes = sym (f .1) i; edge = sym (f .2) i }),
       record {
-        ends = ends-with o p (terms.topOf ts) (r .chain) small (subst (λ (x : chain.Step). KeptStep p (terms.topOf ts) x) (seen ∙ f .0) (kept-pass p ts (boundOf c) (c .edge) hp good (h .kept)));
+        ends = ends-with o p (terms.topOf ts) (r .chain) small (rw (seen ∙ f .0) at (kept-pass p ts (boundOf c) (c .edge) hp good (h .kept)));
         edge = omega (arith, f .2, h .most, small);
       },
     )
       where
-        f : Follows (Done o) (chain.decide p (boundOf c) (c .edge) (q .lost) (totalOf q) (widthOf q)) (counted (c .edge) (widthOf q) (q .lost)) c (r .chain)
-        f = subst (λ (x : Verdict). Follows x (chain.decide p (boundOf c) (c .edge) (q .lost) (totalOf q) (widthOf q)) (counted (c .edge) (widthOf q) (q .lost)) c (r .chain)) v s
+        f : Follows (Done o) (says p c q) (counted (c .edge) (widthOf q) (q .lost)) c (r .chain)
+        f = rw v at s

@@ -4,18 +4,6 @@ use Rattle.window.proofs.Decided.{steps-by}
 use Rattle.window.proofs.advance.Statement.{statement}
 use Rattle.window.proofs.advance.Tie as tie
 
-signed-of-requires : tie.Need-signed-of-requires
-signed-of-requires c κs = search needs
-
-width-requires : tie.Need-width-requires
-width-requires c κs = search needs
-
-step-with-boundary-requires : tie.Need-step-with-boundary-requires
-step-with-boundary-requires c κs = search needs
-
-step-without-boundary-requires : tie.Need-step-without-boundary-requires
-step-without-boundary-requires c κs = search needs
-
 returns : tie.Need-returns
 returns c =
     let w = c .before .before in
@@ -36,9 +24,9 @@ pub advance-spec : {M : Type 1} → statement M
 advance-spec =
     tie.close
     (tie.spec
-    signed-of-requires
-    width-requires
-    step-with-boundary-requires
-    step-without-boundary-requires
+    (λ c κs. search needs)
+    (λ c κs. search needs)
+    (λ c κs. search needs)
+    (λ c κs. search needs)
     returns
     returns-2)

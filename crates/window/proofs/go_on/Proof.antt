@@ -1,57 +1,52 @@
 -- `window::go_on` meets its contract.
 use mathlib.Core.Path.{refl, ap}
-use Prim.Native.Nat.{ℕ, _+_, _-_}
+use Prim.Native.Nat.{ℕ, _+_}
 use native.Mathlib.Omega.{arith}
-use Rattle.window.proofs.Decided.{ready-fits, lowered}
+use Rattle.window.specs.Joined.{counted}
+use Rattle.window.proofs.Decided.{Fits, ready-fits, lowered}
 use borrow.Author.Needs.{needs}
 use Rattle.window.proofs.go_on.Statement.{statement}
 use Rattle.window.proofs.go_on.Tie as tie
 
-passes-at-requires : tie.Need-passes-at-requires
-passes-at-requires c κs = search needs
+-- there is room for the passes that are counted
+fits : (s : tie.Start) → let a = s .args in Fits (a .c .edge) (a .n) (a .lost) (counted (a .c .edge) (a .n) (a .lost))
+fits s = ready-fits (s .args .c) (s .args .n) (s .args .lost) (s .pre .0) (s .pre .1)
 
-add-larger : tie.Need-add-larger
-add-larger c = search needs
-
-add-larger-2 : tie.Need-add-larger-2
-add-larger-2 c = search needs
-
-larger-requires : tie.Need-larger-requires
-larger-requires c κs = search needs
+abbrev counts : tie.After-larger → tie.After-passes-at
+counts l = l .before .before
 
 mul-r : tie.Need-mul-r
-mul-r c =
-    let s = c .before .before .before in
-    let f = ready-fits (s .args .c) (s .args .n) (s .args .lost) (s .pre .0) (s .pre .1) in
-    rw (c .before .before .passes-at .ensures) (omega (arith, f .room))
+mul-r c = let p = counts c in rw (p .passes-at .ensures) (omega (arith, fits (p .before) .room))
 
 sub-r : tie.Need-sub-r
-sub-r c =
-    let s = c .before .before .before in
-    let f = ready-fits (s .args .c) (s .args .n) (s .args .lost) (s .pre .0) (s .pre .1) in
-    rw (c .before .before .passes-at .ensures, c .larger .ensures) (omega (arith, f .room))
+sub-r c = let p = counts c in rw (c .larger .ensures, p .passes-at .ensures) (omega (arith, fits (p .before) .room))
 
 add-r : tie.Need-add-r
-add-r c =
-    let s = c .before .before .before .before in
-    let f = ready-fits (s .args .c) (s .args .n) (s .args .lost) (s .pre .0) (s .pre .1) in
-    omega (arith, f .room, c .before .before .before .passes-at .ensures)
+add-r c = let p = counts (c .before) in omega (arith, fits (p .before) .room, p .passes-at .ensures)
 
 returns : tie.Need-returns
 returns c =
-    let s = c .before .before .before .before in
-    let f = ready-fits (s .args .c) (s .args .n) (s .args .lost) (s .pre .0) (s .pre .1) in
+    let p = counts (c .before) in
+    let a = p .before .args in
     record {
       verdict = refl;
       near = refl;
       negative = refl;
       place = refl;
       whole = refl;
-      passes = ap (λ (k : ℕ). s .args .c .passes + k) (c .before .before .before .passes-at .ensures);
-      edge = rw (c .before .before .before .passes-at .ensures, c .before .larger .ensures) (lowered (s .args .c .edge) (s .args .n) (s .args .lost) _ f);
+      passes = ap (λ (k : ℕ). a .c .passes + k) (p .passes-at .ensures);
+      edge = rw (c .before .larger .ensures, p .passes-at .ensures) (lowered (a .c .edge) (a .n) (a .lost) _ (fits (p .before)));
     }
 
 pub go-on-spec : {M : Type 1} → statement M
 go-on-spec =
     tie.close
-    (tie.spec passes-at-requires add-larger add-larger-2 larger-requires mul-r sub-r add-r returns)
+    (tie.spec
+    (λ c κs. search needs)
+    (λ c. search needs)
+    (λ c. search needs)
+    (λ c κs. search needs)
+    mul-r
+    sub-r
+    add-r
+    returns)

@@ -11,19 +11,10 @@ returns c =
     let s = c .before in
     sym (counted-some (s .args .w) (s .args .n) (s .args .lost) (c .if1 .taken))
 
-add-if2 : tie.Need-add-if2
-add-if2 c = search needs
-
 returns-2 : tie.Need-returns-2
 returns-2 c =
     let s = c .before .before in
     sym (counted-near (s .args .w) (s .args .n) (s .args .lost) (omega arith))
-
-sub-result : tie.Need-sub-result
-sub-result c = search needs
-
-add-result : tie.Need-add-result
-add-result c = search needs
 
 returns-3 : tie.Need-returns-3
 returns-3 c =
@@ -31,4 +22,4 @@ returns-3 c =
     sym (counted-far (s .args .w) (s .args .n) (s .args .lost) (omega arith) (omega arith))
 
 pub passes-at-spec : {M : Type 1} → statement M
-passes-at-spec = tie.close (tie.spec returns add-if2 returns-2 sub-result add-result returns-3)
+passes-at-spec = tie.close (tie.spec returns (λ c. search needs) returns-2 (λ c. search needs) (λ c. search needs) returns-3)

@@ -14,9 +14,6 @@ use Rattle.window.proofs.window_part.Tie as tie
 abbrev m : tie.Start → ℕ
 m s = s .args .t .high * 2 ^ 64 + s .args .t .low
 
-sub-t13 : tie.Need-sub-t13
-sub-t13 c = search needs
-
 returns : tie.Need-returns
 unfolding magnitude
 returns c =
@@ -27,18 +24,6 @@ returns c =
       none = λ e. absurd (true≢false e);
       one-word = λ z. z;
     }
-
-bit-length-requires : tie.Need-bit-length-requires
-bit-length-requires c κs = search needs
-
-cast-n : tie.Need-cast-n
-cast-n c = search needs
-
-add-if2 : tie.Need-add-if2
-add-if2 c = search needs
-
-add-t25 : tie.Need-add-t25
-add-t25 c = search needs
 
 returns-2 : tie.Need-returns-2
 unfolding magnitude
@@ -53,18 +38,9 @@ returns-2 c =
       one-word = λ _. refl;
     }
 
-sub-down : tie.Need-sub-down
-sub-down c = search needs
-
-shr-requires : tie.Need-shr-requires
-shr-requires c κs = search needs
-
-any-below-requires : tie.Need-any-below-requires
-any-below-requires c κs = search needs
-
 -- a term across the edge
 abbrev below : tie.After-any-below → tie.Else1
-below k = k .before .before .before .before
+below k = let l = k .before .before in l .before .before
 
 abbrev entry : tie.After-any-below → tie.Start
 entry k = below k .before
@@ -93,15 +69,15 @@ pub window-part-spec : {M : Type 1} → statement M
 window-part-spec =
     tie.close
     (tie.spec
-    sub-t13
+    (λ c. search needs)
     returns
-    bit-length-requires
-    cast-n
-    add-if2
-    add-t25
+    (λ c κs. search needs)
+    (λ c. search needs)
+    (λ c. search needs)
+    (λ c. search needs)
     returns-2
-    sub-down
-    shr-requires
-    any-below-requires
+    (λ c. search needs)
+    (λ c κs. search needs)
+    (λ c κs. search needs)
     returns-3
     returns-4)
