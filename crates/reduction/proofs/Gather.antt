@@ -2,8 +2,8 @@
 use mathlib.Core.Path.{_≡_, refl, sym, ap, ap₂, _∙_, subst}
 use mathlib.Core.Bool.{Bool, true, false, cond}
 use mathlib.Core.List.{List, [], _∷_, _++_}
-use Prim.Native.Nat.{ℕ, _+_, _-_, _*_, _/_, _%_, _^_, _<_, max}
-use native.Mathlib.Nat.{add-zero, zero-add, zero-mul, add-assoc, add-comm, mod-eq-of-lt, zero-div, max-zero}
+use Prim.Native.Nat.{ℕ, _+_, _-_, _/_, _%_, _^_, _<_, max}
+use native.Mathlib.Nat.{add-zero, zero-add, add-assoc, add-comm, mod-eq-of-lt, zero-div, max-zero}
 use native.Mathlib.Numerals.{add-one}
 use native.Mathlib.Omega.{arith}
 use lib.ListN.{length, take, getD}
@@ -27,12 +27,9 @@ use Rattle.arithmetic.specs.Joined.{magnitude, StandsFor, plainNumber, plainPro
 use Rattle.arithmetic.proofs.Elements.{plainly, plain-item}
 use Rattle.arithmetic.proofs.Pairs.{both-plainly, plain-pair}
 use Rattle.window.specs.Joined.{PartAt, Passed}
+use Rattle.window.proofs.Numbers.{window}
 use Rattle.window.proofs.Parted.{lost-of-zero}
 use Rattle.reduction.specs.Held.{middle, Held}
-
-window : half + half ≡ 2 ^ 768
-unfolding half
-window = refl
 
 pub half-pos : 0 < half
 unfolding half
@@ -44,7 +41,8 @@ pub moved-is : (neg : Bool) (a b x : ℕ) → moved neg (residue half a b) x ≡
 moved-is false a b x =
     ap (λ (n : ℕ). (residue half a b + x) % n) (sym window) ∙ sym (residue-plus half half-pos a b x) ∙ ap (λ (n : ℕ). residue half (a + x) n) (sym (add-zero b))
 moved-is true a b x =
-    ap (λ (n : ℕ). (residue half a b + (n - x % n)) % n) (sym window) ∙ sym (residue-minus half half-pos a b x) ∙ ap (λ (n : ℕ). residue half n (b + x)) (sym (add-zero a))
+    ap (λ (n : ℕ). (residue half a b + (n - x % n)) % n) (sym window) ∙ sym (residue-minus half half-pos a b x)
+    ∙ ap (λ (n : ℕ). residue half n (b + x)) (sym (add-zero a))
 
 -- what an element adds
 record Counts (w : ℕ) (t : Term) (i : terms.Item) : Type 0 where
@@ -104,12 +102,13 @@ held-more : (ts : List terms.Term) (w v lost v′ lost′ : ℕ) (t : Term) (i :
 unfolding lookAt
 held-more ts w v lost v′ lost′ t i s h e g =
     let a = adds w t i s in
+    let one = keep (terms.termOf i) [] in
     record {
       window = e ∙ ap (λ (n : ℕ). moved (t .negative) n (magnitude t / 2 ^ w)) (h .window)
           ∙ moved-is (t .negative) (value middle + total (cutPlus w) ts) (total (cutMinus w) ts) (magnitude t / 2 ^ w)
           ∙ ap₂ (λ (n m : ℕ). residue half (value middle + total (cutPlus w) ts + n) (total (cutMinus w) ts + m)) (sym (a .plus)) (sym (a .minus))
-          ∙ ap (λ (n : ℕ). residue half n (total (cutMinus w) ts + total (cutMinus w) (keep (terms.termOf i) []))) (add-assoc (value middle) (total (cutPlus w) ts) _)
-          ∙ sym (ap₂ (λ (n m : ℕ). residue half (value middle + n) m) (total-append (cutPlus w) ts (keep (terms.termOf i) [])) (total-append (cutMinus w) ts (keep (terms.termOf i) [])));
+          ∙ ap (λ (n : ℕ). residue half n (total (cutMinus w) ts + total (cutMinus w) one)) (add-assoc (value middle) (total (cutPlus w) ts) _)
+          ∙ sym (ap₂ (λ (n m : ℕ). residue half (value middle + n) m) (total-append (cutPlus w) ts one) (total-append (cutMinus w) ts one));
       lost-is = g ∙ ap₂ max (h .lost-is) (sym (a .lost)) ∙ sym (greatest-append (lostOf w) ts (keep (terms.termOf i) []));
     }
 
@@ -128,13 +127,15 @@ held-none w = record { window = sym (plain ∙ mod-eq-of-lt (subst (λ (n : ℕ)
         ∙ ap (λ (n : ℕ). (n + value middle) % (half + half)) (residue-zero half half-pos) ∙ ap (λ (n : ℕ). n % (half + half)) (zero-add (value middle))
 
 -- without the start, the sum is left
-passed : (ts : List terms.Term) (w v lost : ℕ) (q : Pass) → Held ts w v lost → (value (q .total) ≡ moved true v (value middle)) × (q .lost ≡ lost) → Passed ts w q
+passed : (ts : List terms.Term) (w v lost : ℕ) (q : Pass) → Held ts w v lost → (value (q .total) ≡ moved true v (value middle)) × (q .lost ≡ lost)
+    → Passed ts w q
 passed ts w v lost q h e =
     let a = lookAt ts w .plus in
     let b = lookAt ts w .minus in
     record {
       total = e .0 ∙ ap (λ (n : ℕ). moved true n (value middle)) (h .window) ∙ moved-is true (value middle + a) b (value middle)
-          ∙ ap (λ (n : ℕ). residue half n (b + value middle)) (add-zero (value middle + a) ∙ add-comm (value middle) a) ∙ residue-cancel half half-pos a b (value middle);
+          ∙ ap (λ (n : ℕ). residue half n (b + value middle)) (add-zero (value middle + a) ∙ add-comm (value middle) a)
+          ∙ residue-cancel half half-pos a b (value middle);
       lost = e .1 ∙ h .lost-is;
     }
 
@@ -162,8 +163,7 @@ running-start l w e = record {
 
 pub running-end : (l : List terms.Item) (w i : ℕ) (total : List ℕ) (lost : ℕ) (q : Pass) → i ≡ length l → Running l w i total lost
     → (value (q .total) ≡ moved true (value total) (value middle)) × (q .lost ≡ lost) → Passed (terms.terms l) w q
-running-end l w i total lost q e h =
-    passed (terms.terms l) w _ lost q (subst (λ (s : List terms.Item). Held (terms.terms s) w (value total) lost) (ap (λ (n : ℕ). take n l) e ∙ take-length l) (h .held))
+running-end l w i total lost q e h = passed (terms.terms l) w _ lost q (rw (e, take-length l) at (h .held))
 
 -- t stands for the item i, p is its part at the edge, and `lost` is that of all i + 1
 pub record Turn (l : List terms.Item) (w i : ℕ) (total : List ℕ) (t : Term) (p : Part) (lost : ℕ) : Type 0 where
@@ -175,7 +175,8 @@ pub record Turn (l : List terms.Item) (w i : ℕ) (total : List ℕ) (t : Term) 
   pub larger : lost ≡ max before (p .lost)
 
 -- the terms of one item more
-terms-next : (l : List terms.Item) (i : ℕ) → i < length l → terms.terms (take (i + 1) l) ≡ terms.terms (take i l) ++ keep (terms.termOf (getD l i terms.nanItem)) []
+terms-next : (l : List terms.Item) (i : ℕ) → i < length l
+    → terms.terms (take (i + 1) l) ≡ terms.terms (take i l) ++ keep (terms.termOf (getD l i terms.nanItem)) []
 terms-next l i h =
     ap (λ n. terms.terms (take n l)) (add-one i) ∙ ap terms.terms (take-suc l i terms.nanItem h)
     ∙ picked-append terms.termOf (take i l) (getD l i terms.nanItem ∷ [])

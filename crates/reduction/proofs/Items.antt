@@ -43,14 +43,16 @@ module _ (f : Format) (c : Settings) (x : List ℕ) (t : Term) (i : ℕ) (h : i 
       → StandsFor t (getD (map (pairItem f c) (pairs x y)) i nanItem)
   pair-stands-at y s r n e g =
       subst (StandsFor t)
-      (ap (pairItem f c) (ap₂ (λ a b. (a, b)) e g ∙ sym (pairs-at x y i n h)) ∙ sym (mapped (pairItem f c) (pairs x y) i (0, 0) nanItem (rw (pairs-length x y (sym n)) h)))
+      (ap (pairItem f c) (ap₂ (λ a b. (a, b)) e g ∙ sym (pairs-at x y i n h))
+      ∙ sym (mapped (pairItem f c) (pairs x y) i (0, 0) nanItem (rw (pairs-length x y (sym n)) h)))
 
 module _ (f : Format) (c : Settings) (u : Summand) (x y : List ℕ) where
   pub items-length : (b : Bool) → length y ≡ length x → length (itemsOf b f c u x y) ≡ length x
   items-length true e = length-map (pairs x y) (pairItem f c) ∙ pairs-length x y (sym e)
   items-length false e = length-map x (item f c u)
 
-  pub items-base : (b : Bool) → FormatBounds f → length y ≡ length x → length x ≤ limit → 0 < topOf (terms (itemsOf b f c u x y)) → Base (digits f) (terms (itemsOf b f c u x y))
+  pub items-base : (b : Bool) → FormatBounds f → length y ≡ length x → length x ≤ limit → 0 < topOf (terms (itemsOf b f c u x y))
+      → Base (digits f) (terms (itemsOf b f c u x y))
   items-base true h e n g = dot-base f c x y h e n g
   items-base false h e n g = sum-base f c u x h n g
 
@@ -75,7 +77,7 @@ module _ (f : Format) (c : Settings) (u : ℕ) (x y : List ℕ) where
   accepts false e = let a = sum-accepts f c u x e in record { format = a .format; settings = a .settings; few = a .few }
 
   pub by-chain : (b : Bool) → Accepted b f c u x y → (sub products minus : Bool)
-      → chainTotal f c sub products minus (terms (itemsOf b f c (summandOf u) x y)) ≡ finiteTotal f c sub products minus (terms (itemsOf b f c (summandOf u) x y))
+      → let ts = terms (itemsOf b f c (summandOf u) x y) in chainTotal f c sub products minus ts ≡ finiteTotal f c sub products minus ts
   by-chain true e sub products minus = dot-by-chain f c x y sub products minus e
   by-chain false e sub products minus = sum-by-chain f c u x sub products minus e
 
@@ -96,7 +98,8 @@ three u e = ap (leb 2) e
 -- the answer of an accepted walk, whatever it is over
 module _ (f : Format) (c : Settings) (u : ℕ) (x y : List ℕ) where
   pub answer-is : (b : Bool) → eqb u 3 ≡ b
-      → accepted f c (subnormalIn b f x y) (productsIn u) (firstIn u) (signalingIn b f x y) (selectAll c (operandsIn b f x y)) (itemsOf b f c (summandOf u) x y) ≡ answerIn b f c (summandOf u) x y
+      → accepted f c (subnormalIn b f x y) (productsIn u) (firstIn u) (signalingIn b f x y) (selectAll c (operandsIn b f x y))
+      (itemsOf b f c (summandOf u) x y) ≡ answerIn b f c (summandOf u) x y
   unfolding sumAccepted dotAccepted
   answer-is true e = rw (three u (eqb-true u 3 e), e)
   answer-is false e = rw (square-is u, e, first-is u)

@@ -3,7 +3,7 @@ use mathlib.Core.Path.{_≡_, sym, ap, _∙_, subst}
 use mathlib.Core.Bool.{false}
 use mathlib.Core.List.{List, [], _∷_, map}
 use Prim.Native.Nat.{ℕ, _-_, _≤_, _<_}
-use native.Mathlib.Nat.{le-trans, le-of-eq, lt-of-le-of-lt, not-suc-le-zero, zero-lt-suc}
+use native.Mathlib.Nat.{le-trans, lt-of-le-of-lt, not-suc-le-zero, zero-lt-suc}
 use native.Mathlib.Omega.{arith}
 use lib.Dec.{lit≤}
 use lib.ListN.{length, length-map}
@@ -45,23 +45,27 @@ limit-le n h = le-trans h (lit≤ tt)
 top-small : (f : Format) → FormatBounds f → topProduct f < 2147483648
 top-small f b = omega (arith, b .e-ge, b .w-ge, b .w-le, pow-mono {j = 28} (b .e-le))
 
-pub sum-base : (f : Format) (c : Settings) (u : Summand) (l : List ℕ) → FormatBounds f → length l ≤ limit → 0 < topOf (sumTerms f c u l) → Base (digits f) (sumTerms f c u l)
-sum-base f c u l b n h = record {
+base-of : (f : Format) (ts : List Term) → FormatBounds f → AllGood ts → length ts ≤ limit → topOf ts ≤ topProduct f → 0 < topOf ts → Base (digits f) ts
+base-of f ts b g n t h = record {
   digits-le = omega (arith, b .e-ge, b .w-le);
-  good = good-terms f c u l;
-  few = limit-le _ (le-trans (picked-length termOf (map (item f c u) l)) (le-trans (le-of-eq (length-map l (item f c u))) n));
-  small = lt-of-le-of-lt (sum-top f c u l) (top-small f b);
-  some = some-of (sumTerms f c u l) h;
+  good = g;
+  few = limit-le _ n;
+  small = lt-of-le-of-lt t (top-small f b);
+  some = some-of ts h;
 }
 
-pub dot-base : (f : Format) (c : Settings) (x y : List ℕ) → FormatBounds f → length y ≡ length x → length x ≤ limit → 0 < topOf (dotTerms f c x y) → Base (digits f) (dotTerms f c x y)
-dot-base f c x y b e n h = record {
-  digits-le = omega (arith, b .e-ge, b .w-le);
-  good = good-pairs f c (pairs x y);
-  few = limit-le _ (le-trans (picked-length termOf (map (pairItem f c) (pairs x y))) (le-trans (le-of-eq (length-map (pairs x y) (pairItem f c) ∙ pairs-length x y (sym e))) n));
-  small = lt-of-le-of-lt (dot-top f c x y) (top-small f b);
-  some = some-of (dotTerms f c x y) h;
-}
+pub sum-base : (f : Format) (c : Settings) (u : Summand) (l : List ℕ) → FormatBounds f → length l ≤ limit → 0 < topOf (sumTerms f c u l)
+    → Base (digits f) (sumTerms f c u l)
+sum-base f c u l b n h =
+    base-of f (sumTerms f c u l) b (good-terms f c u l) (le-trans (picked-length termOf (map (item f c u) l)) (rw (length-map l (item f c u)) n))
+    (sum-top f c u l) h
+
+pub dot-base : (f : Format) (c : Settings) (x y : List ℕ) → FormatBounds f → length y ≡ length x → length x ≤ limit → 0 < topOf (dotTerms f c x y)
+    → Base (digits f) (dotTerms f c x y)
+dot-base f c x y b e n h =
+    base-of f (dotTerms f c x y) b (good-pairs f c (pairs x y))
+    (le-trans (picked-length termOf (map (pairItem f c) (pairs x y))) (rw (length-map (pairs x y) (pairItem f c), pairs-length x y (sym e)) n))
+    (dot-top f c x y) h
 
 -- the same for the code's p
 pub based : {p q : ℕ} {ts : List Term} → p ≡ q → Base q ts → Base p ts

@@ -1,6 +1,6 @@
 -- From what a scan decides, and from a chain of passes, to the record of an accepted list. Nothing here is about words or bytes.
 use mathlib.Core.Path.{_≡_, sym, ap, ap₂, _∙_, subst}
-use mathlib.Core.Bool.{Bool, true, false, cond}
+use mathlib.Core.Bool.{Bool, true, false}
 use mathlib.Core.List.{List}
 use Prim.Native.Nat.{_<_}
 use Rattle.totals_spec.specs.Basics.{any}
@@ -20,24 +20,30 @@ use Rattle.scan.specs.declared.Early.{Early}
 use Rattle.scan.specs.declared.Early.the-variants.{Given, Terms}
 use Rattle.scan.specs.Joined.{Gathered, Decides}
 use Rattle.window.specs.declared.ExactSum.{ExactSum}
-use Rattle.window.specs.Joined.{outcomeOf, runOf}
+use Rattle.window.specs.Joined.{runOf}
 
-module _ (f : spec.Format) (c : env.Settings) (sub products sig first : Bool) (ops : List dec.Unpacked) (l : List terms.Item) (s : Scan) (d : Early)
-    (g : Gathered f c sub sig ops l s) (h : Decides d c first s) where
+-- the record of a run of the chain, its sum rounded
+abbrev told : spec.Format → env.Settings → Bool → Bool → chain.Run → totals.Answer
+told f c products sub r =
+    totals.reported f sub products (totals.sumRounded f c (spec.grid f products) (totals.towardsNegative c) (settled (r .outcome))) r
+
+module _ {f : spec.Format} {c : env.Settings} {sub sig : Bool} {ops : List dec.Unpacked} {l : List terms.Item} {s : Scan}
+    (g : Gathered f c sub sig ops l s) (products first : Bool) (d : Early) (h : Decides d c first s) where
+  abbrev answer : totals.Answer
+  answer = totals.accepted f c sub products first sig (nans.selectAll c ops) l
+
   -- the scan alone decides
-  given : (v : Unpacked) (i : Bool) → d ≡ Given v i → (totals.accepted f c sub products first sig (nans.selectAll c ops) l ≡ totals.special f sub (unpackedOf v) i) × Encodes f (unpackedOf v)
+  given : (v : Unpacked) (i : Bool) → d ≡ Given v i → (answer ≡ totals.special f sub (unpackedOf v) i) × Encodes f (unpackedOf v)
   given v i e = subst (λ (x : Early). Decides x c first s) e h f sub products sig ops l g
 
   pub given-encodes : (v : Unpacked) (i : Bool) → d ≡ Given v i → Encodes f (unpackedOf v)
   given-encodes v i e = given v i e .1
 
-  pub given-is : (v : Unpacked) (i : Bool) → d ≡ Given v i → (a : totals.Answer) → a ≡ totals.special f (s .subnormal) (unpackedOf v) i
-      → a ≡ totals.accepted f c sub products first sig (nans.selectAll c ops) l
+  pub given-is : (v : Unpacked) (i : Bool) → d ≡ Given v i → (a : totals.Answer) → a ≡ totals.special f (s .subnormal) (unpackedOf v) i → a ≡ answer
   given-is v i e a r = r ∙ ap (λ (b : Bool). totals.special f b (unpackedOf v) i) (g .subnormal) ∙ sym (given v i e .0)
 
   -- there are terms
-  some : d ≡ Terms → (totals.accepted f c sub products first sig (nans.selectAll c ops) l ≡ totals.finiteTotal f c sub products false (terms.terms l))
-      × (any (λ t. true) (terms.terms l) ≡ true) × (0 < s .top)
+  some : d ≡ Terms → (answer ≡ totals.finiteTotal f c sub products false (terms.terms l)) × (any (λ t. true) (terms.terms l) ≡ true) × (0 < s .top)
   some e = subst (λ (x : Early). Decides x c first s) e h f sub products sig ops l g
 
   pub top-is : d ≡ Terms → (s .top ≡ terms.topOf (terms.terms l)) × (0 < s .top)
@@ -45,10 +51,6 @@ module _ (f : spec.Format) (c : env.Settings) (sub products sig first : Bool) (o
 
   pub finish-is : d ≡ Terms → (e : ExactSum) → runOf e ≡ chain.chain (spec.digits f) (terms.terms l)
       → chainTotal f c sub products false (terms.terms l) ≡ totals.finiteTotal f c sub products false (terms.terms l) → (a : totals.Answer)
-      → a ≡ totals.reported f (s .subnormal) products (totals.sumRounded f c (spec.grid f products) (totals.towardsNegative c) (settled (outcomeOf e))) (runOf e)
-      → a ≡ totals.accepted f c sub products first sig (nans.selectAll c ops) l
+      → a ≡ told f c products (s .subnormal) (runOf e) → a ≡ answer
   unfolding chainTotal
-  finish-is t e r b a q =
-      q ∙ ap₂ (λ (x : Bool) (z : chain.Run). totals.reported f x products (totals.sumRounded f c (spec.grid f products) (totals.towardsNegative c) (settled (z .outcome))) z) (g .subnormal) r
-      ∙ sym (ap (λ (x : Bool). cond x (totals.reported f sub products (totals.sumRounded f c (spec.grid f products) (totals.towardsNegative c) (settled (chain.chain (spec.digits f) (terms.terms l) .outcome))) (chain.chain (spec.digits f) (terms.terms l))) (totals.special f sub (dec.zeroOf false) false)) (some t .1))
-      ∙ b ∙ sym (some t .0)
+  finish-is t e r b a q = q ∙ ap₂ (told f c products) (g .subnormal) r ∙ (rw (some t .1) at b) ∙ sym (some t .0)

@@ -7,9 +7,6 @@ use Rattle.reduction.proofs.Gather.{plain-stands}
 use Rattle.reduction.proofs.pass.element_term.Statement.{statement}
 use Rattle.reduction.proofs.pass.element_term.Tie as tie
 
-is-plain-requires : tie.Need-is-plain-requires
-is-plain-requires c κs = search needs
-
 plain-term-requires : tie.Need-plain-term-requires
 plain-term-requires c κs =
     let s = c .before .before in
@@ -17,16 +14,11 @@ plain-term-requires c κs =
 
 returns : tie.Need-returns
 returns c =
-    let a = c .before .before .before .args in (
-      plain-stands (formatOf (a .f)) (settingsOf (a .c)) (summandOf (a .u)) (a .x) _ _ (c .before .if1 .taken) (c .before .before .is-plain .ensures) (c .plain-term .ensures .0),
-      c .plain-term .ensures .1,
-    )
-
-looked-term-requires : tie.Need-looked-term-requires
-looked-term-requires c κs = search needs
-
-returns-2 : tie.Need-returns-2
-returns-2 c = c .looked-term .ensures
+    let p = c .before .before in
+    let a = p .before .args in
+    let t = c .plain-term .ensures in
+    (plain-stands (formatOf (a .f)) (settingsOf (a .c)) (summandOf (a .u)) (a .x) _ _ (c .before .if1 .taken) (p .is-plain .ensures) (t .0), t .1)
 
 pub element-term-spec : {M : Type 1} → statement M
-element-term-spec = tie.close (tie.spec is-plain-requires plain-term-requires returns looked-term-requires returns-2)
+element-term-spec =
+    tie.close (tie.spec (λ c κs. search needs) plain-term-requires returns (λ c κs. search needs) (λ c. c .looked-term .ensures))

@@ -7,14 +7,8 @@ use Rattle.limbs.specs.Value.{value, minus}
 use Rattle.reduction.proofs.pass.finished.Statement.{statement}
 use Rattle.reduction.proofs.pass.finished.Tie as tie
 
-start-requires : tie.Need-start-requires
-start-requires c κs = search needs
-
-sub-requires : tie.Need-sub-requires
-sub-requires c κs = search needs
-
 returns : tie.Need-returns
 returns c = (c .sub .ensures ∙ ap (λ (l : List ℕ). minus (value (c .before .before .args .total)) (value l)) (c .before .start .ensures), refl)
 
 pub finished-spec : {M : Type 1} → statement M
-finished-spec = tie.close (tie.spec start-requires sub-requires returns)
+finished-spec = tie.close (tie.spec (λ c κs. search needs) (λ c κs. search needs) returns)

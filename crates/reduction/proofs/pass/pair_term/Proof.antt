@@ -18,9 +18,6 @@ first s = dec.operand (formatOf (s .args .f)) (settingsOf (s .args .c)) (s .args
 abbrev second : tie.Start → dec.Unpacked
 second s = dec.operand (formatOf (s .args .f)) (settingsOf (s .args .c)) (s .args .y)
 
-both-plain-requires : tie.Need-both-plain-requires
-both-plain-requires c κs = search needs
-
 plain-product-requires : tie.Need-plain-product-requires
 plain-product-requires c κs = let h = both-plainly _ _ _ _ (c .if1 .taken) (c .before .both-plain .ensures) in (c .before .before .pre, (h .0 .2, h .1 .2))
 
@@ -29,12 +26,6 @@ returns c =
     let k = c .before .before in
     let a = k .before .args in
     pair-stands (formatOf (a .f)) (settingsOf (a .c)) (a .x) (a .y) _ _ (c .before .if1 .taken) (k .both-plain .ensures) (c .plain-product .ensures)
-
-is-blank-requires : tie.Need-is-blank-requires
-is-blank-requires c κs = search needs
-
-no-term-requires : tie.Need-no-term-requires
-no-term-requires c κs = search needs
 
 abbrev entry : tie.After-is-blank → tie.Start
 entry b = b .before .before .before
@@ -48,12 +39,6 @@ returns-2 c =
     none-left (first (entry b)) (second (entry b)) _
     (operand-blank (formatOf (a .f)) (settingsOf (a .c)) (a .x) (sym (b .is-blank .ensures) ∙ c .before .if2 .taken)) (no-magnitude _ (n .0) (n .1)) (n .2)
 
-is-blank-requires-2 : tie.Need-is-blank-requires-2
-is-blank-requires-2 c κs = search needs
-
-no-term-requires-2 : tie.Need-no-term-requires-2
-no-term-requires-2 c κs = search needs
-
 returns-3 : tie.Need-returns-3
 unfolding terms.pairItem
 returns-3 c =
@@ -64,9 +49,6 @@ returns-3 c =
     none-either (first s) (second s) _
     (operand-blank (formatOf (a .f)) (settingsOf (a .c)) (a .y) (sym (b .is-blank2 .ensures) ∙ c .before .if3 .taken)) (no-magnitude _ (n .0) (n .1)) (n .2)
 
-looked-pair-requires : tie.Need-looked-pair-requires
-looked-pair-requires c κs = search needs
-
 returns-4 : tie.Need-returns-4
 returns-4 c = c .looked-pair .ensures
 
@@ -74,14 +56,14 @@ pub pair-term-spec : {M : Type 1} → statement M
 pair-term-spec =
     tie.close
     (tie.spec
-    both-plain-requires
+    (λ c κs. search needs)
     plain-product-requires
     returns
-    is-blank-requires
-    no-term-requires
+    (λ c κs. search needs)
+    (λ c κs. search needs)
     returns-2
-    is-blank-requires-2
-    no-term-requires-2
+    (λ c κs. search needs)
+    (λ c κs. search needs)
     returns-3
-    looked-pair-requires
+    (λ c κs. search needs)
     returns-4)

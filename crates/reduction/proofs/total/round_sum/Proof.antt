@@ -1,44 +1,58 @@
 -- `reduction::total::round_sum` meets its contract.
-use mathlib.Core.Path.{ap, _∙_}
+use mathlib.Core.Path.{_≡_, ap, _∙_}
 use Prim.Native.Nat.{ℕ}
 use native.Mathlib.Omega.{arith}
-use Rattle.totals_spec.specs.Format.{digits}
+use Rattle.totals_spec.specs.Format.{Format, digits}
+use Rattle.totals_spec.specs.Settings.{Settings}
 use Rattle.totals_spec.specs.Decode.{zeroOf}
 use Rattle.totals_spec.specs.Settled.{settled}
 use Rattle.totals_spec.specs.Totals.{towardsNegative, sumRounded}
 use Rattle.format.specs.Joined.{formatOf, settingsOf}
 use Rattle.window.specs.declared.Outcome.{Outcome}
+use Rattle.window.specs.declared.Outcome.the-variants.{Zero}
 use Rattle.window.specs.Joined.{outcomeBy, outcomeOf}
 use Rattle.window.proofs.Left.{not-zero, ended-roundable, leaves-rounds, leaves-sum}
 use borrow.Author.Needs.{needs}
 use Rattle.reduction.proofs.total.round_sum.Statement.{statement}
 use Rattle.reduction.proofs.total.round_sum.Tie as tie
 
-enum-told : tie.Need-enum-told
-enum-told c = search needs
+abbrev form : tie.Start → Format
+form s = formatOf (s .args .f)
 
-grid-requires : tie.Need-grid-requires
-grid-requires c κs = search needs
+abbrev env : tie.Start → Settings
+env s = settingsOf (s .args .c)
+
+-- where the sum is not 0
+abbrev entry : tie.After-grid → tie.Start
+entry g = g .before .before
+
+some : (g : tie.After-grid) → entry g .args .e .outcome ≡ Zero → ⊥
+some g = not-zero _ (g .before .match .keys2)
 
 near-boundary-requires : tie.Need-near-boundary-requires
-near-boundary-requires c κs = ended-roundable (digits (formatOf (c .before .before .args .f))) (c .before .before .args .e) (omega (arith, c .before .before .pre .0 .e-ge, c .before .before .pre .0 .w-le)) (not-zero _ (c .before .match .keys2)) (c .before .before .pre .2)
+near-boundary-requires c κs =
+    let s = entry c in
+    ended-roundable (digits (form s)) (s .args .e) (omega (arith, s .pre .0 .e-ge, s .pre .0 .w-le)) (some c) (s .pre .2)
 
 round-requires : tie.Need-round-requires
-round-requires c κs = leaves-rounds (formatOf (c .before .before .before .args .f)) (settingsOf (c .before .before .before .args .c)) _ (c .before .before .before .args .e) _ (c .before .before .before .pre .0) (c .before .before .before .pre .1) (omega (arith, c .before .grid .ensures .1)) (c .before .before .before .pre .2) (not-zero _ (c .before .before .match .keys2)) (c .near-boundary .ensures)
+round-requires c κs =
+    let g = c .before in
+    let s = entry g in
+    leaves-rounds (form s) (env s) _ (s .args .e) _ (s .pre .0) (s .pre .1) (omega (arith, g .grid .ensures .1)) (s .pre .2) (some g)
+    (c .near-boundary .ensures)
 
 returns : tie.Need-returns
 returns c =
-    let s = c .before .before .before .before .args in
+    let g = c .before .before in
+    let s = entry g in
     let o = c .round .ensures in
     record {
-      equal = leaves-sum (formatOf (s .f)) (settingsOf (s .c)) _ (towardsNegative (settingsOf (s .c))) (s .e) _ _ (c .before .near-boundary .ensures) o
-          ∙ ap (λ (g : ℕ). sumRounded (formatOf (s .f)) (settingsOf (s .c)) g (towardsNegative (settingsOf (s .c))) (settled (outcomeOf (s .e)))) (c .before .before .grid .ensures .0);
+      equal =
+          leaves-sum (form s) (env s) _ (towardsNegative (env s)) (s .args .e) _ _ (c .before .near-boundary .ensures) o
+          ∙ ap (λ (k : ℕ). sumRounded (form s) (env s) k (towardsNegative (env s)) (settled (outcomeOf (s .args .e)))) (g .grid .ensures .0);
       encodes = o .encodes;
       flags = o .flags;
     }
-
-zero-sum-is-negative-requires : tie.Need-zero-sum-is-negative-requires
-zero-sum-is-negative-requires c κs = search needs
 
 returns-2 : tie.Need-returns-2
 unfolding settled sumRounded
@@ -51,10 +65,10 @@ pub round-sum-spec : {M : Type 1} → statement M
 round-sum-spec =
     tie.close
     (tie.spec
-    enum-told
-    grid-requires
+    (λ c. search needs)
+    (λ c κs. search needs)
     near-boundary-requires
     round-requires
     returns
-    zero-sum-is-negative-requires
+    (λ c κs. search needs)
     returns-2)

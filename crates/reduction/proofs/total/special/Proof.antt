@@ -6,21 +6,17 @@ use borrow.Author.Needs.{needs}
 use Rattle.reduction.proofs.total.special.Statement.{statement}
 use Rattle.reduction.proofs.total.special.Tie as tie
 
-encode-requires : tie.Need-encode-requires
-encode-requires c κs = search needs
-
-flag-requires : tie.Need-flag-requires
-flag-requires c κs = search needs
-
-flag-requires-2 : tie.Need-flag-requires-2
-flag-requires-2 c κs = search needs
-
-add-t8 : tie.Need-add-t8
-add-t8 c = search needs
-
 returns : tie.Need-returns
 unfolding special
-returns c = λ i. record { result = c .before .before .encode .ensures i; flags = (c .before .flag .ensures .0 i) + (c .flag2 .ensures .0 i); passes = 0; lastEdge = pos 0; refusal = 0; place = 0 }
+returns c = λ i. record {
+  result = c .before .before .encode .ensures i;
+  flags = (c .before .flag .ensures .0 i) + (c .flag2 .ensures .0 i);
+  passes = 0;
+  lastEdge = pos 0;
+  refusal = 0;
+  place = 0;
+}
 
 pub special-spec : {M : Type 1} → statement M
-special-spec = tie.close (tie.spec encode-requires flag-requires flag-requires-2 add-t8 returns)
+special-spec =
+    tie.close (tie.spec (λ c κs. search needs) (λ c κs. search needs) (λ c κs. search needs) (λ c. search needs) returns)

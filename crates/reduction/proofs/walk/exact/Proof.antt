@@ -39,36 +39,27 @@ base s =
     (lists-alike (a .k) (a .left-words .now) (a .left-bytes .now) (a .right-words .now) (a .right-bytes .now))
     (rw (elements-length (a .k .source) (a .left-words .now) (a .left-bytes .now)) (h .0 .3)) (rw (h .1 .0) at (h .1 .1))
 
+abbrev entry : tie.After-digits Inv-loop μ-loop → Entry
+entry d = let s = d .before .before in s .before .before .before
+
 -- in a turn, after its pass
-abbrev entry : tie.After-pass Inv-loop μ-loop → Entry
-entry t = t .before .before .before .before .before .before .before .before
+abbrev counted : tie.After-pass Inv-loop μ-loop → tie.After-digits Inv-loop μ-loop
+counted t = t .before .before .before
 
-turn : (t : tie.After-pass Inv-loop μ-loop) → Base (t .before .before .before .digits .result) (ts (entry t))
-turn t = based (t .before .loop .inv .0) (base (entry t))
-
-digits-requires : tie.Need-digits-requires Inv-loop μ-loop
-digits-requires c κs = search needs
+turn : (t : tie.After-pass Inv-loop μ-loop) → Base (counted t .digits .result) (ts (entry (counted t)))
+turn t = based (t .before .loop .inv .0) (base (entry (counted t)))
 
 start-requires : tie.Need-start-requires Inv-loop μ-loop
-start-requires c κs = let s = c .before .before .before .before .before in rw (s .pre .1 .0) (loop-start (base s))
+start-requires c κs = rw (entry c .pre .1 .0) (loop-start (base (entry c)))
 
 loop-holds : tie.Need-loop-holds Inv-loop μ-loop
 loop-holds c =
-    let s = c .before .before .before .before .before .before in
+    let s = entry (c .before) in
     let e = c .before .digits .ensures in
     (e, loop-holds-at (based e (base s)) _ (s .pre .1 .0) (c .start .ensures))
 
-pass-requires : tie.Need-pass-requires Inv-loop μ-loop
-pass-requires c κs = search needs
-
 advance-requires : tie.Need-advance-requires Inv-loop μ-loop
 advance-requires c κs = loop-ready (turn c) _ _ (c .before .loop .inv .1) (c .pass .ensures)
-
-enum-known-v : tie.Need-enum-known-v Inv-loop μ-loop
-enum-known-v c = search needs
-
-enum-told : tie.Need-enum-told Inv-loop μ-loop
-enum-told c = search needs
 
 loop-less : tie.Need-loop-less Inv-loop μ-loop
 loop-less c =
@@ -85,10 +76,11 @@ loop-again c =
 
 returns : tie.Need-returns Inv-loop μ-loop
 returns c =
-    let s = c .before .before .before .before in
+    let v = c .before in
+    let s = v .before .before .before in
     let t = s .before in
     let w = t .before .loop .inv in
-    loop-done (w .0) (turn t) _ _ (w .1) (t .pass .ensures) _ (s .advance .ensures) _ (c .before .v .given .1)
+    loop-done (w .0) (turn t) _ _ (w .1) (t .pass .ensures) _ (s .advance .ensures) _ (v .v .given .1)
 
 pub exact-spec : {M : Type 1} → statement M
 exact-spec =
@@ -96,13 +88,13 @@ exact-spec =
     (tie.spec
     Inv-loop
     μ-loop
-    digits-requires
+    (λ c κs. search needs)
     start-requires
     loop-holds
-    pass-requires
+    (λ c κs. search needs)
     advance-requires
-    enum-known-v
-    enum-told
+    (λ c. search needs)
+    (λ c. search needs)
     loop-less
     loop-again
     returns)

@@ -101,7 +101,8 @@ loop-holds c = (search needs, running-start _ _ (c .start .ensures))
 window-part-requires : tie.Need-window-part-requires Inv-loop μ-loop
 window-part-requires c κs =
     let r = c .before in
-    let e = entry (r .before .before .before .before) in
+    let i = r .before .before in
+    let e = entry (i .before .before) in
     cuttable _ (terms.pairItem (formatOf (e .args .f)) (settingsOf (e .args .c)) (r .before .element .result, r .element2 .result)) (c .pair-term .ensures)
 
 loop-again : tie.Need-loop-again Inv-loop μ-loop

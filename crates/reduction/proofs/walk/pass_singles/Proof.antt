@@ -71,7 +71,8 @@ turn k =
       before = l .lost;
       so-far = l .inv .1;
       stands =
-          element-stands _ _ (list e) _ (l .i) (rw (many e) (inside k .if1 .taken)) (summandOf (e .args .u)) _ (taken k .element .ensures) (k .before .before .element-term .ensures .0);
+          element-stands _ _ (list e) _ (l .i) (rw (many e) (inside k .if1 .taken)) (summandOf (e .args .u)) _ (taken k .element .ensures)
+          (k .before .before .element-term .ensures .0);
       part = k .before .window-part .ensures;
       larger = k .larger .ensures;
     }
@@ -94,7 +95,10 @@ loop-holds : tie.Need-loop-holds Inv-loop μ-loop
 loop-holds c = (search needs, running-start _ _ (c .start .ensures))
 
 window-part-requires : tie.Need-window-part-requires Inv-loop μ-loop
-window-part-requires c κs = cuttable _ (item (entry (c .before .before .before .before)) (c .before .element .result)) (c .element-term .ensures .0)
+window-part-requires c κs =
+    let r = c .before in
+    let i = r .before in
+    cuttable _ (item (entry (i .before .before)) (r .element .result)) (c .element-term .ensures .0)
 
 loop-again : tie.Need-loop-again Inv-loop μ-loop
 loop-again c =
@@ -104,7 +108,8 @@ loop-again c =
 loop-again-2 : tie.Need-loop-again-2 Inv-loop μ-loop
 loop-again-2 c =
     let q = c .before .before in
-    (add-one-le (inside (cut q) .if1 .taken), turn-past (turn (cut q)) (rw (one-word (cut q)) (q .settle-single .ensures .0 .past (not-true _ (c .if3 .taken)))))
+    let past = q .settle-single .ensures .0 .past (not-true _ (c .if3 .taken)) in
+    (add-one-le (inside (cut q) .if1 .taken), turn-past (turn (cut q)) (rw (one-word (cut q)) past))
 
 loop-less-3 : tie.Need-loop-less-3 Inv-loop μ-loop
 loop-less-3 c = let t = inside (cut (settled (c .before .before))) .if1 .taken in omega arith

@@ -71,7 +71,8 @@ turn k =
       before = l .lost;
       so-far = l .inv .1;
       stands =
-          element-stands _ _ (list e) _ (l .i) (rw (many e) (inside k .if1 .taken)) env.square _ (taken k .element .ensures) (k .before .before .element-term .ensures .0);
+          element-stands _ _ (list e) _ (l .i) (rw (many e) (inside k .if1 .taken)) env.square _ (taken k .element .ensures)
+          (k .before .before .element-term .ensures .0);
       part = k .before .window-part .ensures;
       larger = k .larger .ensures;
     }
@@ -91,7 +92,10 @@ loop-holds : tie.Need-loop-holds Inv-loop μ-loop
 loop-holds c = (search needs, running-start _ _ (c .start .ensures))
 
 window-part-requires : tie.Need-window-part-requires Inv-loop μ-loop
-window-part-requires c κs = cuttable _ (item (entry (c .before .before .before .before)) (c .before .element .result)) (c .element-term .ensures .0)
+window-part-requires c κs =
+    let r = c .before in
+    let i = r .before in
+    cuttable _ (item (entry (i .before .before)) (r .element .result)) (c .element-term .ensures .0)
 
 loop-again : tie.Need-loop-again Inv-loop μ-loop
 loop-again c =

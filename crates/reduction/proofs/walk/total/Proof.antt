@@ -38,34 +38,26 @@ shown : (s : tie.Start) → Accepts (form s) (env s) (length (left s))
 shown s = accepts (form s) (env s) (u s) (left s) (right s) (isDot (s .args .k)) (s .pre .1)
 
 -- once the scan has decided
-abbrev entry : tie.After-decided → tie.Start
-entry d = d .before .before .before .before .before .before .before
+abbrev scanned : tie.After-decided → tie.After-scan
+scanned d = d .before .before
 
-decides : (d : tie.After-decided) → Decides (d .decided .result) (env (entry d)) (firstIn (u (entry d))) (d .before .before .scan .result)
+abbrev entry : tie.After-decided → tie.Start
+entry d = let s = scanned d .before in let k = s .before .before in k .before .before
+
+decides : (d : tie.After-decided) → Decides (d .decided .result) (env (entry d)) (firstIn (u (entry d))) (scanned d .scan .result)
 decides d = rw (d .before .infinity-first .ensures) at (d .decided .ensures)
 
 scan-requires : tie.Need-scan-requires
 scan-requires c κs =
-    let s = c .before .before .before .before in
+    let k = c .before .before in
+    let s = k .before .before in
     (shown s .format, s .pre .0 .0, s .pre .0 .1)
-
-infinity-first-requires : tie.Need-infinity-first-requires
-infinity-first-requires c κs = search needs
-
-decided-requires : tie.Need-decided-requires
-decided-requires c κs = search needs
-
-enum-known-v : tie.Need-enum-known-v
-enum-known-v c = search needs
 
 special-requires : tie.Need-special-requires
 special-requires c κs =
     let d = c .before .before .before in
     let s = entry d in
-    (shown s .format, given-encodes (form s) (env s) _ (productsIn (u s)) _ _ _ _ _ _ (d .before .before .scan .ensures) (decides d) _ _ (c .before .v .given .1))
-
-enum-told : tie.Need-enum-told
-enum-told c = search needs
+    (shown s .format, given-encodes (scanned d .scan .ensures) (productsIn (u s)) _ _ (decides d) _ _ (c .before .v .given .1))
 
 exact-requires : tie.Need-exact-requires
 exact-requires c κs =
@@ -73,31 +65,32 @@ exact-requires c κs =
     let s = entry d in
     let a = s .args in (
       (shown s .format, s .pre .0 .0, s .pre .0 .1, rw (elements-length (a .k .source) (a .left-words .now) (a .left-bytes .now)) at (shown s .few)),
-      top-is (form s) (env s) _ (productsIn (u s)) _ _ _ _ _ _ (d .before .before .scan .ensures) (decides d) (c .enum-told .given .1),
+      top-is (scanned d .scan .ensures) (productsIn (u s)) _ _ (decides d) (c .enum-told .given .1),
     )
-
-products-requires : tie.Need-products-requires
-products-requires c κs = search needs
 
 finish-requires : tie.Need-finish-requires
 finish-requires c κs =
-    let s = entry (c .before .before .before .before) in
-    (shown s .format, shown s .settings, c .before .exact .ensures .ended)
+    let e = c .before in
+    let s = entry (e .before .before .before) in
+    (shown s .format, shown s .settings, e .exact .ensures .ended)
 
 returns : tie.Need-returns
 returns c =
-    let d = c .before .before .before .before in
+    let v = c .before .before in
+    let d = v .before .before in
     let s = entry d in
-    given-is (form s) (env s) _ (productsIn (u s)) _ _ _ _ _ _ (d .before .before .scan .ensures) (decides d) _ _ (c .before .before .v .given .1) _ (c .special .ensures)
+    given-is (scanned d .scan .ensures) (productsIn (u s)) _ _ (decides d) _ _ (v .v .given .1) _ (c .special .ensures)
     ∙ answer-is (form s) (env s) (u s) (left s) (right s) (isDot (s .args .k)) refl
 
 returns-2 : tie.Need-returns-2
 returns-2 c =
-    let e = c .before .before .exact in
-    let d = c .before .before .before .before .before in
+    let e = c .before .before in
+    let t = e .before in
+    let d = t .before .before in
     let s = entry d in
-    finish-is (form s) (env s) _ (productsIn (u s)) _ _ _ _ _ _ (d .before .before .scan .ensures) (decides d) (c .before .before .before .enum-told .given .1) (e .result) (e .ensures .run)
-    (by-chain (form s) (env s) (u s) (left s) (right s) (isDot (s .args .k)) (s .pre .1) _ (productsIn (u s)) false) _ (rw (c .before .products .ensures) at (c .finish .ensures))
+    finish-is (scanned d .scan .ensures) (productsIn (u s)) _ _ (decides d) (t .enum-told .given .1) (e .exact .result) (e .exact .ensures .run)
+    (by-chain (form s) (env s) (u s) (left s) (right s) (isDot (s .args .k)) (s .pre .1) _ (productsIn (u s)) false) _
+    (rw (c .before .products .ensures) at (c .finish .ensures))
     ∙ answer-is (form s) (env s) (u s) (left s) (right s) (isDot (s .args .k)) refl
 
 pub total-spec : {M : Type 1} → statement M
@@ -105,13 +98,13 @@ total-spec =
     tie.close
     (tie.spec
     scan-requires
-    infinity-first-requires
-    decided-requires
-    enum-known-v
+    (λ c κs. search needs)
+    (λ c κs. search needs)
+    (λ c. search needs)
     special-requires
-    enum-told
+    (λ c. search needs)
     exact-requires
-    products-requires
+    (λ c κs. search needs)
     finish-requires
     returns
     returns-2)
