@@ -4,7 +4,7 @@ use mathlib.Core.Logic.{_⊎_, inl, inr}
 use mathlib.Core.Bool.{Bool, true, false, _&&_, cond, true≢false}
 use mathlib.Core.List.{[], _∷_}
 use Prim.Native.Nat.{ℕ, zero, suc, _+_, _-_, _*_, _/_, _^_, _≤_, _<_, max}
-use native.Mathlib.Nat.{mul-pos, mod-lt, lt-of-lt-of-le, zero-mul, zero-add, pow-suc, zero-max, max-zero, suc-max-suc}
+use native.Mathlib.Nat.{mul-pos, mod-lt, lt-of-lt-of-le, zero-mul, zero-add, add-zero, pow-suc, zero-max, max-zero, suc-max-suc}
 use native.Mathlib.Omega.{arith}
 use lib.Ieee.{size}
 use lib.Pow.{pow-pos, pow-mono}
@@ -77,7 +77,8 @@ other-arm (Nan s g m) h = refl
 
 pub no-magnitude : (t : Term) → t .low ≡ 0 → t .high ≡ 0 → magnitude t ≡ 0
 unfolding magnitude
-no-magnitude t e f = ap (λ (n : ℕ). (t .high * 2 ^ 64 + n) * 2 ^ (t .shift)) e ∙ ap (λ (n : ℕ). (n * 2 ^ 64 + 0) * 2 ^ (t .shift)) f ∙ zero-mul (2 ^ (t .shift))
+no-magnitude t e f =
+    ap (λ (n : ℕ). (t .high * 2 ^ 64 + n) * 2 ^ (t .shift)) e ∙ ap (λ (n : ℕ). (n * 2 ^ 64 + 0) * 2 ^ (t .shift)) f ∙ zero-mul (2 ^ (t .shift))
 
 -- ---- summands
 
@@ -132,7 +133,8 @@ single-item zero s k m r h e = ap item.Top e
 single-item (suc zero) s k m r h e = ap item.Top e
 single-item (suc (suc n)) s k m r h e = absurd (two-le n h)
 
-pub square-item : (u : ℕ) (s : Bool) (k m r : ℕ) → 2 ≤ u → r ≡ size m + size m + k + k + 1024 - 1 → item.Top r ≡ itemOf (terms.itemOf (env.summandOf u) (dec.finite s k m))
+pub square-item : (u : ℕ) (s : Bool) (k m r : ℕ) → 2 ≤ u → r ≡ size m + size m + k + k + 1024 - 1
+    → item.Top r ≡ itemOf (terms.itemOf (env.summandOf u) (dec.finite s k m))
 unfolding terms.product
 square-item u s k m r h e = rw (square-of u h) (ap item.Top e)
 
@@ -158,14 +160,16 @@ unfolding terms.item
 plain-item f c u x h = ap (terms.itemOf u) (sym (plain-operand f x h c))
 
 -- a normal significand has p digits
+normal-size : (f : spec.Format) (m : ℕ) → FormatBounds f → m < 2 ^ spec.fractionBits f → size (2 ^ spec.fractionBits f + m) ≡ spec.digits f
+normal-size f m h l =
+    size-is (2 ^ spec.fractionBits f + m) (spec.fractionBits f) (omega (arith, l, pow-suc 2 (spec.fractionBits f))) (omega arith) ∙ omega (arith, h .w-ge)
+
 pub plain-size : (f : spec.Format) (x : ℕ) → FormatBounds f → size (2 ^ spec.fractionBits f + dec.fractionOf f x) ≡ spec.digits f
-plain-size f x h =
-    size-is (2 ^ spec.fractionBits f + dec.fractionOf f x) (spec.fractionBits f) (omega (arith, mod-lt x (pow-pos (spec.fractionBits f)), pow-suc 2 (spec.fractionBits f))) (omega arith)
-    ∙ omega (arith, h .w-ge)
+plain-size f x h = normal-size f (dec.fractionOf f x) h (mod-lt x (pow-pos (spec.fractionBits f)))
 
 -- and so has the least of them
 pub least-size : (f : spec.Format) → FormatBounds f → size (2 ^ spec.fractionBits f) ≡ spec.digits f
-least-size f h = size-is (2 ^ spec.fractionBits f) (spec.fractionBits f) (omega (arith, pow-pos (spec.fractionBits f), pow-suc 2 (spec.fractionBits f))) (omega arith) ∙ omega (arith, h .w-ge)
+least-size f h = rw add-zero at (normal-size f 0 h (pow-pos (spec.fractionBits f)))
 
 -- ---- the position of a normal number, by its field
 

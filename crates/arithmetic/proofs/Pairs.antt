@@ -50,7 +50,8 @@ plain-fields f x y r h p e z c = (
   p .1 .1,
   plain-nan f x (p .0),
   plain-nan f y (p .1),
-  ap itemOf (sym (plain-pair f c x y p)) ∙ ap item.Top (omega (arith, p .0 .2, p .1 .2, plain-size f x h, plain-size f y h, above-some (2 * spec.digits f + 1021) r z)),
+  ap itemOf (sym (plain-pair f c x y p))
+      ∙ ap item.Top (omega (arith, p .0 .2, p .1 .2, plain-size f x h, plain-size f y h, above-some (2 * spec.digits f + 1021) r z)),
 )
 
 -- ---- a pair of which one is no finite number is no term
@@ -67,7 +68,8 @@ none-left (dec.infinity s) (dec.zeroOf r) t e z h = (z, h)
 none-left (dec.infinity s) (dec.finite r j n) t e z h = (z, h)
 none-left (dec.infinity s) (dec.infinity r) t e z h = (z, h)
 
-pub none-right : (s : Bool) (k m : ℕ) (y : dec.Unpacked) (t : Term) → dec.isFinite y ≡ false → magnitude t ≡ 0 → t .shift ≡ 0 → StandsFor t (terms.pairOf (dec.finite s k m) y)
+none-right : (s : Bool) (k m : ℕ) (y : dec.Unpacked) (t : Term) → dec.isFinite y ≡ false → magnitude t ≡ 0 → t .shift ≡ 0
+    → StandsFor t (terms.pairOf (dec.finite s k m) y)
 none-right s k m (dec.finite r j n) t e z h = absurd (true≢false e)
 none-right s k m (dec.nan r g n) t e z h = (z, h)
 none-right s k m (dec.zeroOf r) t e z h = (z, h)

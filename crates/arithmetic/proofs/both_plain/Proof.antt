@@ -1,5 +1,4 @@
 -- `arithmetic::both_plain` meets its contract.
---
 use Rattle.format.specs.Joined.{formatOf}
 use Rattle.arithmetic.proofs.Elements.{plainly}
 use Rattle.arithmetic.proofs.Pairs.{both-of}
@@ -7,17 +6,12 @@ use borrow.Author.Needs.{needs}
 use Rattle.arithmetic.proofs.both_plain.Statement.{statement}
 use Rattle.arithmetic.proofs.both_plain.Tie as tie
 
-is-plain-requires : tie.Need-is-plain-requires
-is-plain-requires c κs = search needs
-
-is-plain-requires-2 : tie.Need-is-plain-requires-2
-is-plain-requires-2 c κs = search needs
-
 returns : tie.Need-returns
-returns c = both-of (c .is-plain2 .result) (formatOf (c .before .before .before .args .f)) (c .before .before .before .args .x) (c .before .before .before .args .y) (plainly (c .before .before .is-plain .result) (formatOf (c .before .before .before .args .f)) (c .before .before .before .args .x) (c .before .if1 .taken) (c .before .before .is-plain .ensures)) (c .is-plain2 .ensures)
-
-returns-2 : tie.Need-returns-2
-returns-2 c = search needs
+returns c =
+    let p = c .before .before in
+    let a = p .before .args in
+    both-of (c .is-plain2 .result) (formatOf (a .f)) (a .x) (a .y)
+    (plainly (p .is-plain .result) (formatOf (a .f)) (a .x) (c .before .if1 .taken) (p .is-plain .ensures)) (c .is-plain2 .ensures)
 
 pub both-plain-spec : {M : Type 1} → statement M
-both-plain-spec = tie.close (tie.spec is-plain-requires is-plain-requires-2 returns returns-2)
+both-plain-spec = tie.close (tie.spec (λ c κs. search needs) (λ c κs. search needs) returns (λ c. search needs))

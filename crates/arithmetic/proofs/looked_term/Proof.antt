@@ -14,39 +14,28 @@ abbrev operandOf : tie.Start → dec.Unpacked
 operandOf s = dec.operand (formatOf (s .args .f)) (settingsOf (s .args .c)) (s .args .b)
 
 -- where the operand is a number m × 2^k
+abbrev looked : tie.After-known-told → tie.After-operand
+looked k = k .before .before .before
+
 abbrev entry : tie.After-known-told → tie.Start
-entry k = k .before .before .before .before
+entry k = looked k .before
 
 abbrev number : tie.After-known-told → dec.Unpacked
 number k = let n = k .before .v .given .0 in dec.finite (n .0) (n .1 .0) (n .1 .1 .0)
 
 is-number : (k : tie.After-known-told) → operandOf (entry k) ≡ number k
-is-number k = sym (k .before .before .before .operand .ensures .0) ∙ ap unpackedOf (k .before .v .given .1)
-
-operand-requires : tie.Need-operand-requires
-operand-requires c κs = search needs
-
-enum-known-v : tie.Need-enum-known-v
-enum-known-v c = search needs
-
-no-term-requires : tie.Need-no-term-requires
-no-term-requires c κs = search needs
+is-number k = sym (looked k .operand .ensures .0) ∙ ap unpackedOf (k .before .v .given .1)
 
 returns : tie.Need-returns
 unfolding terms.item
 returns c =
     let o = c .before .before in
-    let n = c .no-term .ensures in (
-      none-stands (env.summandOf (o .before .args .u)) (operandOf (o .before)) _
-          (ap dec.isFinite (sym (o .operand .ensures .0)) ∙ other-arm (o .operand .result .value) (c .before .match .keys2)) (no-magnitude _ (n .0) (n .1)) (n .2),
-      λ _. n .1,
-    )
+    let n = c .no-term .ensures in
+    let other = ap dec.isFinite (sym (o .operand .ensures .0)) ∙ other-arm (o .operand .result .value) (c .before .match .keys2) in
+    (none-stands (env.summandOf (o .before .args .u)) (operandOf (o .before)) _ other (no-magnitude _ (n .0) (n .1)) (n .2), λ _. n .1)
 
 summand-term-requires : tie.Need-summand-term-requires
-summand-term-requires c κs =
-    let s = entry c in
-    let b : Bounded (number c) = operand-bounded _ (s .pre) _ (s .args .b) _ (is-number c) in
-    b
+summand-term-requires c κs = let s = entry c in let b : Bounded (number c) = operand-bounded _ (s .pre) _ (s .args .b) _ (is-number c) in b
 
 returns-2 : tie.Need-returns-2
 unfolding terms.item
@@ -59,9 +48,9 @@ pub looked-term-spec : {M : Type 1} → statement M
 looked-term-spec =
     tie.close
     (tie.spec
-    operand-requires
-    enum-known-v
-    no-term-requires
+    (λ c κs. search needs)
+    (λ c. search needs)
+    (λ c κs. search needs)
     returns
     summand-term-requires
     returns-2)

@@ -8,21 +8,6 @@ use borrow.Author.Needs.{needs}
 use Rattle.arithmetic.proofs.plain_pair_top.Statement.{statement}
 use Rattle.arithmetic.proofs.plain_pair_top.Tie as tie
 
-returns : tie.Need-returns
-returns c = search needs
-
-normal-length-requires : tie.Need-normal-length-requires
-normal-length-requires c κs = search needs
-
-mul-result : tie.Need-mul-result
-mul-result c = search needs
-
-add-result : tie.Need-add-result
-add-result c = search needs
-
-add-result-2 : tie.Need-add-result-2
-add-result-2 c = search needs
-
 returns-2 : tie.Need-returns-2
 returns-2 c =
     let a = c .before .before .args in
@@ -30,4 +15,4 @@ returns-2 c =
 
 pub plain-pair-top-spec : {M : Type 1} → statement M
 plain-pair-top-spec =
-    tie.close (tie.spec returns normal-length-requires mul-result add-result add-result-2 returns-2)
+    tie.close (tie.spec (λ c. search needs) (λ c κs. search needs) (λ c. search needs) (λ c. search needs) (λ c. search needs) returns-2)

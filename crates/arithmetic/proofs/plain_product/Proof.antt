@@ -1,6 +1,6 @@
 -- `arithmetic::plain_product` meets its contract.
 use mathlib.Core.Path.{_≡_, subst}
-use Prim.Native.Nat.{ℕ, _-_, _<_}
+use Prim.Native.Nat.{_-_}
 use native.Mathlib.Omega.{arith}
 use Rattle.totals_spec.specs.Terms as terms
 use Rattle.format.specs.Joined.{formatOf}
@@ -15,14 +15,14 @@ abbrev Read : Type 0
 Read = tie.After-plain-significand2
 
 abbrev signs : Read → tie.After-sign-of2
-signs k = k .before .before .before .before
+signs k = let a = k .before .before in a .before .before
 
 abbrev entry : Read → tie.Start
 entry k = signs k .before .before
 
-product-of : (k : Read)
-    → terms.product (terms.unlike (signs k .before .sign-of .result) (signs k .sign-of2 .result)) (k .before .before .before .field-of .result - 1)
-    (k .before .before .plain-significand .result) (k .before .field-of2 .result - 1) (k .plain-significand2 .result)
+product-of : (k : Read) → let a = k .before .before in
+    terms.product (terms.unlike (signs k .before .sign-of .result) (signs k .sign-of2 .result)) (a .before .field-of .result - 1)
+    (a .plain-significand .result) (k .before .field-of2 .result - 1) (k .plain-significand2 .result)
     ≡ plainProduct (formatOf (entry k .args .f)) (entry k .args .x) (entry k .args .y)
 product-of k =
     let a = k .before .before in
@@ -34,30 +34,6 @@ product-of k =
       k .before .field-of2 .ensures,
       k .plain-significand2 .ensures,
     )
-
-sign-of-requires : tie.Need-sign-of-requires
-sign-of-requires c κs = search needs
-
-sign-of-requires-2 : tie.Need-sign-of-requires-2
-sign-of-requires-2 c κs = search needs
-
-field-of-requires : tie.Need-field-of-requires
-field-of-requires c κs = search needs
-
-sub-product : tie.Need-sub-product
-sub-product c = search needs
-
-plain-significand-requires : tie.Need-plain-significand-requires
-plain-significand-requires c κs = search needs
-
-field-of-requires-2 : tie.Need-field-of-requires-2
-field-of-requires-2 c κs = search needs
-
-sub-product-2 : tie.Need-sub-product-2
-sub-product-2 c = search needs
-
-plain-significand-requires-2 : tie.Need-plain-significand-requires-2
-plain-significand-requires-2 c κs = search needs
 
 product-requires : tie.Need-product-requires
 product-requires c κs =
@@ -77,13 +53,13 @@ pub plain-product-spec : {M : Type 1} → statement M
 plain-product-spec =
     tie.close
     (tie.spec
-    sign-of-requires
-    sign-of-requires-2
-    field-of-requires
-    sub-product
-    plain-significand-requires
-    field-of-requires-2
-    sub-product-2
-    plain-significand-requires-2
+    (λ c κs. search needs)
+    (λ c κs. search needs)
+    (λ c κs. search needs)
+    (λ c. search needs)
+    (λ c κs. search needs)
+    (λ c κs. search needs)
+    (λ c. search needs)
+    (λ c κs. search needs)
     product-requires
     returns)

@@ -21,18 +21,6 @@ number : (k : tie.After-plain-significand)
     ≡ plainNumber (formatOf (entry k .args .f)) (entry k .args .b)
 number k = cc (k .before .before .sign-of .ensures, k .before .field-of .ensures, k .plain-significand .ensures)
 
-sign-of-requires : tie.Need-sign-of-requires
-sign-of-requires c κs = search needs
-
-field-of-requires : tie.Need-field-of-requires
-field-of-requires c κs = search needs
-
-sub-summand-term : tie.Need-sub-summand-term
-sub-summand-term c = search needs
-
-plain-significand-requires : tie.Need-plain-significand-requires
-plain-significand-requires c κs = search needs
-
 summand-term-requires : tie.Need-summand-term-requires
 summand-term-requires c κs =
     let s = entry c in (
@@ -49,9 +37,9 @@ pub plain-term-spec : {M : Type 1} → statement M
 plain-term-spec =
     tie.close
     (tie.spec
-    sign-of-requires
-    field-of-requires
-    sub-summand-term
-    plain-significand-requires
+    (λ c κs. search needs)
+    (λ c κs. search needs)
+    (λ c. search needs)
+    (λ c κs. search needs)
     summand-term-requires
     returns)

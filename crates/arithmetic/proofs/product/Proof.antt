@@ -1,5 +1,4 @@
 -- `arithmetic::product` meets its contract.
---
 use mathlib.Core.Path.{refl, ap}
 use Prim.Native.Nat.{ℕ, _+_, _*_, _^_}
 use native.Mathlib.Nat.{mul-pos}
@@ -11,15 +10,6 @@ use borrow.Author.Needs.{needs}
 use Rattle.arithmetic.proofs.product.Statement.{statement}
 use Rattle.arithmetic.proofs.product.Tie as tie
 
-widening-mul-requires : tie.Need-widening-mul-requires
-widening-mul-requires c κs = search needs
-
-add-t7 : tie.Need-add-t7
-add-t7 c = search needs
-
-add-t8 : tie.Need-add-t8
-add-t8 c = search needs
-
 returns : tie.Need-returns
 unfolding magnitude terms.product
 returns c =
@@ -28,4 +18,4 @@ returns c =
     (ap (λ (x : ℕ). x * 2 ^ units) (c .widening-mul .ensures), refl, omega arith, mul-pos (mul-pos (s .pre .2) (s .pre .3)) (pow-pos units))
 
 pub product-spec : {M : Type 1} → statement M
-product-spec = tie.close (tie.spec widening-mul-requires add-t7 add-t8 returns)
+product-spec = tie.close (tie.spec (λ c κs. search needs) (λ c. search needs) (λ c. search needs) returns)

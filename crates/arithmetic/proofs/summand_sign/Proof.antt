@@ -7,8 +7,5 @@ use Rattle.arithmetic.proofs.summand_sign.Tie as tie
 returns : tie.Need-returns
 returns c = sign-dropped (c .before .args .u) (c .before .args .negative) (c .if1 .taken)
 
-returns-2 : tie.Need-returns-2
-returns-2 c = search needs
-
 pub summand-sign-spec : {M : Type 1} → statement M
-summand-sign-spec = tie.close (tie.spec returns returns-2)
+summand-sign-spec = tie.close (tie.spec returns (λ c. search needs))
