@@ -38,7 +38,8 @@ abbrev Stays : Bool → ℕ → ℕ → Type 0
 Stays neg old new = ltb (flip neg new) (flip neg old) ≡ false
 
 -- then the carry out of it is that of the sign
-carry-out : (neg : Bool) (old w c : ℕ) (r : Sum) → Room neg w → old < 2 ^ 64 → r .word < 2 ^ 64 → c ≤ 1 → Adds old w c r → Stays neg old (r .word) → r .carry ≡ cond neg 1 0
+carry-out : (neg : Bool) (old w c : ℕ) (r : Sum) → Room neg w → old < 2 ^ 64 → r .word < 2 ^ 64 → c ≤ 1 → Adds old w c r → Stays neg old (r .word)
+    → r .carry ≡ cond neg 1 0
 carry-out false old w c r h f g k a s = omega (arith, ltb-false (r .word) old s)
 carry-out true old w c r h f g k a s = omega (arith, ltb-false (18446744073709551615 - r .word) (18446744073709551615 - old) s)
 
@@ -48,34 +49,41 @@ sign-carry true p t m = sym (m .0)
 
 -- ---- the first two words, and the third
 
+abbrev with-two : List ℕ → Placed → Sum → Sum → List ℕ
+with-two l p x y = set (set l (p .at) (x .word)) (p .at + 1) (y .word)
+
+abbrev with-three : List ℕ → Placed → Sum → Sum → Sum → List ℕ
+with-three l p x y z = set (with-two l p x y) (p .at + 2) (z .word)
+
 module _ (l : List ℕ) (w : Words 12 l) (p : Placed) (h : p .at < 11) (x y : Sum) (fx : x .word < 2 ^ 64) (fy : y .word < 2 ^ 64)
     (ex : x .word + x .carry * 2 ^ 64 ≡ getD l (p .at) 0 + p .w0 + p .carry)
     (ey : y .word + y .carry * 2 ^ 64 ≡ getD l (p .at + 1) 0 + p .w1 + x .carry) where
-  two-words : Words 12 (set (set l (p .at) (x .word)) (p .at + 1) (y .word))
+  two-words : Words 12 (with-two l p x y)
   two-words = words-set (p .at + 1) (words-set (p .at) w fx) fy
 
-  two : value (set (set l (p .at) (x .word)) (p .at + 1) (y .word)) + (y .carry + p .w2) * 2 ^ (64 * (p .at + 2)) ≡ value l + sum p
+  two : value (with-two l p x y) + (y .carry + p .w2) * 2 ^ (64 * (p .at + 2)) ≡ value l + sum p
   two =
-      put (set l (p .at) (x .word)) (p .at + 1) (p .at + 2) (p .w1) (p .w2) (y .word) (x .carry) (y .carry) _ (omega arith) (inside (words-set (p .at) w fx) (omega arith))
+      put (set l (p .at) (x .word)) (p .at + 1) (p .at + 2) (p .w1) (p .w2) (y .word) (x .carry) (y .carry) _ (omega arith)
+      (inside (words-set (p .at) w fx) (omega arith))
       (put l (p .at) (p .at + 1) (p .w0) (p .w1 + p .w2 * 2 ^ 64) (x .word) (p .carry) (x .carry) _ refl (inside w (omega arith)) refl ex)
       (ey ∙ ap (λ (n : ℕ). n + p .w1 + x .carry) (sym (getD-set-other l (p .at) (p .at + 1) (x .word) 0 (omega arith))))
 
   -- at the word 10 the third word lies past the window's end
   at-end : (neg : Bool) (t : ℕ) → p .at ≡ 10 → Makes neg p t → y .carry ≤ 1 → p .w2 < 2 ^ 64
-      → Words 12 (set (set l (p .at) (x .word)) (p .at + 1) (y .word)) × (value (set (set l (p .at) (x .word)) (p .at + 1) (y .word)) ≡ moved neg (value l) t)
+      → Words 12 (with-two l p x y) × (value (with-two l p x y) ≡ moved neg (value l) t)
   at-end neg t e f c g = (two-words, go neg f)
     where
-      go : (neg : Bool) → Makes neg p t → value (set (set l (p .at) (x .word)) (p .at + 1) (y .word)) ≡ moved neg (value l) t
+      go : (neg : Bool) → Makes neg p t → value (with-two l p x y) ≡ moved neg (value l) t
       go false f = added _ _ _ two-words (far 12 (p .at + 2) (y .carry + p .w2) (omega arith)) (two ∙ ap (λ (n : ℕ). value l + n) (f .1))
       go true f =
           minus-is (2 ^ 768) _ (value l) t (2 ^ 64 - (y .carry + p .w2)) (pow-pos 768) (value-lt two-words)
           (left-over _ (value l) _ (2 ^ 768) (2 ^ 64) (y .carry + p .w2) (2 ^ 64 - (y .carry + p .w2)) t
-          (ap (λ (n : ℕ). value (set (set l (p .at) (x .word)) (p .at + 1) (y .word)) + (y .carry + p .w2) * 2 ^ (64 * (n + 2))) (sym e) ∙ two)
+          (ap (λ (n : ℕ). value (with-two l p x y) + (y .carry + p .w2) * 2 ^ (64 * (n + 2))) (sym e) ∙ two)
           (f .1 ∙ ap (λ (n : ℕ). 2 ^ (64 * (n + 3))) e ∙ pow-add 2 64 768) (sub-add-cancel (omega arith)))
 
   -- a term of one word: where the carry out of two words is the carry in, nothing is left to do
   even-two : (neg : Bool) (t : ℕ) → Makes neg p t → p .w2 ≡ flip neg 0 → y .carry ≡ p .carry
-      → value (set (set l (p .at) (x .word)) (p .at + 1) (y .word)) ≡ moved neg (value l) t
+      → value (with-two l p x y) ≡ moved neg (value l) t
   even-two false t f g e =
       added 0 _ _ two-words (none 12 (p .at + 2) (y .carry + p .w2) (no-more _ _ (e ∙ f .0) g)) (two ∙ ap (λ (n : ℕ). value l + n) (f .1))
   even-two true t f g e =
@@ -86,40 +94,42 @@ module _ (l : List ℕ) (w : Words 12 l) (p : Placed) (h : p .at < 11) (x y : Su
       whole : y .carry + p .w2 ≡ 2 ^ 64
       whole = whole-word _ _ (e ∙ f .0) g
 
-      carried : value (set (set l (p .at) (x .word)) (p .at + 1) (y .word)) + 1 * 2 ^ (64 * (p .at + 3)) ≡ value l + sum p
+      carried : value (with-two l p x y) + 1 * 2 ^ (64 * (p .at + 3)) ≡ value l + sum p
       carried =
-          ap (λ (n : ℕ). value (set (set l (p .at) (x .word)) (p .at + 1) (y .word)) + n)
+          ap (λ (n : ℕ). value (with-two l p x y) + n)
           (one-mul _ ∙ ap (λ (n : ℕ). 2 ^ n) (omega arith) ∙ pow-add 2 64 (64 * (p .at + 2)) ∙ sym (ap (λ (n : ℕ). n * 2 ^ (64 * (p .at + 2))) whole)) ∙ two
 
   single : (neg : Bool) (t : ℕ) → Makes neg p t → p .w2 ≡ flip neg 0 → y .carry ≤ 1 → p .w2 < 2 ^ 64 → (p .at < 10 → y .carry ≡ p .carry)
-      → Words 12 (set (set l (p .at) (x .word)) (p .at + 1) (y .word)) × (value (set (set l (p .at) (x .word)) (p .at + 1) (y .word)) ≡ moved neg (value l) t)
+      → Words 12 (with-two l p x y) × (value (with-two l p x y) ≡ moved neg (value l) t)
   single neg t f g c s e = go (eqb (p .at) 10) refl
     where
       go : (b : Bool) → eqb (p .at) 10 ≡ b
-          → Words 12 (set (set l (p .at) (x .word)) (p .at + 1) (y .word)) × (value (set (set l (p .at) (x .word)) (p .at + 1) (y .word)) ≡ moved neg (value l) t)
+          → Words 12 (with-two l p x y) × (value (with-two l p x y) ≡ moved neg (value l) t)
       go true b = at-end neg t (eqb-true _ _ b) f c s
       go false b = let k : p .at ≡ 10 → ⊥ = eqb-false _ _ b in (two-words, even-two neg t f g (e (omega arith)))
 
   module _ (k : p .at ≡ 10 → ⊥) (z : Sum) (fz : z .word < 2 ^ 64)
       (ez : z .word + z .carry * 2 ^ 64 ≡ getD l (p .at + 2) 0 + p .w2 + y .carry) where
-    three-words : Words 12 (set (set (set l (p .at) (x .word)) (p .at + 1) (y .word)) (p .at + 2) (z .word))
+    three-words : Words 12 (with-three l p x y z)
     three-words = words-set (p .at + 2) two-words fz
 
-    three : value (set (set (set l (p .at) (x .word)) (p .at + 1) (y .word)) (p .at + 2) (z .word)) + z .carry * 2 ^ (64 * (p .at + 3)) ≡ value l + sum p
+    three : value (with-three l p x y z) + z .carry * 2 ^ (64 * (p .at + 3)) ≡ value l + sum p
     three =
-        put-last (set (set l (p .at) (x .word)) (p .at + 1) (y .word)) (p .at + 2) (p .at + 3) (p .w2) (z .word) (y .carry) (z .carry) _ (omega arith)
+        put-last (with-two l p x y) (p .at + 2) (p .at + 3) (p .w2) (z .word) (y .carry) (z .carry) _ (omega arith)
         (inside two-words (omega arith)) two (ez ∙ ap (λ (n : ℕ). n + p .w2 + y .carry) (sym unread))
       where
-        unread : getD (set (set l (p .at) (x .word)) (p .at + 1) (y .word)) (p .at + 2) 0 ≡ getD l (p .at + 2) 0
-        unread = getD-set-other (set l (p .at) (x .word)) (p .at + 1) (p .at + 2) (y .word) 0 (omega arith) ∙ getD-set-other l (p .at) (p .at + 2) (x .word) 0 (omega arith)
+        unread : getD (with-two l p x y) (p .at + 2) 0 ≡ getD l (p .at + 2) 0
+        unread =
+            getD-set-other (set l (p .at) (x .word)) (p .at + 1) (p .at + 2) (y .word) 0 (omega arith)
+            ∙ getD-set-other l (p .at) (p .at + 2) (x .word) 0 (omega arith)
 
     -- the carry out is the carry in: nothing is left to do
     even : (neg : Bool) (t : ℕ) → Makes neg p t → z .carry ≡ p .carry
-        → Words 12 (set (set (set l (p .at) (x .word)) (p .at + 1) (y .word)) (p .at + 2) (z .word))
-        × (value (set (set (set l (p .at) (x .word)) (p .at + 1) (y .word)) (p .at + 2) (z .word)) ≡ moved neg (value l) t)
+        → Words 12 (with-three l p x y z)
+        × (value (with-three l p x y z) ≡ moved neg (value l) t)
     even neg t f e = (three-words, go neg f)
       where
-        go : (neg : Bool) → Makes neg p t → value (set (set (set l (p .at) (x .word)) (p .at + 1) (y .word)) (p .at + 2) (z .word)) ≡ moved neg (value l) t
+        go : (neg : Bool) → Makes neg p t → value (with-three l p x y z) ≡ moved neg (value l) t
         go false f = added 0 _ _ three-words (none 12 (p .at + 3) (z .carry) (e ∙ f .0)) (three ∙ ap (λ (n : ℕ). value l + n) (f .1))
         go true f =
             minus-is (2 ^ 768) _ (value l) t 0 (pow-pos 768) (value-lt three-words)
@@ -156,7 +166,7 @@ module _ {l : List ℕ} (w : Words 12 l) {neg : Bool} {t : ℕ} {p : Placed} whe
     low : p .at < 11
     low = omega (arith, s .word)
 
-    stored : Words 12 (set (set l (p .at) (x .word)) (p .at + 1) (y .word)) × (value (set (set l (p .at) (x .word)) (p .at + 1) (y .word)) ≡ moved neg (value l) (t % 2 ^ 768))
+    stored : Words 12 (with-two l p x y) × (value (with-two l p x y) ≡ moved neg (value l) (t % 2 ^ 768))
     stored = single l w p low x y fx fy (ex .0) (ey .0) neg (t % 2 ^ 768) (s .exact) none (ey .1) (none-small neg none) out
 
     pub two-stored : Words 12 (set (set l (p .at) (x .word)) (p .at + 1) (y .word))
@@ -179,7 +189,7 @@ module _ {l : List ℕ} (w : Words 12 l) {neg : Bool} {t : ℕ} {p : Placed} whe
     other e = omega (arith, s .word)
 
     abbrev after : List ℕ
-    after = set (set (set l (p .at) (x .word)) (p .at + 1) (y .word)) (p .at + 2) (z .word)
+    after = with-three l p x y z
 
     pub three-stored : Words 12 (set (set (set l (p .at) (x .word)) (p .at + 1) (y .word)) (p .at + 2) (z .word))
     three-stored = three-words l w p low₃ x y fx fy (ex .0) (ey .0) other z fz (ez .0)

@@ -15,7 +15,8 @@ use Rattle.limbs_term.specs.declared.Placed.{Placed}
 use Rattle.limbs_term.specs.Placed.{flip, laid, Makes}
 
 -- shifted by the place in the word, a term has the words w₀, w₁ and w₂
-pub term-words : (low high w₀ w₁ w₂ c : ℕ) {shift : ℕ} {p : Place} → Splits shift p → w₀ + c * 2 ^ 64 ≡ low * 2 ^ p .bit + 0 → w₁ + w₂ * 2 ^ 64 ≡ high * 2 ^ p .bit + c
+pub term-words : (low high w₀ w₁ w₂ c : ℕ) {shift : ℕ} {p : Place} → Splits shift p → w₀ + c * 2 ^ 64 ≡ low * 2 ^ p .bit + 0
+    → w₁ + w₂ * 2 ^ 64 ≡ high * 2 ^ p .bit + c
     → (w₀ + (w₁ + w₂ * 2 ^ 64) * 2 ^ 64) * 2 ^ (64 * p .word) ≡ term low high shift
 term-words low high w₀ w₁ w₂ c {shift} {p} s e f =
     ap (λ (x : ℕ). x * 2 ^ (64 * p .word)) (joined (2 ^ 64) (2 ^ p .bit) e f)

@@ -65,7 +65,8 @@ single-at-eleven at v₀ v₁ t h f₀ e =
     (single-eleven (2 ^ 64) (2 ^ 640) v₀ v₁ ∙ ap (λ (n : ℕ). (v₀ + (v₁ + 0 * 2 ^ 64) * 2 ^ 64) * 2 ^ (64 * n)) (sym h) ∙ e)
 
 pub past-end : (at v₀ v₁ v₂ t : ℕ) → 12 ≤ at → at-word at v₀ v₁ v₂ ≡ t → 0 ≡ t % 2 ^ 768
-past-end at v₀ v₁ v₂ t h e = wrapped (2 ^ 768) 0 t ((v₀ + (v₁ + v₂ * 2 ^ 64) * 2 ^ 64) * 2 ^ (64 * (at - 12))) (lit< tt) (zero-add _ ∙ far 12 at (v₀ + (v₁ + v₂ * 2 ^ 64) * 2 ^ 64) h ∙ e)
+past-end at v₀ v₁ v₂ t h e =
+    wrapped (2 ^ 768) 0 t (at-word (at - 12) v₀ v₁ v₂) (lit< tt) (zero-add _ ∙ far 12 at (v₀ + (v₁ + v₂ * 2 ^ 64) * 2 ^ 64) h ∙ e)
 
 -- what a shift carries out of a word leaves room
 pub shifted-room : (offset x : ℕ) → offset < 64 → x < 2 ^ offset → Room false x
@@ -80,7 +81,8 @@ turned-room : (neg : Bool) (v w : ℕ) → w ≡ flip neg v → Room false v →
 turned-room false v w e h = omega arith
 turned-room true v w e h = omega arith
 
-pub settles : {end last last′ t : ℕ} {neg : Bool} {l : Laid} {p : Placed} → Lays end last t l → Turns neg l p → last′ ≡ flip neg last → Settles end last′ neg t p
+pub settles : {end last last′ t : ℕ} {neg : Bool} {l : Laid} {p : Placed} → Lays end last t l → Turns neg l p → last′ ≡ flip neg last
+    → Settles end last′ neg t p
 settles {end} {last} {last′} {t} {neg} {l} {p} h q e = record {
   word = rw (q .word) (h .word);
   small = q .small;

@@ -6,12 +6,6 @@ use Rattle.limbs_term.proofs.Within.{settles}
 use Rattle.limbs_term.proofs.settle_single.Statement.{statement}
 use Rattle.limbs_term.proofs.settle_single.Tie as tie
 
-lay-single-requires : tie.Need-lay-single-requires
-lay-single-requires c κs = search needs
-
-turned-requires : tie.Need-turned-requires
-turned-requires c κs = search needs
-
 returns : tie.Need-returns
 returns c =
     let l = c .before .lay-single .ensures in
@@ -19,4 +13,4 @@ returns c =
     (settles (l .0) t (t .second), t .third ∙ ap (flip (c .before .before .args .negative)) (l .1))
 
 pub settle-single-spec : {M : Type 1} → statement M
-settle-single-spec = tie.close (tie.spec lay-single-requires turned-requires returns)
+settle-single-spec = tie.close (tie.spec (λ c κs. search needs) (λ c κs. search needs) returns)
