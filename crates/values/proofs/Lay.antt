@@ -17,7 +17,8 @@ pub record Lays (old now : List ℕ) (at x i rest : ℕ) : Type 0 where
 pub lays-start : (old : List ℕ) (at x : ℕ) → Lays old old at x 0 x
 lays-start old at x = record { long = refl; whole = ap (λ (n : ℕ). take n old ++ (toBytes 8 x ++ drop (at + 8) old)) (add-zero at) }
 
-pub lays-next : (old now : List ℕ) (at x i rest : ℕ) → i < 8 → at + i < length now → Lays old now at x i rest → Lays old (set now (at + i) (rest % 256)) at x (i + 1) (rest / 256)
+pub lays-next : (old now : List ℕ) (at x i rest : ℕ) → i < 8 → at + i < length now → Lays old now at x i rest
+    → Lays old (set now (at + i) (rest % 256)) at x (i + 1) (rest / 256)
 lays-next old now at x i rest h k l = record {
   long = length-set now (at + i) (rest % 256) ∙ l .long;
   whole = ap₂ (λ (s t : List ℕ). s ++ (toBytes (8 - (i + 1)) (rest / 256) ++ t)) written (drop-set-lt (at + 8) now (at + i) (rest % 256) (omega arith))

@@ -31,47 +31,57 @@ there s = s .pre .0 .there _ (s .pre .1)
 small : (s : tie.Start) → place s < 2 ^ 64
 small s = omega (arith, there s, few (eqb (s .args .s .layout) 0) (s .args .words .now) (s .args .bytes .now) (s .good .1 .0 .0) (s .good .1 .1 .0 .0))
 
--- in each branch: the list is the one that is read
+-- the list is the one that is read
 words-are : (s : tie.Start) → s .args .s .layout ≡ 0 → list s ≡ s .args .words .now
 words-are s e = ap (λ (b : Bool). laidOut b (s .args .words .now) (s .args .bytes .now)) (eq-eqb (s .args .s .layout) 0 e)
 
 bytes-are : (s : tie.Start) → (s .args .s .layout ≡ 0 → ⊥) → list s ≡ valuesIn (s .args .bytes .now)
 bytes-are s e = ap (λ (b : Bool). laidOut b (s .args .words .now) (s .args .bytes .now)) (ne-eqb (s .args .s .layout) 0 e)
 
-mul-at : tie.Need-mul-at
-mul-at c = let s = c .before .before .before in record { fits = omega (arith, small s) }
+stands : (s : tie.Start) (l : List ℕ) → list s ≡ l
+    → getD l (place s) 0 ≡ getD (elements (s .args .s) (s .args .words .now) (s .args .bytes .now)) (s .args .i) 0
+unfolding elements
+stands s l e = sym (strided-at _ _ _ (list s) _ (s .pre .1) ∙ ap (λ (l : List ℕ). getD l (place s) 0) e)
 
-add-at : tie.Need-add-at
-add-at c = let s = c .before .before .before .before in record { fits = small s }
+abbrev entry : tie.After-struct-known → tie.Start
+entry k = k .before .before .before
+
+-- once the layout is known
+abbrev entry₃ : tie.After-struct-known3 → tie.Start
+entry₃ k = entry (k .before .before)
+
+mul-at : tie.Need-mul-at
+mul-at c = record { fits = omega (arith, small (entry c)) }
 
 mul-result : tie.Need-mul-result
 mul-result c =
-    let s = c .before .before .before .before .before .before in
+    let s = entry₃ (c .before) in
     let h = rw (words-are s (c .if1 .taken)) at (there s) in
     record { fits = omega (arith, h, s .good .1 .0 .1) }
 
 shared-slice-read-result : tie.Need-shared-slice-read-result
-shared-slice-read-result c =
-    let s = c .before .before .before .before .before .before .before in
-    rw (words-are s (c .before .if1 .taken)) at (there s)
+shared-slice-read-result c = let t = c .before in let s = entry₃ (t .before) in rw (words-are s (t .if1 .taken)) at (there s)
 
 word-at-requires : tie.Need-word-at-requires
 word-at-requires c κs =
-    let s = c .before .before .before .before .before .before in
+    let s = entry₃ (c .before) in
     let h = rw (bytes-are s (c .if1 .left)) at (there s) in
     omega (arith, h, values-length (s .args .bytes .now))
 
 returns : tie.Need-returns
-unfolding elements
-returns c =
-    let s = c .before .before .before .before .before .before .before in
-    sym (strided-at _ _ _ (list s) _ (s .pre .1) ∙ ap (λ (l : List ℕ). getD l (place s) 0) (words-are s (c .before .if1 .taken)))
+returns c = let t = c .before in let s = entry₃ (t .before) in stands s _ (words-are s (t .if1 .taken))
 
 returns-2 : tie.Need-returns-2
-unfolding elements
-returns-2 c =
-    let s = c .before .before .before .before .before .before .before in
-    c .word-at .ensures ∙ sym (strided-at _ _ _ (list s) _ (s .pre .1) ∙ ap (λ (l : List ℕ). getD l (place s) 0) (bytes-are s (c .before .if1 .left)))
+returns-2 c = let t = c .before in let s = entry₃ (t .before) in c .word-at .ensures ∙ stands s _ (bytes-are s (t .if1 .left))
 
 pub element-spec : {M : Type 1} → statement M
-element-spec = tie.close (tie.spec mul-at add-at mul-result shared-slice-read-result word-at-requires returns returns-2)
+element-spec =
+    tie.close
+    (tie.spec
+    mul-at
+    (λ c. record { fits = small (entry (c .before)) })
+    mul-result
+    shared-slice-read-result
+    word-at-requires
+    returns
+    returns-2)
