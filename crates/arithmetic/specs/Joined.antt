@@ -77,5 +77,6 @@ PlainField r f b =
 
 abbrev pub PlainFields : ℕ → spec.Format → ℕ → ℕ → Type 0
 PlainFields r f x y =
-    0 < r → (c : env.Settings) → (dec.isSubnormal f x ≡ false) × (dec.isSubnormal f y ≡ false) × (dec.isNan (dec.decode f x) ≡ false) × (dec.isNan (dec.decode f y) ≡ false)
+    0 < r → (c : env.Settings) → (dec.isSubnormal f x ≡ false) × (dec.isSubnormal f y ≡ false)
+    × (dec.isNan (dec.decode f x) ≡ false) × (dec.isNan (dec.decode f y) ≡ false)
     × (itemOf (terms.pairItem f c (x, y)) ≡ item.Top (fieldsTop f r))

@@ -7,7 +7,8 @@ use borrow.Author.Tests.{ne-eqb, eq-eqb}
 use Rattle.totals_spec.specs.Basics.{isSet}
 use Rattle.totals_spec.specs.Format as spec
 use Rattle.totals_spec.specs.Settings as env
-use Rattle.totals_spec.specs.Decode.{zeroOf, infinity, nan, number, topField, ones, decodeFields, isFinite, decode, isSubnormal, operand, signBit, fieldOf, fractionOf}
+use Rattle.totals_spec.specs.Decode.{zeroOf, infinity, nan, number, topField, ones, decodeFields, decode, operand}
+use Rattle.totals_spec.specs.Decode.{isFinite, isSubnormal, signBit, fieldOf, fractionOf}
 use Rattle.totals_spec.proofs.Valid.{and-left, and-right}
 use Rattle.binary.specs.Joined.{topOf, isBlank}
 use Rattle.binary.proofs.Cases.{number-zero}

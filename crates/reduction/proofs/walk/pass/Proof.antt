@@ -28,7 +28,9 @@ abbrev right : tie.Start → List ℕ
 right s = elements (s .args .k .source) (s .args .right-words .now) (s .args .right-bytes .now)
 
 abbrev PassedBy : tie.Start → Pass → Bool → Type 0
-PassedBy s r b = Passed (terms.terms (itemsOf b (formatOf (s .args .f)) (settingsOf (s .args .c)) (summandOf (s .args .k .summand)) (left s) (right s))) (s .args .w) r
+PassedBy s r b =
+    let a = s .args in
+    Passed (terms.terms (itemsOf b (formatOf (a .f)) (settingsOf (a .c)) (summandOf (a .k .summand)) (left s) (right s))) (a .w) r
 
 by : (s : tie.Start) (r : Pass) (b : Bool) → isDot (s .args .k) ≡ b → PassedBy s r b → PassedBy s r (isDot (s .args .k))
 by s r b e = subst (PassedBy s r) (sym e)
