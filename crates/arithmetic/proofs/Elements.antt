@@ -112,15 +112,12 @@ single-of (suc (suc n)) s b k m h g z e = absurd (two-le n h)
 
 -- ---- items, by the summand
 
-pub zero-item : (u : ℕ) (s b : Bool) → b ≡ (isValue (env.summandOf u) && s) → item.Zero b ≡ itemOf (terms.itemOf (env.summandOf u) (dec.zeroOf s))
-zero-item zero s b e = ap item.Zero e
-zero-item (suc zero) s b e = ap item.Zero e
-zero-item (suc (suc n)) s b e = ap item.Zero e
-
-pub infinite-item : (u : ℕ) (s b : Bool) → b ≡ (isValue (env.summandOf u) && s) → item.Infinite b ≡ itemOf (terms.itemOf (env.summandOf u) (dec.infinity s))
-infinite-item zero s b e = ap item.Infinite e
-infinite-item (suc zero) s b e = ap item.Infinite e
-infinite-item (suc (suc n)) s b e = ap item.Infinite e
+-- a zero, and an infinity
+pub signed-items : (u : ℕ) (s b : Bool) → b ≡ (isValue (env.summandOf u) && s)
+    → (item.Zero b ≡ itemOf (terms.itemOf (env.summandOf u) (dec.zeroOf s))) × (item.Infinite b ≡ itemOf (terms.itemOf (env.summandOf u) (dec.infinity s)))
+signed-items zero s b e = (ap item.Zero e, ap item.Infinite e)
+signed-items (suc zero) s b e = (ap item.Zero e, ap item.Infinite e)
+signed-items (suc (suc n)) s b e = (ap item.Zero e, ap item.Infinite e)
 
 pub nan-item : (u : ℕ) (s g : Bool) (m : ℕ) → item.Nan ≡ itemOf (terms.itemOf (env.summandOf u) (dec.nan s g m))
 nan-item zero s g m = refl

@@ -1,7 +1,7 @@
 -- `arithmetic::item_of` meets its contract.
 use Rattle.totals_spec.specs.Decode.{finite}
 use Rattle.arithmetic.specs.Joined.{Bounded}
-use Rattle.arithmetic.proofs.Elements.{zero-item, infinite-item, nan-item, single-item, square-item}
+use Rattle.arithmetic.proofs.Elements.{signed-items, nan-item, single-item, square-item}
 use borrow.Author.Needs.{needs}
 use Rattle.arithmetic.proofs.item_of.Statement.{statement}
 use Rattle.arithmetic.proofs.item_of.Tie as tie
@@ -17,7 +17,7 @@ top-of-product-requires : tie.Need-top-of-product-requires
 top-of-product-requires c κs = let b = bounded (c .before .before) in (b .0, b .0, b .1, b .1)
 
 returns : tie.Need-returns
-returns c = let v = c .before .before in rw (v .v .given .1) (zero-item (v .before .before .args .u) _ _ (c .summand-sign .ensures))
+returns c = let v = c .before .before in rw (v .v .given .1) (signed-items (v .before .before .args .u) _ _ (c .summand-sign .ensures) .0)
 
 returns-2 : tie.Need-returns-2
 returns-2 c =
@@ -32,7 +32,7 @@ returns-3 c =
     rw (v .v2 .given .1) (square-item (entry v .args .u) _ _ _ _ (t .if1 .left) (c .top-of-product .ensures))
 
 returns-4 : tie.Need-returns-4
-returns-4 c = let v = c .before .before in rw (v .v3 .given .1) (infinite-item (v .before .before .args .u) _ _ (c .summand-sign2 .ensures))
+returns-4 c = let v = c .before .before in rw (v .v3 .given .1) (signed-items (v .before .before .args .u) _ _ (c .summand-sign2 .ensures) .1)
 
 returns-5 : tie.Need-returns-5
 returns-5 c = rw (c .enum-told .given .1) (nan-item (c .before .before .args .u) _ _ _)
