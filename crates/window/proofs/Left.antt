@@ -20,7 +20,7 @@ use Rattle.totals_spec.specs.Totals.{sumRounded}
 use Rattle.exact.specs.declared.Unrounded.{Unrounded}
 use Rattle.exact.specs.declared.Rounded.{Rounded}
 use Rattle.exact.specs.Joined.{StandsAt, Stands, Rounds, roundedOf, RoundedOnce}
-use Rattle.window.specs.Joined.{outcomeOf, Deep, Bordered, EndsWith, Ended, Roundable, Leaves}
+use Rattle.window.specs.Joined.{outcomeBy, outcomeOf, Deep, Bordered, EndsWith, Ended, Roundable, Leaves}
 use Rattle.window.specs.declared.Chain.{Chain}
 use Rattle.window.specs.declared.ExactSum.{ExactSum}
 use Rattle.window.specs.declared.Outcome.{Outcome}
@@ -40,33 +40,29 @@ not-sticky v f t = true≢false (sym t ∙ f)
 
 -- the number itself, and a little more
 module _ (c : Chain) (v : Unrounded) where
-  plain : Parts v (c .negative) false (c .place) (c .whole) → Stands v (value (c .whole) * 2 ^ (c .place))
-  plain a = rw (a .1, a .2, a .3)
+  as-is : (o : Outcome) → settled (outcomeOf (End o c)) ≡ record { neg = c .negative; mag = value (c .whole) * 2 ^ (c .place) } → 0 < value (c .whole)
+      → Parts v (c .negative) false (c .place) (c .whole) → Leaves (End o c) v
+  as-is o e h a = record {
+    stands = rw (e, a .1, a .2, a .3) refl;
+    negative = rw e (a .0);
+    some = rw (a .3) h;
+    high = omega (arith, a .2);
+    low = omega (arith, a .2);
+    long = λ p k t. absurd (not-sticky v (a .1) t);
+  }
 
   pub zero-left : (o : Outcome) → o ≡ out.Zero → Roundable o (value (c .whole)) → Leaves (End o c) v
   zero-left o q h = absurd (subst (λ (z : Outcome). Roundable z (value (c .whole))) q h)
 
   pub exact-left : (o : Outcome) → o ≡ out.Exact → Roundable o (value (c .whole)) → Parts v (c .negative) false (c .place) (c .whole) → Leaves (End o c) v
   unfolding settled
-  exact-left o q h a = rw q (record {
-    stands = plain a;
-    negative = a .0;
-    some = subst (λ (l : List ℕ). 0 < value l) (sym (a .3)) (rw q at h);
-    high = omega (arith, a .2);
-    low = omega (arith, a .2);
-    long = λ p k t. absurd (not-sticky v (a .1) t);
-  })
+  exact-left o q h a = as-is o (ap (λ (z : Outcome). settled (outcomeBy z c)) q) (rw q at h) a
 
   pub on-left : (o : Outcome) → o ≡ out.On → Roundable o (value (c .whole)) → Parts v (c .negative) false (c .place) (c .whole) → Leaves (End o c) v
   unfolding settled
-  on-left o q h a = let g : Roundable out.On (value (c .whole)) = rw q at h in rw q (record {
-    stands = plain a;
-    negative = a .0;
-    some = subst (λ (l : List ℕ). 0 < value l) (sym (a .3)) (g .0);
-    high = omega (arith, a .2);
-    low = omega (arith, a .2);
-    long = λ p k t. absurd (not-sticky v (a .1) t);
-  })
+  on-left o q h a =
+      let g : Roundable out.On (value (c .whole)) = rw q at h in
+      as-is o (ap (λ (z : Outcome). settled (outcomeBy z c)) q) (g .0) a
 
   pub inexact-left : (o : Outcome) → o ≡ out.Inexact → Roundable o (value (c .whole)) → Parts v (c .negative) true (c .place) (c .whole) → 0 < c .place
       → Leaves (End o c) v
@@ -74,10 +70,10 @@ module _ (c : Chain) (v : Unrounded) where
   inexact-left o q h a d = rw q (record {
     stands = rw (a .1, a .2, a .3) (midway (value (c .whole)) (c .place) d);
     negative = a .0;
-    some = subst (λ (l : List ℕ). 0 < value l) (sym (a .3)) (rw q at h);
+    some = rw (a .3) (rw q at h);
     high = omega (arith, a .2);
     low = omega (arith, a .2);
-    long = λ p k t. subst (λ (l : List ℕ). 2 ^ suc p ≤ value l) (sym (a .3)) (le-trans (pow-mono (higher p)) (k .0));
+    long = λ p k t. rw (a .3) (le-trans (pow-mono (higher p)) (k .0));
   })
     where
       higher : (p : ℕ) → suc p ≤ p + 69
