@@ -23,7 +23,8 @@ u s = summandOf (s .args .u)
 item-of-requires : tie.Need-item-of-requires
 item-of-requires c κs =
     let o = c .before in
-    operand-bounded (form (o .before)) (o .before .pre) (env (o .before)) (o .before .args .b) _ (sym (o .operand .ensures .0))
+    let s = o .before in
+    operand-bounded (form s) (s .pre) (env s) (s .args .b) _ (sym (o .operand .ensures .0))
 
 returns : tie.Need-returns
 unfolding terms.item
