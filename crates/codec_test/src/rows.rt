@@ -30,7 +30,7 @@ ghost use mathlib.Core.Bool.{true};
 ghost use Prim.Native.Nat.{suc, _^_, _<_, _≤_};
 ghost use Rattle.limbs.specs.Value.{value};
 ghost use Rattle.totals_spec.specs.Format as spec;
-ghost use Rattle.totals_spec.specs.Bounds.{FormatBounds};
+ghost use Rattle.totals_spec.specs.Bounds.{FormatBounds, RangeBounds};
 ghost use Rattle.format.specs.Joined.{formatOf};
 ghost use Rattle.format.specs.Fits.{Encodes};
 ghost use Rattle.binary.specs.Joined.{nanOf};
@@ -290,7 +290,7 @@ pub fn round_row(s: &[u8]) -> u64
 }
 
 fn widths(f: Format, s: &[u8]) -> u64
-    requires { ⌜ FormatBounds (formatOf f) ⌝ }
+    requires { ⌜ RangeBounds (formatOf f) ⌝ }
     ensures { λ r. ⌜ r ≤ 7 ⌝ }
 {
     let mut agreed = agrees(bias(f), number(s, 8, 8));

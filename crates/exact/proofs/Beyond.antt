@@ -8,7 +8,7 @@ use lib.Dec.{leb, eqb}
 use lib.Pow.{pow-pos, pow-mono}
 use lib.Ieee.{size}
 use borrow.Author.Tests.{eq-eqb, le-leb, lt-leb, ne-eqb}
-use Rattle.totals_spec.specs.Bounds.{FormatBounds}
+use Rattle.totals_spec.specs.Bounds.{RangeBounds}
 use Rattle.totals_spec.specs.Format.{Format, Kind, ieee, noInf, fnuz, finiteOnly, rangeOf, kindOf, digits, emaxAt, exponentRange}
 use Rattle.totals_spec.specs.Settings.{Settings, roundingOf}
 use Rattle.totals_spec.specs.Decode.{Unpacked, finite, infinity, nan}
@@ -18,7 +18,7 @@ use Rattle.exact.proofs.Rules.{set-on}
 
 -- ---- the exponent range
 
-pub range-pos : (f : Format) → FormatBounds f → 1 ≤ exponentRange f
+pub range-pos : (f : Format) → RangeBounds f → 1 ≤ exponentRange f
 unfolding exponentRange
 range-pos f b = go (kindOf (f .kind))
   where
@@ -32,7 +32,7 @@ range-pos f b = go (kindOf (f .kind))
     go finiteOnly = omega (arith, four)
 
 -- an exponent field holds it
-pub range-fits : (f : Format) → FormatBounds f → exponentRange f + 1 < 2 ^ f .E
+pub range-fits : (f : Format) → RangeBounds f → exponentRange f + 1 < 2 ^ f .E
 unfolding exponentRange
 range-fits f b = go (kindOf (f .kind))
   where

@@ -11,7 +11,7 @@ use lib.Ieee.Digits.{size-lt, size-reaches, size-le}
 use borrow.Author.Tests.{eq-eqb, lt-ltb, le-ltb, lt-leb, ne-eqb}
 use Rattle.totals_spec.proofs.Same.{ltb-size}
 use Rattle.totals_spec.specs.Basics.{flag, isSet}
-use Rattle.totals_spec.specs.Bounds.{FormatBounds}
+use Rattle.totals_spec.specs.Bounds.{RangeBounds}
 use Rattle.totals_spec.specs.Format.{Format, kindOf, digits, eminAt, emaxAt}
 use Rattle.totals_spec.specs.Settings.{Settings, roundingOf, precisionOf}
 use Rattle.totals_spec.specs.Decode.{zeroOf, finite}
@@ -121,7 +121,7 @@ number-normal f g s k q l q0 qp sz h =
 
 -- ---- below emin: the digits down to u = g + (p − q)
 
-over-small : (f : Format) (q g y : ℕ) → FormatBounds f → y ≤ 2 ^ eminAt f g → overflows f q g y ≡ false
+over-small : (f : Format) (q g y : ℕ) → RangeBounds f → y ≤ 2 ^ eminAt f g → overflows f q g y ≡ false
 unfolding overflows
 over-small f q g y b h =
     rw
@@ -172,7 +172,7 @@ number-small f g s (suc k) q q0 qp h =
 place-small : (g p n q : ℕ) → n ≤ g + (p - 1) → 1 ≤ q → q ≤ p → max (g + (p - 1)) (n - 1) + 1 - q ≡ g + (p - q)
 place-small g p n q h q0 qp = omega arith
 
-module _ (f : Format) (c : Settings) (g : ℕ) (s : Bool) (x q n : ℕ) (b : FormatBounds f) (q0 : 1 ≤ q) (qp : q ≤ digits f) (sz : size x ≡ n)
+module _ (f : Format) (c : Settings) (g : ℕ) (s : Bool) (x q n : ℕ) (b : RangeBounds f) (q0 : 1 ≤ q) (qp : q ≤ digits f) (sz : size x ≡ n)
     (low : n ≤ eminAt f g) where
   pub kept-small : x / 2 ^ (g + (digits f - q)) < 2 ^ (q - 1)
   kept-small = shr-lt (q - 1) (g + (digits f - q)) (lt-of-lt-of-le (size-lt x) (pow-mono (subst (λ (z : ℕ). z ≤ q - 1 + (g + (digits f - q))) (sym sz) sum)))

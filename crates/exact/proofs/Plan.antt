@@ -60,7 +60,7 @@ module _ {v : Unrounded} {end q : ℕ} (M : Measured v end q) where
 module _ {f : Format} {c : Settings} {g : ℕ} {v : Unrounded} {end : ℕ} (B : EndsAt f c g v end)
     {q : ℕ} (Q : (q ≡ precisionOf f c) × (1 ≤ q) × (q ≤ digits f)) where
   p-most : digits f ≤ 64
-  p-most = omega (arith, B .rounds .format .w-le)
+  p-most = omega (arith, B .rounds .format .p-le)
 
   sticky-long : v .sticky ≡ true → suc (digits f) < bitLength (value (v .significand))
   sticky-long t = size-above (value (v .significand)) (suc (digits f)) (B .rounds .long t)

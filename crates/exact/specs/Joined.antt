@@ -6,7 +6,7 @@ use lib.Dec.{eqb}
 use Rattle.limbs.specs.Value.{value, bitLength}
 use Rattle.totals_spec.specs.Basics.{flag}
 use Rattle.totals_spec.specs.Format as spec
-use Rattle.totals_spec.specs.Bounds.{FormatBounds, SettingsBounds}
+use Rattle.totals_spec.specs.Bounds.{RangeBounds, SettingsBounds}
 use Rattle.totals_spec.specs.Settings as env
 use Rattle.totals_spec.specs.Round as round
 use Rattle.totals_spec.specs.Decode as dec
@@ -79,7 +79,7 @@ pub record RoundedTo (m : env.Rounding) (v : Unrounded) (end q : ℕ) (d : Digit
 
 -- a value that can be rounded: not zero, with two digits more than are kept where it has a sticky bit, and far enough above the unit
 pub record Rounds (f : spec.Format) (c : env.Settings) (g : ℕ) (v : Unrounded) : Type 0 where
-  pub format : FormatBounds f
+  pub format : RangeBounds f
   pub settings : SettingsBounds f c
   pub some : 0 < value (v .significand)
   pub high : 64 ≤ v .position

@@ -27,7 +27,7 @@ ghost use Prim.Native.Nat.{ℕ, _+_, _-_, _*_, _/_, _%_, _^_, _<_, _≤_};
 ghost use lib.Dec.{eqb, leb};
 ghost use Rattle.limbs.specs.Value.{value, bitLength};
 ghost use Rattle.totals_spec.specs.Basics as basics;
-ghost use Rattle.totals_spec.specs.Bounds.{FormatBounds};
+ghost use Rattle.totals_spec.specs.Bounds.{RangeBounds};
 ghost use Rattle.totals_spec.specs.Format as spec;
 ghost use Rattle.totals_spec.specs.Settings as env;
 ghost use Rattle.totals_spec.specs.Round as round;
@@ -134,7 +134,7 @@ fn first_digits(rounding: u64, v: Unrounded, end: u64, q: u64) -> Digits
 
 // Whether q digits, kept * 2^lowest, are above the largest finite number. In NoInf the largest pattern of all is the NaN.
 fn overflows(f: Format, q: u64, g: u64, kept: u64, lowest: u64) -> bool
-    requires { ⌜ FormatBounds (formatOf f) × (g < 2 ^ 62) × (lowest < 2 ^ 63) ⌝ }
+    requires { ⌜ RangeBounds (formatOf f) × (g < 2 ^ 62) × (lowest < 2 ^ 63) ⌝ }
     requires { ⌜ (1 ≤ q) × (q ≤ spec.digits (formatOf f)) × (bitLength kept ≡ q) ⌝ }
     ensures { λ r. ⌜ r ≡ round.overflows (formatOf f) q g (kept * 2 ^ lowest) ⌝ }
 {
@@ -157,7 +157,7 @@ fn overflows(f: Format, q: u64, g: u64, kept: u64, lowest: u64) -> bool
 
 // The largest finite number of q digits.
 fn largest(f: Format, q: u64, negative: bool) -> Unpacked
-    requires { ⌜ FormatBounds (formatOf f) × (1 ≤ q) × (q ≤ spec.digits (formatOf f)) ⌝ }
+    requires { ⌜ RangeBounds (formatOf f) × (1 ≤ q) × (q ≤ spec.digits (formatOf f)) ⌝ }
     ensures { λ r. ⌜ (unpackedOf r ≡ round.largest (formatOf f) q negative) × Encodes (formatOf f) (unpackedOf r) ⌝ }
 {
     let p = digits(f);
@@ -186,7 +186,7 @@ const OVERFLOWED_UP: u64 = OVERFLOWED + ROUNDED_UP;
 // What an overflow gives: an infinity or, in a kind without one, the NaN; the largest number where the mode or `saturate` says so, and in a
 // kind that has neither. Only the infinity is above the exact value.
 fn overflow(f: Format, c: Settings, q: u64, negative: bool) -> Rounded
-    requires { ⌜ FormatBounds (formatOf f) × (1 ≤ q) × (q ≤ spec.digits (formatOf f)) ⌝ }
+    requires { ⌜ RangeBounds (formatOf f) × (1 ≤ q) × (q ≤ spec.digits (formatOf f)) ⌝ }
     ensures { λ r. ⌜ (roundedOf r ≡ round.overflow (formatOf f) (settingsOf c) q negative) × Encodes (formatOf f) (unpackedOf (r .value)) × (r .flags < 128) ⌝ }
 {
     let most = Rounded {

@@ -1,7 +1,7 @@
 // Settings, as the numbers that a caller gives, and the flags that an answer bears.
 use crate::Format;
 use crate::digits;
-ghost use Rattle.totals_spec.specs.Bounds.{FormatBounds, SettingsBounds};
+ghost use Rattle.totals_spec.specs.Bounds.{RangeBounds, SettingsBounds};
 ghost use mathlib.Core.Path.{_≡_};
 ghost use Prim.Native.Nat.{_≤_};
 ghost use Rattle.totals_spec.specs.Basics as basics;
@@ -48,7 +48,7 @@ pub struct Settings {
 
 // Refusal 4 is the failure of this, or a summand above 2.
 pub fn valid_settings(f: Format, c: Settings) -> bool
-    requires { ⌜ FormatBounds (formatOf f) ⌝ }
+    requires { ⌜ RangeBounds (formatOf f) ⌝ }
     ensures { λ r. ⌜ r ≡ env.validSettings (formatOf f) (settingsOf c) ⌝ }
 {
     if c.rounding > 7 {
@@ -77,7 +77,7 @@ pub fn valid_settings(f: Format, c: Settings) -> bool
 
 // q: the precision set, else p.
 pub fn precision_within(f: Format, c: Settings) -> u64
-    requires { ⌜ FormatBounds (formatOf f) × SettingsBounds (formatOf f) (settingsOf c) ⌝ }
+    requires { ⌜ RangeBounds (formatOf f) × SettingsBounds (formatOf f) (settingsOf c) ⌝ }
     ensures { λ r. ⌜ (r ≡ env.precisionOf (formatOf f) (settingsOf c)) × (1 ≤ r) × (r ≤ spec.digits (formatOf f)) ⌝ }
 {
     if c.precision == 0 {

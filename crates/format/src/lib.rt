@@ -4,7 +4,7 @@ pub mod env;
 pub mod unpacked;
 
 use limbs::word::power;
-ghost use Rattle.totals_spec.specs.Bounds.{FormatBounds};
+ghost use Rattle.totals_spec.specs.Bounds.{RangeBounds};
 ghost use mathlib.Core.Path.{_≡_};
 ghost use Prim.Native.Nat.{_-_, _*_, _^_, _<_, _≤_};
 ghost use Rattle.totals_spec.specs.Format as spec;
@@ -41,7 +41,7 @@ pub fn valid_format(f: Format) -> bool
 
 // p, the digits of a significand.
 pub fn digits(f: Format) -> u64
-    requires { ⌜ FormatBounds (formatOf f) ⌝ }
+    requires { ⌜ RangeBounds (formatOf f) ⌝ }
     ensures { λ r. ⌜ r ≡ spec.digits (formatOf f) ⌝ }
 {
     f.width - f.exponent_bits
@@ -49,7 +49,7 @@ pub fn digits(f: Format) -> u64
 
 // The width of the fraction field.
 pub fn fraction_bits(f: Format) -> u64
-    requires { ⌜ FormatBounds (formatOf f) ⌝ }
+    requires { ⌜ RangeBounds (formatOf f) ⌝ }
     ensures { λ r. ⌜ r ≡ spec.fractionBits (formatOf f) ⌝ }
 {
     f.width - f.exponent_bits - 1
@@ -57,14 +57,14 @@ pub fn fraction_bits(f: Format) -> u64
 
 // The largest exponent field: all ones.
 pub fn field_max(f: Format) -> u64
-    requires { ⌜ FormatBounds (formatOf f) ⌝ }
+    requires { ⌜ RangeBounds (formatOf f) ⌝ }
     ensures { λ r. ⌜ (r ≡ 2 ^ (f .«exponent_bits») - 1) × (r < 2 ^ (f .«exponent_bits»)) ⌝ }
 {
     power(f.exponent_bits) - 1
 }
 
 pub fn bias(f: Format) -> u64
-    requires { ⌜ FormatBounds (formatOf f) ⌝ }
+    requires { ⌜ RangeBounds (formatOf f) ⌝ }
     ensures { λ r. ⌜ (r ≡ spec.bias (formatOf f)) × (r ≤ 134217728) ⌝ }
 {
     let half = power(f.exponent_bits - 1);
@@ -73,7 +73,7 @@ pub fn bias(f: Format) -> u64
 
 // emax - emin
 pub fn exponent_range(f: Format) -> u64
-    requires { ⌜ FormatBounds (formatOf f) ⌝ }
+    requires { ⌜ RangeBounds (formatOf f) ⌝ }
     ensures { λ r. ⌜ (r ≡ spec.exponentRange (formatOf f)) × (r < 268435456) ⌝ }
 {
     let whole = power(f.exponent_bits);
@@ -82,7 +82,7 @@ pub fn exponent_range(f: Format) -> u64
 
 // The least non-zero number is 2^-depth.
 pub fn depth(f: Format) -> u64
-    requires { ⌜ FormatBounds (formatOf f) ⌝ }
+    requires { ⌜ RangeBounds (formatOf f) ⌝ }
     ensures { λ r. ⌜ (r ≡ spec.depth (formatOf f)) × (r < 268435456) ⌝ }
 {
     bias(f) + digits(f) - 2
@@ -90,7 +90,7 @@ pub fn depth(f: Format) -> u64
 
 // The position of the bit worth 1, in the units of a sum or of a sum of products.
 pub fn origin(f: Format, products: bool) -> u64
-    requires { ⌜ FormatBounds (formatOf f) ⌝ }
+    requires { ⌜ RangeBounds (formatOf f) ⌝ }
     ensures { λ r. ⌜ (r ≡ spec.origin (formatOf f) products) × (r < 1073741824) ⌝ }
 {
     let d = depth(f);
@@ -99,7 +99,7 @@ pub fn origin(f: Format, products: bool) -> u64
 
 // The position of the least non-zero number.
 pub fn grid(f: Format, products: bool) -> u64
-    requires { ⌜ FormatBounds (formatOf f) ⌝ }
+    requires { ⌜ RangeBounds (formatOf f) ⌝ }
     ensures { λ r. ⌜ (r ≡ spec.grid (formatOf f) products) × (r < 1073741824) ⌝ }
 {
     if products { ROOM + depth(f) } else { ROOM }
@@ -107,7 +107,7 @@ pub fn grid(f: Format, products: bool) -> u64
 
 // The position of the highest bit of the least normal number, from the grid's.
 pub fn emin(f: Format, g: u64) -> u64
-    requires { ⌜ FormatBounds (formatOf f) × (g < 2 ^ 62) ⌝ }
+    requires { ⌜ RangeBounds (formatOf f) × (g < 2 ^ 62) ⌝ }
     ensures { λ r. ⌜ r ≡ spec.eminAt (formatOf f) g ⌝ }
 {
     g + (digits(f) - 1)
@@ -115,7 +115,7 @@ pub fn emin(f: Format, g: u64) -> u64
 
 // The position of the highest bit of the largest number.
 pub fn emax(f: Format, g: u64) -> u64
-    requires { ⌜ FormatBounds (formatOf f) × (g < 2 ^ 62) ⌝ }
+    requires { ⌜ RangeBounds (formatOf f) × (g < 2 ^ 62) ⌝ }
     ensures { λ r. ⌜ r ≡ spec.emaxAt (formatOf f) g ⌝ }
 {
     emin(f, g) + exponent_range(f)

@@ -20,7 +20,7 @@ ghost use lib.IntN.{subℕ};
 ghost use Rattle.totals_spec.specs.Format as spec;
 ghost use Rattle.totals_spec.specs.Totals as totals;
 ghost use Rattle.totals_spec.specs.Settled as settled;
-ghost use Rattle.totals_spec.specs.Bounds.{FormatBounds, SettingsBounds};
+ghost use Rattle.totals_spec.specs.Bounds.{FormatBounds, RangeBounds, SettingsBounds};
 ghost use Rattle.format.specs.Joined.{formatOf, settingsOf, unpackedOf};
 ghost use Rattle.format.specs.Fits.{Encodes};
 ghost use Rattle.window.specs.Joined.{outcomeOf, runOf, Ended};
@@ -68,7 +68,7 @@ pub fn special(f: Format, subnormal: bool, v: Unpacked, invalid: bool) -> Answer
 
 // The exact sum, rounded once. Terms that cancel give a zero.
 fn round_sum(f: Format, c: Settings, products: bool, e: ExactSum) -> Rounded
-    requires { ⌜ FormatBounds (formatOf f) × SettingsBounds (formatOf f) (settingsOf c) × Ended (spec.digits (formatOf f)) e ⌝ }
+    requires { ⌜ RangeBounds (formatOf f) × SettingsBounds (formatOf f) (settingsOf c) × Ended (spec.digits (formatOf f)) e ⌝ }
     ensures { λ r. ⌜ RoundedSum (formatOf f) (settingsOf c) products (settled.settled (outcomeOf e)) r ⌝ }
 {
     let o = e.outcome;

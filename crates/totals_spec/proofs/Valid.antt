@@ -25,12 +25,18 @@ format-bounds f t =
     let t3 = and-left (k && a && b && c) d t in
     let t2 = and-left (k && a && b) c t3 in
     let t1 = and-left (k && a) b t2 in
+    let kind = leb→le (f .kind) 3 (and-left k a t1) in
+    let least = leb→le 2 (f .E) (and-right k a t1) in
+    let most = leb→le (f .E) 28 (and-right (k && a) b t2) in
+    let wide = leb→le (f .E + 2) (f .W) (and-right (k && a && b) c t3) in
+    let narrow = leb→le (f .W) 64 (and-right (k && a && b && c) d t) in
     record {
-      kind-le = leb→le (f .kind) 3 (and-left k a t1);
-      e-ge = leb→le 2 (f .E) (and-right k a t1);
-      e-le = leb→le (f .E) 28 (and-right (k && a) b t2);
-      w-ge = leb→le (f .E + 2) (f .W) (and-right (k && a && b) c t3);
-      w-le = leb→le (f .W) 64 (and-right (k && a && b && c) d t);
+      kind-le = kind;
+      e-ge = least;
+      e-le = most;
+      w-ge = wide;
+      w-le = narrow;
+      range = record { kind-le = kind; e-ge = least; e-le = most; w-ge = wide; p-le = omega (arith, narrow) };
     }
 
 pub digits-le : (f : Format) → T (validFormat f) → digits f ≤ 62

@@ -3,12 +3,21 @@ use Prim.Native.Nat.{_+_, _≤_}
 use Rattle.totals_spec.specs.Format.{Format, digits}
 use Rattle.totals_spec.specs.Settings.{Settings}
 
+-- what the arithmetic asks of a format: at most 64 digits
+pub record RangeBounds (f : Format) : Type 0 where
+  pub kind-le : f .kind ≤ 3
+  pub e-ge : 2 ≤ f .E
+  pub e-le : f .E ≤ 28
+  pub w-ge : f .E + 2 ≤ f .W
+  pub p-le : f .W ≤ f .E + 64
+
 pub record FormatBounds (f : Format) : Type 0 where
   pub kind-le : f .kind ≤ 3
   pub e-ge : 2 ≤ f .E
   pub e-le : f .E ≤ 28
   pub w-ge : f .E + 2 ≤ f .W
   pub w-le : f .W ≤ 64
+  pub range : RangeBounds f
 
 pub record SettingsBounds (f : Format) (c : Settings) : Type 0 where
   pub rounding-le : c .rounding ≤ 7

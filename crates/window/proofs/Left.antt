@@ -13,7 +13,7 @@ use denote.Enum.Declared.{tagOf}
 use Rattle.limbs.specs.Value.{value}
 use Rattle.totals_spec.specs.Format.{Format, digits}
 use Rattle.totals_spec.specs.Settings.{Settings}
-use Rattle.totals_spec.specs.Bounds.{FormatBounds, SettingsBounds}
+use Rattle.totals_spec.specs.Bounds.{RangeBounds, SettingsBounds}
 use Rattle.totals_spec.specs.Settled.{settled}
 use Rattle.totals_spec.specs.Round.{round}
 use Rattle.totals_spec.specs.Totals.{sumRounded}
@@ -190,7 +190,7 @@ leaves-sum f c g towards e v r l o =
     ∙ sym (rw (ne-eqb (settled (outcomeOf e) .mag) 0 (leaves-some e v l)))
 
 -- what `round` requires of its value
-pub leaves-rounds : (f : Format) (c : Settings) (g : ℕ) (e : ExactSum) (v : Unrounded) → FormatBounds f → SettingsBounds f c → g < 2 ^ 62
+pub leaves-rounds : (f : Format) (c : Settings) (g : ℕ) (e : ExactSum) (v : Unrounded) → RangeBounds f → SettingsBounds f c → g < 2 ^ 62
     → Ended (digits f) e → (e .outcome ≡ out.Zero → ⊥) → Leaves e v → Rounds f c g v
 leaves-rounds f c g e v b t k h n l =
     let d = deep-of (e .outcome) (digits f) (value (e .chain .whole)) (e .chain .place) n (h .ends) in

@@ -50,7 +50,7 @@ scaled-requires c κs =
     let s = c .before .before in (
       omega arith,
       rw (c .ones .ensures, c .before .digits .ensures)
-          (ones-fit (s .args .q) (digits (form s)) (s .pre .1) (s .pre .2) (omega (arith, s .pre .0 .w-le))),
+          (ones-fit (s .args .q) (digits (form s)) (s .pre .1) (s .pre .2) (omega (arith, s .pre .0 .p-le))),
     )
 
 sub-t11 : tie.Need-sub-t11

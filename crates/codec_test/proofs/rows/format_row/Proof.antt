@@ -5,7 +5,7 @@ use Rattle.codec_test.proofs.rows.format_row.Statement.{statement}
 use Rattle.codec_test.proofs.rows.format_row.Tie as tie
 
 widths-requires : tie.Need-widths-requires
-widths-requires c κs = bounded (c .before .valid-format .ensures) (c .if1 .taken)
+widths-requires c κs = bounded (c .before .valid-format .ensures) (c .if1 .taken) .range
 
 pub format-row-spec : {M : Type 1} → statement M
 format-row-spec =

@@ -5,7 +5,7 @@ use Rattle.codec_test.proofs.rows.offered.Statement.{statement}
 use Rattle.codec_test.proofs.rows.offered.Tie as tie
 
 valid-settings-requires : tie.Need-valid-settings-requires
-valid-settings-requires c κs = bounded (c .before .valid-format .ensures) (c .if1 .taken)
+valid-settings-requires c κs = bounded (c .before .valid-format .ensures) (c .if1 .taken) .range
 
 pub offered-spec : {M : Type 1} → statement M
 offered-spec =

@@ -20,7 +20,7 @@ round-requires c κs =
     let o = k .before .before in
     let s = o .before .before in
     record {
-      format = s .pre .0;
+      format = s .pre .0 .range;
       settings = settled (o .before .valid-settings .ensures) (not-false _ (o .if1 .left));
       some = some (value (s .args .v .significand)) (sym (z .before .is-zero .ensures) ∙ z .if4 .left);
       high = k .if2 .left;

@@ -32,7 +32,7 @@ some g = not-zero _ (g .before .match .keys2)
 near-boundary-requires : tie.Need-near-boundary-requires
 near-boundary-requires c κs =
     let s = entry c in
-    ended-roundable (digits (form s)) (s .args .e) (omega (arith, s .pre .0 .e-ge, s .pre .0 .w-le)) (some c) (s .pre .2)
+    ended-roundable (digits (form s)) (s .args .e) (omega (arith, s .pre .0 .e-ge, s .pre .0 .p-le)) (some c) (s .pre .2)
 
 round-requires : tie.Need-round-requires
 round-requires c κs =

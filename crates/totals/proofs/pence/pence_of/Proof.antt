@@ -55,7 +55,7 @@ returns-2 c =
     c .refused2 .ensures ∙ stray-bit _ _ (valid (g .before)) (stray-is _ _ _ (g .greatest .ensures) (c .before .if2 .taken))
 
 depth-requires : tie.Need-depth-requires
-depth-requires c κs = bounds (first c)
+depth-requires c κs = bounds (first c) .range
 
 decode-requires : tie.Need-decode-requires
 decode-requires c κs = bounds (first (c .before))

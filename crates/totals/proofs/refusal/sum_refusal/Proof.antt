@@ -40,7 +40,7 @@ unfolding sumNumbers
 returns c = rw (sym (c .before .valid-format .ensures) ∙ not-true _ (c .if1 .taken))
 
 valid-settings-requires : tie.Need-valid-settings-requires
-valid-settings-requires c κs = format-bounds _ (T-of (format c))
+valid-settings-requires c κs = format-bounds _ (T-of (format c)) .range
 
 returns-2 : tie.Need-returns-2
 unfolding sumNumbers
