@@ -80,10 +80,10 @@ static int untouched_from(size_t at)
     return 1;
 }
 
-/* The whole buffer after an accepted call; the flags' word shows the zeros in 9..15. */
-static int holds(uint64_t result, uint64_t flags, uint64_t passes)
+/* The whole buffer after an accepted call; the flags' word shows the side in byte 10 and the zeros beside it. */
+static int holds(uint64_t result, uint64_t flags, uint64_t passes, uint64_t side)
 {
-    return word(0) == result && word(8) == flags && word(16) == passes && untouched_from(TOTALS_ANSWER_BYTES);
+    return word(0) == result && word(8) == flags + (side << 16) && word(16) == passes && untouched_from(TOTALS_ANSWER_BYTES);
 }
 
 static uint64_t sum(uint64_t rounding, uint64_t summand, const double *list, size_t n)
@@ -117,20 +117,20 @@ static void accepted(void)
     const double left[2] = {1.5, 2}, right[2] = {2, 0.25};
     const uint64_t half[2] = {0x3c00, 0x3800};
 
-    CHECK(sum(TOTALS_TIES_TO_EVEN, TOTALS_VALUE, cancelling, 0) == 0 && holds(0, 0, 0));
-    CHECK(sum(TOTALS_TOWARD_NEGATIVE, TOTALS_VALUE, zeros, 2) == 0 && holds(0x8000000000000000, 0, 0));
-    CHECK(sum(TOTALS_TIES_TO_EVEN, TOTALS_VALUE, cancelling, 3) == 0 && holds(0x3ff0000000000000, 0, 2));
+    CHECK(sum(TOTALS_TIES_TO_EVEN, TOTALS_VALUE, cancelling, 0) == 0 && holds(0, 0, 0, TOTALS_EQUAL));
+    CHECK(sum(TOTALS_TOWARD_NEGATIVE, TOTALS_VALUE, zeros, 2) == 0 && holds(0x8000000000000000, 0, 0, TOTALS_EQUAL));
+    CHECK(sum(TOTALS_TIES_TO_EVEN, TOTALS_VALUE, cancelling, 3) == 0 && holds(0x3ff0000000000000, 0, 2, TOTALS_EQUAL));
     CHECK(sum(TOTALS_TIES_TO_EVEN, TOTALS_VALUE, above, 3) == 0
-          && holds(0x3ff0000000000001, TOTALS_INEXACT + TOTALS_ROUNDED_UP, 2));
+          && holds(0x3ff0000000000001, TOTALS_INEXACT + TOTALS_ROUNDED_UP, 2, TOTALS_ABOVE));
     CHECK(sum(TOTALS_TIES_TO_EVEN, TOTALS_VALUE, largest, 2) == 0
-          && holds(0x7ff0000000000000, TOTALS_OVERFLOW + TOTALS_INEXACT + TOTALS_ROUNDED_UP, 1));
+          && holds(0x7ff0000000000000, TOTALS_OVERFLOW + TOTALS_INEXACT + TOTALS_ROUNDED_UP, 1, TOTALS_NO_COMPARISON));
     CHECK(sum(TOTALS_TOWARD_ZERO, TOTALS_VALUE, largest, 2) == 0
-          && holds(0x7fefffffffffffff, TOTALS_OVERFLOW + TOTALS_INEXACT, 1));
+          && holds(0x7fefffffffffffff, TOTALS_OVERFLOW + TOTALS_INEXACT, 1, TOTALS_BELOW));
     CHECK(sum(TOTALS_TIES_TO_EVEN, TOTALS_SQUARE, small, 1) == 0
-          && holds(0, TOTALS_UNDERFLOW + TOTALS_INEXACT + TOTALS_TINY, 1));
-    CHECK(sum(TOTALS_TIES_TO_EVEN, TOTALS_MAGNITUDE, cancelling + 1, 1) == 0 && holds(0x3ff0000000000000, 0, 1));
-    CHECK(dot(left, 2, right, 2) == 0 && holds(0x400c000000000000, 0, 1));
-    CHECK(halves(half, 2) == 0 && holds(0x3e00, 0, 1));
+          && holds(0, TOTALS_UNDERFLOW + TOTALS_INEXACT + TOTALS_TINY, 1, TOTALS_BELOW));
+    CHECK(sum(TOTALS_TIES_TO_EVEN, TOTALS_MAGNITUDE, cancelling + 1, 1) == 0 && holds(0x3ff0000000000000, 0, 1, TOTALS_EQUAL));
+    CHECK(dot(left, 2, right, 2) == 0 && holds(0x400c000000000000, 0, 1, TOTALS_EQUAL));
+    CHECK(halves(half, 2) == 0 && holds(0x3e00, 0, 1, TOTALS_EQUAL));
 }
 
 /* A refused call returns its number and leaves the buffer as it was. */
@@ -160,7 +160,7 @@ static void formats(void)
         const uint64_t list[2] = {one, one}; \
         clear(); \
         CHECK(totals_sum(format, TOTALS_DEFAULTS, TOTALS_VALUE, (const uint8_t *)list, sizeof list, answer, ROOM) == 0); \
-        CHECK(holds(two, 0, 1)); \
+        CHECK(holds(two, 0, 1, TOTALS_EQUAL)); \
     } while (0)
     TWO(TOTALS_BINARY64, 0x3ff0000000000000, 0x4000000000000000);
     TWO(TOTALS_BINARY32, 0x3f800000, 0x40000000);
@@ -178,7 +178,8 @@ static void formats(void)
 
 /* A record in which nothing is set but the refusal and its place. */
 #define REFUSED(record, number, at) \
-    ((record).refusal == (number) && (record).place == (at) && (record).result == 0 && (record).flags == 0 && (record).passes == 0)
+    ((record).refusal == (number) && (record).place == (at) && (record).result == 0 && (record).flags == 0 && (record).passes == 0 \
+     && (record).side == TOTALS_EQUAL)
 
 static void doubles(void)
 {
@@ -190,11 +191,13 @@ static void doubles(void)
 
     CHECK(record.refusal == TOTALS_ACCEPTED && record.place == 0);
     CHECK(record.result == 1 && record.bits == 0x3ff0000000000000 && record.flags == 0 && record.passes == 2);
+    CHECK(record.side == TOTALS_EQUAL);
     record = totals_sum_double(above, 3, &settings);
     CHECK(record.bits == 0x3ff0000000000001 && record.flags == TOTALS_INEXACT + TOTALS_ROUNDED_UP && record.passes == 2);
+    CHECK(record.side == TOTALS_ABOVE);
     settings.rounding = TOTALS_TOWARD_ZERO;
     record = totals_sum_double(above, 3, &settings);
-    CHECK(record.result == 1 && record.flags == TOTALS_INEXACT);
+    CHECK(record.result == 1 && record.flags == TOTALS_INEXACT && record.side == TOTALS_BELOW);
     CHECK(totals_magnitude_sum_double(left, 2, NULL).result == 3.5);
     CHECK(totals_square_sum_double(left, 2, NULL).result == 6.25);
     CHECK(totals_dot_double(left, 2, right, 2, NULL).result == 2.5);
@@ -224,10 +227,10 @@ static void floats(void)
     CHECK(record.refusal == TOTALS_ACCEPTED && record.place == 0);
     CHECK(record.result == 1 && record.bits == 0x3f800000 && record.flags == 0 && record.passes == 1);
     record = totals_sum_float(list, 2, NULL);
-    CHECK(record.result == 16777216 && record.flags == TOTALS_INEXACT);
+    CHECK(record.result == 16777216 && record.flags == TOTALS_INEXACT && record.side == TOTALS_BELOW);
     settings.rounding = TOTALS_TOWARD_POSITIVE;
     record = totals_sum_float(list, 2, &settings);
-    CHECK(record.result == 16777218 && record.flags == TOTALS_INEXACT + TOTALS_ROUNDED_UP);
+    CHECK(record.result == 16777218 && record.flags == TOTALS_INEXACT + TOTALS_ROUNDED_UP && record.side == TOTALS_ABOVE);
     CHECK(totals_magnitude_sum_float(left, 2, NULL).result == 3.5f);
     CHECK(totals_square_sum_float(left, 2, NULL).result == 6.25f);
     CHECK(totals_dot_float(left, 2, right, 2, NULL).result == 2.5f);
@@ -254,9 +257,11 @@ static void words(void)
 {
     const totals_format half = {TOTALS_BINARY16}, none = {TOTALS_IEEE, 11, 12};
     const uint64_t list[2] = {0x3c00, 0x3800}, stray[3] = {1, 0x10000, 0x20000}, fits[3] = {1, 2, 3}, wide[3] = {0x10000, 1, 0x10000};
+    const uint64_t largest[2] = {0x7bff, 0x7bff};
     totals_record record = totals_sum_words(half, TOTALS_VALUE, list, 2, NULL);
 
     CHECK(record.refusal == TOTALS_ACCEPTED && record.result == 0x3e00 && record.flags == 0 && record.passes == 1);
+    CHECK(record.side == TOTALS_EQUAL && totals_sum_words(half, TOTALS_VALUE, largest, 2, NULL).side == TOTALS_NO_COMPARISON);
     CHECK(totals_sum_words(half, TOTALS_SQUARE, list, 2, NULL).result == 0x3d00);
     CHECK(totals_dot_words(half, list, 2, list, 2, NULL).result == 0x3d00);
     CHECK(REFUSED(totals_sum_words(half, TOTALS_VALUE, stray, 3, NULL), TOTALS_STRAY_BIT, 1));

@@ -130,6 +130,14 @@ enum {
     TOTALS_SUBNORMAL_INPUT = 128 /* a value of the list is subnormal */
 };
 
+/* Side: where the result lies beside the exact sum, as numbers. Byte 10 of an answer is one of these. */
+enum {
+    TOTALS_EQUAL = 0,
+    TOTALS_BELOW = 1,
+    TOTALS_ABOVE = 2,
+    TOTALS_NO_COMPARISON = 3 /* the result is a NaN or infinite */
+};
+
 /* The most elements of a list, or pairs of a dot. */
 #define TOTALS_MOST_ELEMENTS 1048576
 
@@ -165,9 +173,9 @@ enum {
  *
  * Lengths count bytes. No pointer may be NULL, not even with length 0.
  *
- * Returns 0 and writes bytes 0 to 23 of the answer: the result in 0..7, the flags in 8, zeros in
- * 9..15, the passes in 16..23, little end first. Later bytes stay as they were. Or returns a
- * refusal, plus 256 times a place for TOTALS_STRAY_BIT, and writes nothing.
+ * Returns 0 and writes bytes 0 to 23 of the answer: the result in 0..7, the flags in 8, the side in
+ * 10, the passes in 16..23, little end first, and zeros between them. Later bytes stay as they were.
+ * Or returns a refusal, plus 256 times a place for TOTALS_STRAY_BIT, and writes nothing.
  */
 uint64_t totals_sum(uint64_t kind, uint64_t exponent_bits, uint64_t width,
                     uint64_t rounding, uint64_t tininess, uint64_t nan_propagation, uint64_t default_nan_negative,
@@ -185,7 +193,7 @@ uint64_t totals_dot(uint64_t kind, uint64_t exponent_bits, uint64_t width,
                     uint8_t *answer, size_t answer_len);
 
 /*
- * Records: what the inline functions answer. Where refusal is TOTALS_ACCEPTED, result, flags and passes hold the total. Else
+ * Records: what the inline functions answer. Where refusal is TOTALS_ACCEPTED, result, flags, passes and side hold the total. Else
  * refusal says why there is none, and every other field is 0 but for the place of a TOTALS_STRAY_BIT. Later versions add
  * fields at the end.
  */
@@ -195,6 +203,7 @@ typedef struct totals_record {
     uint64_t place;
     unsigned flags;
     unsigned refusal;
+    unsigned side;
 } totals_record;
 
 typedef struct totals_double_record {
@@ -204,6 +213,7 @@ typedef struct totals_double_record {
     uint64_t place;
     unsigned flags;
     unsigned refusal;
+    unsigned side;
 } totals_double_record;
 
 typedef struct totals_float_record {
@@ -213,6 +223,7 @@ typedef struct totals_float_record {
     uint64_t place;
     unsigned flags;
     unsigned refusal;
+    unsigned side;
 } totals_float_record;
 
 /*
@@ -332,7 +343,7 @@ static inline totals_record totals_take_(totals_format f, const totals_settings 
 {
     static const totals_settings defaults = TOTALS_SETTINGS_INIT;
     const totals_settings *c = settings == NULL ? &defaults : settings;
-    totals_record record = {0, 0, 0, 0, 0};
+    totals_record record = {0, 0, 0, 0, 0, 0};
     uint8_t answer[TOTALS_ANSWER_BYTES], left_room[8 * TOTALS_ROOM_], right_room[8 * TOTALS_ROOM_];
     uint8_t *left_owned = NULL, *right_owned = NULL;
     uint64_t code;
@@ -361,6 +372,7 @@ static inline totals_record totals_take_(totals_format f, const totals_settings 
     if (code == TOTALS_ACCEPTED) {
         record.result = totals_get_(answer);
         record.flags = answer[8];
+        record.side = answer[10];
         record.passes = totals_get_(answer + 16);
     } else {
         record.refusal = (unsigned)TOTALS_REFUSAL(code);
@@ -378,6 +390,7 @@ static inline totals_double_record totals_as_double_(totals_record record)
     of.place = record.place;
     of.flags = record.flags;
     of.refusal = record.refusal;
+    of.side = record.side;
     return of;
 }
 
@@ -390,6 +403,7 @@ static inline totals_float_record totals_as_float_(totals_record record)
     of.place = record.place;
     of.flags = record.flags;
     of.refusal = record.refusal;
+    of.side = record.side;
     return of;
 }
 

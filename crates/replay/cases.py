@@ -11,7 +11,7 @@ README.md says where the answers come from and how the oracle is asked.
 `stdin` begins with the number of sections, two hex digits and a line end.
 A section begins with a line of its name, filled with dots to 44 bytes, a
 letter for the length of its rows, and the number of its rows in four hex
-digits. A row has 281 bytes, the line end among them (letter r), or 485 where
+digits. A row has 283 bytes, the line end among them (letter r), or 487 where
 dots have more than six pairs (letter l). Every number is in hex:
 
 column  0      s a sum, d a dot
@@ -34,7 +34,9 @@ column  0      s a sum, d a dot
        69      refusal
        71      place
        73      what the byte entry returns, three digits
-       77      twelve values, 16 digits each: a sum's from the first on; a
+       77      side: 0 where the result is the exact sum, 1 where it is less, 2
+               where it is more, 3 where it is not compared
+       79      twelve values, 16 digits each: a sum's from the first on; a
                dot's left list from the first on, its right one from the
                seventh on. A long row has twenty-four, and there a dot's
                right list begins with the thirteenth
@@ -59,6 +61,7 @@ from model import *
 HERE = os.path.dirname(os.path.abspath(__file__))
 NAME = 44
 VALUES, LONG = 12, 24
+HEAD = 79
 
 
 class Draw:
@@ -117,16 +120,16 @@ class Case:
         else:
             record = dot_record(self.format(), self.c, left, right)
         self.result, self.flags, self.passes, self.edge = record.result, record.flags, record.passes, record.edge
-        self.end, self.side, self.below_zero = record.end, record.side, record.negative
+        self.leans, self.end, self.side, self.below_zero = record.leans, record.end, record.side, record.negative
 
     def format(self):
         return Format(self.kind, self.e, self.w)
 
     def answer(self):
-        """The fields from the result on to what the byte entry returns."""
-        return '%016x %02x %06x %s%08x %x %x %03x' % (
+        """The fields from the result on to the side."""
+        return '%016x %02x %06x %s%08x %x %x %03x %x' % (
             self.result, self.flags, self.passes, '-' if self.edge < 0 else '+', abs(self.edge), self.refusal,
-            self.place, self.returned)
+            self.place, self.returned, self.leans)
 
     def row(self, most=VALUES):
         """A row of so many values."""
@@ -137,7 +140,7 @@ class Case:
             'd' if dot else 's', self.kind, self.e, self.w, ''.join('%x' % self.c[name] for name in SETTINGS[:7]),
             self.c['precision'], self.summand, len(self.left), len(self.right or []), *self.more, self.room)
         text = ' '.join([head, self.answer()] + ['%016x' % v for v in values + [0] * (most - len(values))]) + '\n'
-        assert len(text) == 77 + 17 * most
+        assert len(text) == HEAD + 17 * most
         return text
 
     def line(self):
@@ -158,7 +161,7 @@ def case_of(row):
     number = lambda at, digits: int(row[at:at + digits], 16)
     c = {name: number(10 + i, 1) for i, name in enumerate(SETTINGS[:7])}
     c['precision'] = number(18, 2)
-    values = [number(at, 16) for at in range(77, len(row), 17)]
+    values = [number(at, 16) for at in range(HEAD, len(row), 17)]
     n, m, half = number(23, 1), number(24, 1), len(values) // 2
     right = values[half:half + m] if row[0] == 'd' else None
     return Case((number(2, 1), number(4, 2), number(7, 2)), c, values[:n], right, number(21, 1), (number(26, 1), number(27, 1)), number(29, 2))
@@ -211,9 +214,10 @@ def careers():
         ([0xfff0000000000000, 0x7ff8000000000000], MAGNITUDE, EVEN, 0x7ff0000000000000, 0x00, 0, 0),
     ]
     cases = []
-    for values, summand, mode, result, flags, passes, edge in rows:
+    sides = (0, 0, 0, 0, 0, 1, 2, 3, 1, 0, 1, 3)
+    for (values, summand, mode, result, flags, passes, edge), side in zip(rows, sides, strict=True):
         case = Case(DOUBLE, {'rounding': mode}, values, summand=summand)
-        assert (case.result, case.flags, case.passes) == (result, flags, passes)
+        assert (case.result, case.flags, case.passes, case.leans) == (result, flags, passes, side)
         assert edge is None or case.edge == edge
         cases.append(case)
     return cases
@@ -971,9 +975,9 @@ def check():
         for i, row in enumerate(lines[at + 1:at + 1 + n]):
             rows += 1
             case = case_of(row)
-            if case.row((len(row) - 77) // 17) != row:
+            if case.row((len(row) - HEAD) // 17) != row:
                 wrong += 1
-                print('%s, row %d (line %d):\n  listed %s\n  model  %s' % (name, i + 1, at + 2 + i, row[32:76], case.answer()))
+                print('%s, row %d (line %d):\n  listed %s\n  model  %s' % (name, i + 1, at + 2 + i, row[32:78], case.answer()))
         at += 1 + n
     assert at + 1 + int(lines[at], 16) == len(lines)
     for i, (row, made) in enumerate(zip(lines[at + 1:], pence_rows(), strict=True)):
@@ -1033,6 +1037,14 @@ def cover():
     fewest('tiny by rounding, tininess, flush', where(lambda c: c.flags & TINY), lambda c: (c.c['rounding'], c.c['tininess'], c.c['flush']), modes, two, two)
     fewest('tiny by tininess, exact and inexact, not flushed', where(lambda c: c.flags & TINY and not c.c['flush']),
            lambda c: (c.c['tininess'], c.side == 'exact'), two, two)
+    inward = {(DOWN, 0), (UP, 1), (TO_ZERO, 0), (TO_ZERO, 1)}
+    never = {(mode, n, BELOW if n else ABOVE) for mode, n in inward} | {(mode, n, NO_COMPARISON) for mode, n in inward | {(TO_ODD, 0), (TO_ODD, 1)}}
+    fewest('side by rounding, sign, where the two allow it', where(lambda c: c.passes), lambda c: ((c.c['rounding'], c.below_zero, c.leans),),
+           [key for key in product(modes, two, range(4)) if key not in never])
+    fewest('side of a sum flushed to zero, by sign', where(lambda c: c.flags & TINY and c.c['flush']), lambda c: ((c.below_zero, c.leans),),
+           [(0, BELOW), (1, ABOVE)])
+    fewest('side by denormals-are-zero, of a list with a subnormal operand', where(lambda c: c.flags & SUBNORMAL), lambda c: (c.c['daz'], c.leans),
+           two, range(4))
     fewest('rounded at q below p, by rounding', where(lambda c: 0 < c.c['precision'] < c.w - c.e and c.side), lambda c: (c.c['rounding'],), modes)
     fewest('lists with a NaN, by rule and kind', where(Case.has_nan), lambda c: (c.c['nan'], c.kind), kinds, (IEEE, NOINF, FNUZ))
     fewest('lists with a subnormal operand, by denormals-are-zero', where(lambda c: c.flags & SUBNORMAL), lambda c: (c.c['daz'],), two)

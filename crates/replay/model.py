@@ -1,4 +1,4 @@
-"""What document 01 says of a total, in whole numbers of any length.
+"""What document 01 says of a total, and which way its result leans, in whole numbers of any length.
 
 Written from the text of document 01, and from the Rust's where document 01
 names a function of it (the choice among NaNs, overflow, the largest number).
@@ -155,6 +155,22 @@ def round_once(f, c, negative, m, x):
     return f.number(negative, count, unit), flags + RAISED * up, side
 
 
+# ---- which way a result leans
+
+EQUAL, BELOW, ABOVE, NO_COMPARISON = range(4)
+
+
+def leaning(f, result, total, x):
+    """Where the result, decoded, lies beside total * 2^x."""
+    v = f.decode(result)
+    if v[0] in ('nan', 'infinity'):
+        return NO_COMPARISON
+    m, at = (-v[2] if v[1] else v[2], v[3]) if v[0] == 'number' else (0, x)
+    low = min(at, x)
+    mine, exact = m << (at - low), total << (x - low)
+    return EQUAL if mine == exact else BELOW if mine < exact else ABOVE
+
+
 # ---- the passes
 
 def part(m, x, w):
@@ -205,12 +221,17 @@ def chain(p, terms, top):
 # ---- records of accepted lists
 
 class Record:
-    """An accepted record. How the chain ends, the side and the sum's sign are
-    no part of a record: they tell what a case reaches."""
+    """An accepted record. How the chain ends, the side of a tie and the sum's
+    sign are no part of a record: they tell what a case reaches."""
 
-    def __init__(self, result, flags, passes=0, edge=0, end='', side='', negative=0):
-        self.result, self.flags, self.passes, self.edge = result, flags, passes, edge
+    def __init__(self, result, flags, passes=0, edge=0, leans=EQUAL, end='', side='', negative=0):
+        self.result, self.flags, self.passes, self.edge, self.leans = result, flags, passes, edge, leans
         self.end, self.side, self.negative = end, side, negative
+
+
+def without_terms(f, result, flags):
+    """No pass is run: the terms, if there are any, do not count."""
+    return Record(result, flags, leans=leaning(f, result, 0, 0))
 
 
 def chosen_nan(f, c, nans):
@@ -228,20 +249,20 @@ def chosen_nan(f, c, nans):
 def settle(f, c, flags, zeros, infinities, terms, top):
     """The record of a list without a NaN."""
     if len(infinities) == 2:
-        return Record(f.nan(c['negative'], 0), flags + INVALID)
+        return without_terms(f, f.nan(c['negative'], 0), flags + INVALID)
     if infinities:
-        return Record(f.infinity(infinities.pop()), flags)
+        return without_terms(f, f.infinity(infinities.pop()), flags)
     down = int(c['rounding'] == DOWN)
     if not terms:
-        return Record(f.zero(down if len(zeros) == 2 else 1 in zeros), flags)
+        return without_terms(f, f.zero(down if len(zeros) == 2 else 1 in zeros), flags)
     low = min(x for _, _, x in terms)
     passes, edge, end = chain(f.p, terms, top)
     total = sum((-m if negative else m) << (x - low) for negative, m, x in terms)
     if total == 0:
-        return Record(f.zero(down), flags, passes, edge, end)
+        return Record(f.zero(down), flags, passes, edge, leaning(f, f.zero(down), total, low), end)
     negative = int(total < 0)
     result, more, side = round_once(f, c, negative, abs(total), low)
-    return Record(result, flags + more, passes, edge, end, side, negative)
+    return Record(result, flags + more, passes, edge, leaning(f, result, total, low), end, side, negative)
 
 
 def position(v):
@@ -274,7 +295,7 @@ def sum_record(f, c, summand, values):
     signaling = any(v[2] for v in nans)
     infinite = any(v[0] == 'infinity' for v in vs)
     if nans and (summand == VALUE or signaling or not infinite):
-        return Record(chosen_nan(f, c, nans), flags + INVALID * signaling)
+        return without_terms(f, chosen_nan(f, c, nans), flags + INVALID * signaling)
     sign = lambda v: v[1] if summand == VALUE else 0
     zeros = {sign(v) for v in vs if v[0] == 'zero'}
     infinities = {sign(v) for v in vs if v[0] == 'infinity'}
@@ -294,9 +315,9 @@ def dot_record(f, c, left, right):
     invalid = any({x[0], y[0]} == {'infinity', 'zero'} for x, y in pairs)
     nans = [v for pair in pairs for v in pair if v[0] == 'nan']
     if nans:
-        return Record(chosen_nan(f, c, nans), flags + INVALID * (invalid or any(v[2] for v in nans)))
+        return without_terms(f, chosen_nan(f, c, nans), flags + INVALID * (invalid or any(v[2] for v in nans)))
     if invalid:
-        return Record(f.nan(c['negative'], 0), flags + INVALID)
+        return without_terms(f, f.nan(c['negative'], 0), flags + INVALID)
     infinities = {x[1] ^ y[1] for x, y in pairs if 'infinity' in (x[0], y[0])}
     zeros = {x[1] ^ y[1] for x, y in pairs if 'zero' in (x[0], y[0])}
     return settle(f, c, flags, zeros, infinities, *dot_terms(pairs))

@@ -35,7 +35,8 @@ fn answer(line: &str) -> Option<String> {
     if code != 0 {
         return Some(format!("refused {code}"));
     }
-    let [result, flags, passes] = buffer.map(u64::from_le_bytes);
+    let [result, [flags, ..], passes] = buffer;
+    let [result, passes] = [result, passes].map(u64::from_le_bytes);
     Some(format!("{result:x} {flags} {passes}"))
 }
 

@@ -12,7 +12,7 @@ mod totals;
 mod value;
 
 pub use format::{Format, Kind};
-pub use record::{Flags, Record};
+pub use record::{Flags, Record, Side};
 pub use refusal::{List, Refusal};
 pub use settings::{NanPropagation, Rounding, Settings, Summand, Tininess};
 pub use totals::Totals;

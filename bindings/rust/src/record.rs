@@ -147,7 +147,42 @@ impl Debug for Flags {
     }
 }
 
-/// An accepted total: the result with its flags, and the passes that it took.
+/// Which way a result leans: where it lies beside the exact sum of the terms, as numbers.
+///
+/// ```
+/// use fermuzhai::{sum, Side};
+///
+/// assert_eq!(sum(&[0.5, 0.25])?.side, Side::Equal);
+/// assert_eq!(sum(&[0.1, 0.2])?.side, Side::Above);
+/// assert_eq!(sum(&[-0.1, -0.2])?.side, Side::Below);
+/// assert_eq!(sum(&[f64::MAX, f64::MAX])?.side, Side::NoComparison);
+/// # Ok::<(), fermuzhai::Refusal>(())
+/// ```
+#[derive(Clone, Copy, Debug, PartialEq, Eq, Hash)]
+pub enum Side {
+    /// The result is the exact sum.
+    Equal = 0,
+    /// The result is less than the exact sum.
+    Below = 1,
+    /// The result is greater than the exact sum.
+    Above = 2,
+    /// The result is a NaN or infinite.
+    NoComparison = 3,
+}
+
+impl Side {
+    /// The side of byte 10 of an answer.
+    pub(crate) const fn from_byte(byte: u8) -> Self {
+        match byte {
+            0 => Self::Equal,
+            1 => Self::Below,
+            2 => Self::Above,
+            _ => Self::NoComparison,
+        }
+    }
+}
+
+/// An accepted total: the result with its flags, the passes that it took, and which way it leans.
 ///
 /// It is shown as `result, flags FLAGS, passes N`: a float in decimal, by the precision that is asked for; an encoding in
 /// hexadecimal.
@@ -176,6 +211,8 @@ pub struct Record<T> {
     pub flags: Flags,
     /// The passes that the sum took, as `docs/SPECIFICATION.md` of the repository counts them.
     pub passes: u64,
+    /// Where the result lies beside the exact sum.
+    pub side: Side,
 }
 
 impl<T: Value> PartialEq for Record<T> {
@@ -183,6 +220,7 @@ impl<T: Value> PartialEq for Record<T> {
         self.result.encoding() == other.result.encoding()
             && self.flags == other.flags
             && self.passes == other.passes
+            && self.side == other.side
     }
 }
 
@@ -197,7 +235,13 @@ impl<T: Value> Display for Record<T> {
 
 impl<T: Value> Hash for Record<T> {
     fn hash<H: Hasher>(&self, state: &mut H) {
-        (self.result.encoding(), self.flags, self.passes).hash(state);
+        let Self {
+            flags,
+            passes,
+            side,
+            ..
+        } = self;
+        (self.result.encoding(), flags, passes, side).hash(state);
     }
 }
 
@@ -248,6 +292,7 @@ mod tests {
             result,
             flags: Flags::NONE,
             passes: 1,
+            side: Side::Equal,
         };
         assert_eq!(of(f64::NAN), of(f64::NAN));
         assert_ne!(of(0.0), of(-0.0));
@@ -265,5 +310,19 @@ mod tests {
                 ..of(1.0)
             }
         );
+        assert_ne!(
+            of(1.0),
+            Record {
+                side: Side::Below,
+                ..of(1.0)
+            }
+        );
+    }
+
+    #[test]
+    fn every_side_has_its_byte() {
+        for side in [Side::Equal, Side::Below, Side::Above, Side::NoComparison] {
+            assert_eq!(Side::from_byte(side as u8), side);
+        }
     }
 }

@@ -1,6 +1,6 @@
 use core::marker::PhantomData;
 
-use crate::{raw, Flags, Float, Format, List, Record, Refusal, Settings, Summand, Value};
+use crate::{raw, Flags, Float, Format, List, Record, Refusal, Settings, Side, Summand, Value};
 
 /// The four totals in one format and under one choice of settings.
 ///
@@ -187,11 +187,12 @@ impl<T: Value> Totals<T> {
         if let Some(refusal) = Refusal::from_code(code) {
             return Err(refusal);
         }
-        let [result, [flags, ..], passes] = answer;
+        let [result, [flags, _, side, ..], passes] = answer;
         Ok(Record {
             result: T::from_encoding(u64::from_le_bytes(result)),
             flags: Flags::from_bits(flags),
             passes: u64::from_le_bytes(passes),
+            side: Side::from_byte(side),
         })
     }
 

@@ -328,7 +328,7 @@ fn raw_answers_alike() {
                 [
                     record.flags.bits(),
                     0,
-                    0,
+                    record.side as u8,
                     0,
                     0,
                     0,

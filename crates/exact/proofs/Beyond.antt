@@ -8,42 +8,12 @@ use lib.Dec.{leb, eqb}
 use lib.Pow.{pow-pos, pow-mono}
 use lib.Ieee.{size}
 use borrow.Author.Tests.{eq-eqb, le-leb, lt-leb, ne-eqb}
-use Rattle.totals_spec.specs.Bounds.{RangeBounds}
-use Rattle.totals_spec.specs.Format.{Format, Kind, ieee, noInf, fnuz, finiteOnly, rangeOf, kindOf, digits, emaxAt, exponentRange}
+use Rattle.totals_spec.specs.Format.{Format, kindOf, digits, emaxAt, exponentRange}
 use Rattle.totals_spec.specs.Settings.{Settings, roundingOf}
 use Rattle.totals_spec.specs.Decode.{Unpacked, finite, infinity, nan}
 use Rattle.totals_spec.specs.Round.{isNoInf, overflows, overflow, Rounded, largest, toInfinity, beyond}
-use Rattle.exact.proofs.Powers.{pow-next, pow-join, eqb-scaled, scaled-lt, digits-lt, digits-ge}
+use Rattle.totals_spec.proofs.Powers.{pow-next, pow-join, eqb-scaled, scaled-lt, digits-lt, digits-ge}
 use Rattle.exact.proofs.Rules.{set-on}
-
--- ---- the exponent range
-
-pub range-pos : (f : Format) → RangeBounds f → 1 ≤ exponentRange f
-unfolding exponentRange
-range-pos f b = go (kindOf (f .kind))
-  where
-    four : 2 ^ 2 ≤ 2 ^ f .E
-    four = pow-mono (b .e-ge)
-
-    go : (k : Kind) → 1 ≤ rangeOf k (f .E)
-    go ieee = omega (arith, four)
-    go noInf = omega (arith, four)
-    go fnuz = omega (arith, four)
-    go finiteOnly = omega (arith, four)
-
--- an exponent field holds it
-pub range-fits : (f : Format) → RangeBounds f → exponentRange f + 1 < 2 ^ f .E
-unfolding exponentRange
-range-fits f b = go (kindOf (f .kind))
-  where
-    four : 2 ^ 2 ≤ 2 ^ f .E
-    four = pow-mono (b .e-ge)
-
-    go : (k : Kind) → rangeOf k (f .E) + 1 < 2 ^ f .E
-    go ieee = omega (arith, four)
-    go noInf = omega (arith, four)
-    go fnuz = omega (arith, four)
-    go finiteOnly = omega (arith, four)
 
 -- ---- the pattern of all ones at emax
 

@@ -1,5 +1,4 @@
 mod Rules
-mod Powers
 mod Standing
 mod Beyond
 mod Once

@@ -18,9 +18,10 @@ use Rattle.totals_spec.specs.Decode.{zeroOf, finite}
 use Rattle.totals_spec.specs.Round.{dropped, inexact, isNoInf, overflows, overflow, numberOf, finished, tinySum, roundedAt, roundTo, round, roundsUp}
 use Rattle.exact.specs.Joined.{smallOf}
 use Rattle.exact.proofs.Rules.{flag-le}
-use Rattle.exact.proofs.Powers.{pow-join, size-scaled, scaled-lt, digits-pos}
+use Rattle.totals_spec.proofs.Powers.{pow-join, size-scaled, scaled-lt, digits-pos}
 use Rattle.exact.proofs.Standing.{exact-kept}
-use Rattle.exact.proofs.Beyond.{range-pos, ones-ge, allOnes, made}
+use Rattle.totals_spec.proofs.Range.{range-pos}
+use Rattle.exact.proofs.Beyond.{ones-ge, allOnes, made}
 
 -- ---- the first q of n digits
 

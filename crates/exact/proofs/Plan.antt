@@ -18,9 +18,10 @@ use Rattle.exact.specs.Joined.{Stands, Measured, RoundedTo, EndsAt, Begi
 use Rattle.exact.specs.declared.Unrounded.{Unrounded}
 use Rattle.exact.specs.declared.Digits.{Digits}
 use Rattle.exact.proofs.Rules.{flag-le}
-use Rattle.exact.proofs.Powers.{pow-next, size-above, size-exact, scaled-lt, digits-lt}
+use Rattle.totals_spec.proofs.Powers.{pow-next, size-above, size-exact, scaled-lt, digits-lt}
 use Rattle.exact.proofs.Standing.{stands-size, stands-some, someNumber}
-use Rattle.exact.proofs.Beyond.{made, over-not, range-fits}
+use Rattle.totals_spec.proofs.Range.{range-fits}
+use Rattle.exact.proofs.Beyond.{made, over-not}
 use Rattle.exact.proofs.Once.{kept-lt, kept-ge, normal-is, number-normal, tiny-is, kept-small, small-is}
 
 -- ---- the first q digits

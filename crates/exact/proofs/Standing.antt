@@ -16,7 +16,7 @@ use Rattle.totals_spec.proofs.Bits.{size-pos, pow-split, multiple-mod}
 use Rattle.totals_spec.specs.Round.{nothing, compared, dropped}
 use Rattle.limbs.specs.Value.{value}
 use Rattle.exact.specs.Joined.{droppedBy, StandsAt}
-use Rattle.exact.proofs.Powers.{size-over, scaled-lt}
+use Rattle.totals_spec.proofs.Powers.{size-over, scaled-lt}
 
 -- ---- the dropped part: b is the first dropped bit, t what lies below it
 

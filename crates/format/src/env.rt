@@ -3,10 +3,11 @@ use crate::Format;
 use crate::digits;
 ghost use Rattle.totals_spec.specs.Bounds.{RangeBounds, SettingsBounds};
 ghost use mathlib.Core.Path.{_≡_};
-ghost use Prim.Native.Nat.{_≤_};
+ghost use Prim.Native.Nat.{_<_, _≤_};
 ghost use Rattle.totals_spec.specs.Basics as basics;
 ghost use Rattle.totals_spec.specs.Format as spec;
 ghost use Rattle.totals_spec.specs.Settings as env;
+ghost use Rattle.totals_spec.specs.Side as side;
 ghost use Rattle.totals_spec.specs.Totals as totals;
 ghost use Rattle.format.specs.Joined.{formatOf, settingsOf};
 
@@ -29,6 +30,14 @@ pub fn flag(n: u64, set: bool) -> u64
     ensures { λ r. ⌜ (r ≡ basics.flag n set) × (r ≤ n) ⌝ }
 {
     if set { n } else { 0 }
+}
+
+// Whether the flag n is among the flags.
+pub fn has_flag(flags: u64, n: u64) -> bool
+    requires { ⌜ 0 < n ⌝ }
+    ensures { λ r. ⌜ r ≡ side.isOn n flags ⌝ }
+{
+    flags / n % 2 == 1
 }
 
 pub struct Settings {

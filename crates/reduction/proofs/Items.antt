@@ -8,15 +8,17 @@ use native.Mathlib.Omega.{arith}
 use borrow.Author.Tests.{eqb-true, le-leb}
 use lib.Dec.{leb, eqb, eqb·suc-zero}
 use lib.ListN.{length, getD, length-map}
-use Rattle.totals_spec.specs.Format.{Format, digits}
+use Rattle.totals_spec.specs.Format.{Format, kindOf, digits}
 use Rattle.totals_spec.specs.Settings.{Settings, Summand, summandOf}
 use Rattle.totals_spec.specs.Bounds.{FormatBounds, SettingsBounds}
 use Rattle.totals_spec.specs.Nan.{selectAll}
 use Rattle.totals_spec.specs.Terms.{nanItem, item, pairItem, terms, topOf}
 use Rattle.totals_spec.specs.Totals.{limit, pairs, isValue, isSquare, accepted, finiteTotal, sumAccepted, dotAccepted}
 use Rattle.totals_spec.specs.Settled.{chainTotal}
+use Rattle.totals_spec.specs.Alone.{AllGive}
 use Rattle.totals_spec.proofs.Order.{pairs-length}
 use Rattle.totals_spec.proofs.Accepts.{sum-accepts, dot-accepts}
+use Rattle.totals_spec.proofs.Alone.{list-gives, pairs-give}
 use Rattle.totals_spec.proofs.ByChain.{sum-by-chain, dot-by-chain}
 use Rattle.arithmetic.specs.declared.Term.{Term}
 use Rattle.arithmetic.specs.Joined.{StandsFor}
@@ -55,6 +57,11 @@ module _ (f : Format) (c : Settings) (u : Summand) (x y : List ℕ) where
       → Base (digits f) (terms (itemsOf b f c u x y))
   items-base true h e n g = dot-base f c x y h e n g
   items-base false h e n g = sum-base f c u x h n g
+
+  -- a format's items are what its kind has
+  pub items-give : (b : Bool) → AllGive (kindOf (f .kind)) (itemsOf b f c u x y)
+  items-give true = pairs-give f c (pairs x y)
+  items-give false = list-gives f c u x
 
 -- the lists of a walk have as many elements as its source, and it has as many items
 module _ (k : Walk) (lw lb rw′ rb : List ℕ) where

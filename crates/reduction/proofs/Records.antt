@@ -10,6 +10,26 @@ use lib.Signed.{mag}
 use mir.Syntax.{w64}
 use mir.Val.{toZ}
 use borrow.Author.Tests.{lt-ltb, le-ltb}
+use Rattle.totals_spec.specs.Bounds.{RangeBounds}
+use Rattle.totals_spec.specs.Format.{Format, kindOf}
+use Rattle.totals_spec.specs.Decode.{decode}
+use Rattle.totals_spec.specs.Encode.{encode}
+use Rattle.totals_spec.specs.Alone.{Alone}
+use Rattle.totals_spec.specs.Side.{sideOf, roundedSide}
+use Rattle.totals_spec.proofs.Alone.{zero-told, infinity-told, nan-told}
+use Rattle.format.specs.declared.unpacked.Unpacked.{Unpacked}
+use Rattle.format.specs.declared.unpacked.Unpacked.the-variants.{Zero, Finite, Infinity, Nan}
+use Rattle.format.specs.Joined.{unpackedOf}
+use Rattle.format.specs.Fits.{Encodes}
+
+-- ---- without a pass the value tells the side
+
+pub told : (f : Format) → RangeBounds f → (v : Unpacked) → Encodes f (unpackedOf v) → Alone (kindOf (f .kind)) (unpackedOf v)
+    → sideOf 0 (decode f (encode f (unpackedOf v))) (record { neg = false; mag = 0 }) ≡ roundedSide (unpackedOf v) 0
+told f b (Zero s) e a = zero-told f b s
+told f b (Finite s k m) e a = absurd a
+told f b (Infinity s) e a = infinity-told f b s a
+told f b (Nan s g m) e a = nan-told f b s g m a e
 
 -- ---- signed positions
 

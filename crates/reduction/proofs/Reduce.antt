@@ -14,18 +14,18 @@ use Rattle.totals_spec.specs.Totals as totals
 use Rattle.totals_spec.specs.Settled.{settled, chainTotal}
 use Rattle.format.specs.declared.unpacked.Unpacked.{Unpacked}
 use Rattle.format.specs.Joined.{unpackedOf}
-use Rattle.format.specs.Fits.{Encodes}
 use Rattle.scan.specs.declared.Scan.{Scan}
 use Rattle.scan.specs.declared.Early.{Early}
 use Rattle.scan.specs.declared.Early.the-variants.{Given, Terms}
-use Rattle.scan.specs.Joined.{Gathered, Decides}
+use Rattle.scan.specs.Joined.{Gathered, Told, Decides}
 use Rattle.window.specs.declared.ExactSum.{ExactSum}
 use Rattle.window.specs.Joined.{runOf}
 
 -- the record of a run of the chain, its sum rounded
 abbrev told : spec.Format → env.Settings → Bool → Bool → chain.Run → totals.Answer
 told f c products sub r =
-    totals.reported f sub products (totals.sumRounded f c (spec.grid f products) (totals.towardsNegative c) (settled (r .outcome))) r
+    totals.reported f sub products (settled (r .outcome))
+    (totals.sumRounded f c (spec.grid f products) (totals.towardsNegative c) (settled (r .outcome))) r
 
 module _ {f : spec.Format} {c : env.Settings} {sub sig : Bool} {ops : List dec.Unpacked} {l : List terms.Item} {s : Scan}
     (g : Gathered f c sub sig ops l s) (products first : Bool) (d : Early) (h : Decides d c first s) where
@@ -33,14 +33,11 @@ module _ {f : spec.Format} {c : env.Settings} {sub sig : Bool} {ops : List dec.U
   answer = totals.accepted f c sub products first sig (nans.selectAll c ops) l
 
   -- the scan alone decides
-  given : (v : Unpacked) (i : Bool) → d ≡ Given v i → (answer ≡ totals.special f sub (unpackedOf v) i) × Encodes f (unpackedOf v)
+  pub given : (v : Unpacked) (i : Bool) → d ≡ Given v i → Told f c sub products first sig ops l (unpackedOf v) i
   given v i e = subst (λ (x : Early). Decides x c first s) e h f sub products sig ops l g
 
-  pub given-encodes : (v : Unpacked) (i : Bool) → d ≡ Given v i → Encodes f (unpackedOf v)
-  given-encodes v i e = given v i e .1
-
   pub given-is : (v : Unpacked) (i : Bool) → d ≡ Given v i → (a : totals.Answer) → a ≡ totals.special f (s .subnormal) (unpackedOf v) i → a ≡ answer
-  given-is v i e a r = r ∙ ap (λ (b : Bool). totals.special f b (unpackedOf v) i) (g .subnormal) ∙ sym (given v i e .0)
+  given-is v i e a r = r ∙ ap (λ (b : Bool). totals.special f b (unpackedOf v) i) (g .subnormal) ∙ sym (given v i e .is)
 
   -- there are terms
   some : d ≡ Terms → (answer ≡ totals.finiteTotal f c sub products false (terms.terms l)) × (any (λ t. true) (terms.terms l) ≡ true) × (0 < s .top)

@@ -15,7 +15,15 @@ use Rattle.exact.specs.Joined.{roundedOf}
 use Rattle.reduction.specs.declared.total.Answer.{Answer}
 
 abbrev pub answerOf : Answer → totals.Answer
-answerOf r = record { result = r .result; flags = r .flags; passes = r .passes; lastEdge = r .«last_edge»; refusal = r .refusal; place = r .place }
+answerOf r = record {
+  result = r .result;
+  flags = r .flags;
+  passes = r .passes;
+  lastEdge = r .«last_edge»;
+  refusal = r .refusal;
+  place = r .place;
+  side = r .side;
+}
 
 -- the rounding of a signed sum x, which can be encoded, and leaves flag 128 free
 pub record RoundedSum (f : spec.Format) (c : env.Settings) (products : Bool) (x : Signed) (r : Rounded) : Type 0 where

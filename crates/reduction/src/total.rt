@@ -4,9 +4,12 @@ use exact::Rounded;
 use exact::round;
 use format::Format;
 use format::env::DENORMAL_INPUT;
+use format::env::INEXACT;
 use format::env::INVALID;
+use format::env::ROUNDED_UP;
 use format::env::Settings;
 use format::env::flag;
+use format::env::has_flag;
 use format::env::zero_sum_is_negative;
 use format::grid;
 use format::origin;
@@ -19,12 +22,23 @@ ghost use Prim.Native.Nat.{_^_, _<_};
 ghost use lib.IntN.{subℕ};
 ghost use Rattle.totals_spec.specs.Format as spec;
 ghost use Rattle.totals_spec.specs.Totals as totals;
+ghost use Rattle.totals_spec.specs.Side as side;
+ghost use Rattle.totals_spec.specs.Alone.{Alone};
 ghost use Rattle.totals_spec.specs.Settled as settled;
 ghost use Rattle.totals_spec.specs.Bounds.{FormatBounds, RangeBounds, SettingsBounds};
 ghost use Rattle.format.specs.Joined.{formatOf, settingsOf, unpackedOf};
 ghost use Rattle.format.specs.Fits.{Encodes};
 ghost use Rattle.window.specs.Joined.{outcomeOf, runOf, Ended};
 ghost use Rattle.reduction.specs.Answered.{answerOf, RoundedSum};
+
+// Where a result lies beside the exact sum. A NaN or an infinity is not compared.
+pub const EQUAL: u64 = 0;
+
+pub const BELOW: u64 = 1;
+
+pub const ABOVE: u64 = 2;
+
+pub const NO_COMPARISON: u64 = 3;
 
 // The record of a total.
 pub struct Answer {
@@ -35,6 +49,7 @@ pub struct Answer {
     pub last_edge: i64,
     pub refusal: u64,
     pub place: u64,
+    pub side: u64,
 }
 
 // A refused call.
@@ -48,12 +63,47 @@ pub fn refused(refusal: u64, place: u64) -> Answer
         last_edge: 0,
         refusal,
         place,
+        side: EQUAL,
     }
 }
 
-// A record without a pass.
+// The side of a number by its sign and the flags of its rounding: a magnitude that went up lies further from zero than the sum.
+fn leaning(negative: bool, flags: u64) -> u64
+    ensures { λ r. ⌜ r ≡ side.byFlags negative flags ⌝ }
+{
+    if !has_flag(flags, INEXACT) {
+        return EQUAL;
+    }
+    if has_flag(flags, ROUNDED_UP) {
+        if negative { BELOW } else { ABOVE }
+    } else {
+        if negative { ABOVE } else { BELOW }
+    }
+}
+
+// The side of a rounded sum.
+fn side_of(v: Unpacked, flags: u64) -> u64
+    ensures { λ r. ⌜ r ≡ side.roundedSide (unpackedOf v) flags ⌝ }
+{
+    match v {
+        Unpacked::Zero(negative) => leaning(negative, flags),
+        Unpacked::Finite {
+            negative,
+            shift: _,
+            significand: _,
+        } => leaning(negative, flags),
+        Unpacked::Infinity(_) => NO_COMPARISON,
+        Unpacked::Nan {
+            negative: _,
+            signaling: _,
+            payload: _,
+        } => NO_COMPARISON,
+    }
+}
+
+// A record without a pass: a zero beside a sum of 0, or what is not compared.
 pub fn special(f: Format, subnormal: bool, v: Unpacked, invalid: bool) -> Answer
-    requires { ⌜ FormatBounds (formatOf f) × Encodes (formatOf f) (unpackedOf v) ⌝ }
+    requires { ⌜ FormatBounds (formatOf f) × Encodes (formatOf f) (unpackedOf v) × Alone (spec.kindOf (f .kind)) (unpackedOf v) ⌝ }
     ensures { λ r. ⌜ answerOf r ≡ totals.special (formatOf f) subnormal (unpackedOf v) invalid ⌝ }
 {
     Answer {
@@ -63,6 +113,7 @@ pub fn special(f: Format, subnormal: bool, v: Unpacked, invalid: bool) -> Answer
         last_edge: 0,
         refusal: 0,
         place: 0,
+        side: side_of(v, 0),
     }
 }
 
@@ -92,7 +143,7 @@ fn position_of(at: u64, origin: u64) -> i64
 // The record of a chain of passes.
 pub fn finish(f: Format, c: Settings, products: bool, subnormal: bool, e: ExactSum) -> Answer
     requires { ⌜ FormatBounds (formatOf f) × SettingsBounds (formatOf f) (settingsOf c) × Ended (spec.digits (formatOf f)) e ⌝ }
-    ensures { λ r. ⌜ answerOf r ≡ totals.reported (formatOf f) subnormal products (totals.sumRounded (formatOf f) (settingsOf c) (spec.grid (formatOf f) products) (totals.towardsNegative (settingsOf c)) (settled.settled (outcomeOf e))) (runOf e) ⌝ }
+    ensures { λ r. ⌜ answerOf r ≡ totals.reported (formatOf f) subnormal products (settled.settled (outcomeOf e)) (totals.sumRounded (formatOf f) (settingsOf c) (spec.grid (formatOf f) products) (totals.towardsNegative (settingsOf c)) (settled.settled (outcomeOf e))) (runOf e) ⌝ }
 {
     let h = e.chain;
     let r = round_sum(f, c, products, e);
@@ -104,5 +155,6 @@ pub fn finish(f: Format, c: Settings, products: bool, subnormal: bool, e: ExactS
         last_edge: position_of(h.edge, origin(f, products)),
         refusal: 0,
         place: 0,
+        side: side_of(v, r.flags),
     }
 }

@@ -8,6 +8,8 @@ mod ways;
 use counts::counts;
 use figures::figures;
 use hex::number;
+use row::LONG;
+use row::ROW;
 use ways::by_bytes;
 use ways::by_entry;
 use ways::by_words;
@@ -60,11 +62,11 @@ fn next_row(a: Agreed, long: bool) -> Agreed
     ensures { λ r. ⌜ (r .rows ≡ a .rows + 1) × (r .words ≤ r .rows) × (r .bytes ≤ r .rows) × (r .entries ≤ r .rows) ⌝ }
 {
     if long {
-        let mut row = [0u8; 485];
+        let mut row = [0u8; LONG];
         io::read_full(0, &mut row);
         return counted(a, &row);
     }
-    let mut row = [0u8; 281];
+    let mut row = [0u8; ROW];
     io::read_full(0, &mut row);
     counted(a, &row)
 }

@@ -12,6 +12,13 @@ ghost use lib.IntN.{pos, negℤ};
 ghost use lib.ListN.{length, getD};
 ghost use Rattle.hex.specs.Digits.{numberAt};
 
+// Where the values begin; and the length of a row of twelve of them, and of a long one, of twenty-four.
+const VALUES: usize = 79;
+
+pub const ROW: usize = 283;
+
+pub const LONG: usize = 487;
+
 fn byte_at(s: &[u8], i: usize) -> u8
     ensures { λ r. ⌜ r ≡ getD (now (s .entry)) i 48 ⌝ }
 {
@@ -73,6 +80,7 @@ pub fn answer_at(s: &[u8]) -> Answer {
         last_edge: signed_at(s, 59, 8),
         refusal: number(s, 69, 1),
         place: number(s, 71, 1),
+        side: number(s, 77, 1),
     }
 }
 
@@ -85,7 +93,7 @@ pub fn returned_at(s: &[u8]) -> u64 {
 fn right_at(s: &[u8]) -> usize
     ensures { λ r. ⌜ r ≤ 12 ⌝ }
 {
-    if s.len() < 485 { 6 } else { 12 }
+    if s.len() < LONG { 6 } else { 12 }
 }
 
 // Twelve values from one on. A sum's list begins at the value 0, and so does a dot's left list.
@@ -96,7 +104,7 @@ pub fn words_at(s: &[u8], first: usize) -> [u64; 12]
     let mut words = [0u64; 12];
     let mut i: usize = 0;
     while i < 12 {
-        words[i] = number(s, 77 + 17 * (first + i), 16);
+        words[i] = number(s, VALUES + 17 * (first + i), 16);
         i += 1;
     }
     words
@@ -110,7 +118,7 @@ pub fn bytes_at(s: &[u8], first: usize) -> [u8; 104]
     let mut bytes = [255u8; 104];
     let mut i: usize = 0;
     while i < 12 {
-        put_word(&mut bytes, 8 * i, number(s, 77 + 17 * (first + i), 16));
+        put_word(&mut bytes, 8 * i, number(s, VALUES + 17 * (first + i), 16));
         i += 1;
     }
     bytes

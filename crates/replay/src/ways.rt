@@ -38,6 +38,7 @@ fn same(a: Answer, b: Answer) -> bool {
         && a.last_edge == b.last_edge
         && a.refusal == b.refusal
         && a.place == b.place
+        && a.side == b.side
 }
 
 fn total_words(s: &[u8]) -> Answer {
@@ -156,6 +157,7 @@ fn written_at(s: &[u8]) -> [u8; 32]
         put_word(&mut answer, 0, a.result);
         put_word(&mut answer, 8, a.flags);
         put_word(&mut answer, 16, a.passes);
+        answer[10] = (a.side % 256) as u8;
     }
     answer
 }

@@ -4,6 +4,7 @@ use mathlib.Core.Bool.{Bool, true, false, not, _&&_, _||_, cond}
 use mathlib.Core.List.{List, [], _∷_}
 use Prim.Native.Nat.{_-_}
 use native.Mathlib.Nat.{pos-of-ne-zero}
+use lib.Dec.{T}
 use lib.Pow.{pow-pos}
 use Rattle.totals_spec.specs.Basics.{any}
 use Rattle.totals_spec.specs.Format as spec
@@ -12,9 +13,12 @@ use Rattle.totals_spec.specs.Decode as dec
 use Rattle.totals_spec.specs.Nan as nans
 use Rattle.totals_spec.specs.Terms as terms
 use Rattle.totals_spec.specs.Totals as totals
+use Rattle.totals_spec.specs.Alone.{hasNan, Alone}
+use Rattle.totals_spec.proofs.Alone.{nan-found, invalid-found, infinity-found, infinity-nan}
 use Rattle.format.specs.Joined.{unpackedOf}
 use Rattle.format.specs.declared.unpacked.Unpacked.{Unpacked}
 use Rattle.format.specs.declared.unpacked.Unpacked.the-variants as unpacked
+use Rattle.binary.specs.declared.nan.Nan.{Nan}
 use Rattle.binary.specs.Joined.{nanOf, selectedBy, selectedOf}
 use Rattle.format.specs.Fits.{Encodes}
 use Rattle.scan.specs.declared.Scan.{Scan}
@@ -83,46 +87,91 @@ module _ {f : spec.Format} {c : env.Settings} {sub sig : Bool} {ops : List dec.U
       let is : dec.isNan x ≡ true = sym (if-nan x) ∙ ap dec.isNan (sym (g .nan)) ∙ held-some (s .nan) ∙ some in
       ap (selectedBy (env.propagationOf (c .nanPropagation)) c) (g .nan ∙ if-some x is) ∙ sym (by-rule (env.propagationOf (c .nanPropagation)) c ops)
 
+-- ---- a value that comes from the items is one that their format has
+
+module _ (k : spec.Kind) (h : T (hasNan k)) where
+  default-alone : (c : env.Settings) → Alone k (nans.defaultNanOf c)
+  unfolding nans.defaultNanOf
+  default-alone c = h
+
+  quiet-alone : (n : Nan) → Alone k (nans.quiet (nanOf n))
+  quiet-alone n = go (n .some)
+    where
+      go : (b : Bool) → Alone k (nans.quiet (cond b (dec.nan (n .negative) (n .signaling) (n .payload)) (dec.zeroOf false)))
+      go true = h
+      go false = tt
+
+  selected-alone : (c : env.Settings) (n : Nan) → Alone k (selectedOf c (nanOf n))
+  unfolding selectedOf
+  selected-alone c n = go (env.propagationOf (c .nanPropagation))
+    where
+      go : (r : env.Propagation) → Alone k (selectedBy r c (nanOf n))
+      go env.signalingFirst = quiet-alone n
+      go env.firstOperand = quiet-alone n
+      go env.largerSignificand = quiet-alone n
+      go env.defaultNan = default-alone c
+
 -- ---- the outcomes
 
 module _ (c : env.Settings) (first : Bool) (s : Scan) where
   pub by-nan : (v : Unpacked) (i : Bool) → nanDecides first s ≡ true → unpackedOf v ≡ selectedOf c (nanOf (s .nan)) → i ≡ (s .signaling || s .invalid)
       → Decides (Given v i) c first s
-  by-nan v i t e h f sub products sig ops l g = (
-    accepted-is g products first (nans.selectAll c ops) ∙ rw (t, e, h, selected-is g products first t),
-    subst (Encodes f) (sym e) (unfold selectedOf in selected-encodes f (env.propagationOf (c .nanPropagation)) c (nanOf (s .nan)) (g .encodes)),
-  )
+  by-nan v i t e h f sub products sig ops l g =
+      let k = spec.kindOf (f .kind) in
+      let some : any terms.isNanItem l ≡ true = sym (g .some) ∙ and-left (s .nan .some) _ t in
+      record {
+        is = accepted-is g products first (nans.selectAll c ops) ∙ rw (t, e, h, selected-is g products first t);
+        encodes =
+            subst (Encodes f) (sym e)
+            (unfold selectedOf in selected-encodes f (env.propagationOf (c .nanPropagation)) c (nanOf (s .nan)) (g .encodes));
+        alone = λ a. subst (Alone k) (sym e) (selected-alone k (nan-found k l a some) c (s .nan));
+      }
 
   module _ (t : nanDecides first s ≡ false) where
     pub by-invalid : (v : Unpacked) → s .invalid ≡ true → unpackedOf v ≡ nans.defaultNanOf c → Decides (Given v true) c first s
-    by-invalid v i e f sub products sig ops l g = (
-      accepted-is g products first (nans.selectAll c ops) ∙ rw t (without-is g products first ∙ rw (i, e)),
-      subst (Encodes f) (sym e) (default-encodes f c),
-    )
+    by-invalid v i e f sub products sig ops l g =
+        let k = spec.kindOf (f .kind) in
+        record {
+          is = accepted-is g products first (nans.selectAll c ops) ∙ rw t (without-is g products first ∙ rw (i, e));
+          encodes = subst (Encodes f) (sym e) (default-encodes f c);
+          alone = λ a. subst (Alone k) (sym e) (default-alone k (infinity-nan k (invalid-found k l a (sym (g .invalid) ∙ i))) c);
+        }
 
     module _ (i : s .invalid ≡ false) where
       pub by-both : (v : Unpacked) → s .«positive_infinity» ≡ true → s .«negative_infinity» ≡ true → unpackedOf v ≡ nans.defaultNanOf c
           → Decides (Given v true) c first s
-      by-both v p n e f sub products sig ops l g = (
-        accepted-is g products first (nans.selectAll c ops) ∙ rw t (without-is g products first ∙ rw (i, p, n, e)),
-        subst (Encodes f) (sym e) (default-encodes f c),
-      )
+      by-both v p n e f sub products sig ops l g =
+          let k = spec.kindOf (f .kind) in
+          record {
+            is = accepted-is g products first (nans.selectAll c ops) ∙ rw t (without-is g products first ∙ rw (i, p, n, e));
+            encodes = subst (Encodes f) (sym e) (default-encodes f c);
+            alone = λ a. subst (Alone k) (sym e) (default-alone k (infinity-nan k (infinity-found k false l a (sym (g .positive-infinity) ∙ p))) c);
+          }
 
       pub by-positive : s .«positive_infinity» ≡ true → s .«negative_infinity» ≡ false → Decides (Given (unpacked.Infinity false) false) c first s
-      by-positive p n f sub products sig ops l g = (accepted-is g products first (nans.selectAll c ops) ∙ rw t (without-is g products first ∙ rw (i, p, n)), tt)
+      by-positive p n f sub products sig ops l g = record {
+        is = accepted-is g products first (nans.selectAll c ops) ∙ rw t (without-is g products first ∙ rw (i, p, n));
+        encodes = tt;
+        alone = λ a. infinity-found (spec.kindOf (f .kind)) false l a (sym (g .positive-infinity) ∙ p);
+      }
 
       module _ (p : s .«positive_infinity» ≡ false) where
         pub by-negative : s .«negative_infinity» ≡ true → Decides (Given (unpacked.Infinity true) false) c first s
-        by-negative n f sub products sig ops l g = (accepted-is g products first (nans.selectAll c ops) ∙ rw t (without-is g products first ∙ rw (i, p, n)), tt)
+        by-negative n f sub products sig ops l g = record {
+          is = accepted-is g products first (nans.selectAll c ops) ∙ rw t (without-is g products first ∙ rw (i, p, n));
+          encodes = tt;
+          alone = λ a. infinity-found (spec.kindOf (f .kind)) true l a (sym (g .negative-infinity) ∙ n);
+        }
 
         module _ (n : s .«negative_infinity» ≡ false) where
           pub by-zeros : (b : Bool) → s .top ≡ 0 → b ≡ totals.zeroSign (s .«positive_zero») (s .«negative_zero») (totals.towardsNegative c)
               → Decides (Given (unpacked.Zero b) false) c first s
           unfolding totals.finiteTotal
-          by-zeros b z e f sub products sig ops l g = (
-            accepted-is g products first (nans.selectAll c ops) ∙ rw t (without-is g products first ∙ rw (i, p, n, ← e, g .no-term z)),
-            tt,
-          )
+          by-zeros b z e f sub products sig ops l g = record {
+            is = accepted-is g products first (nans.selectAll c ops) ∙ rw t (without-is g products first ∙ rw (i, p, n, ← e, g .no-term z));
+            encodes = tt;
+            alone = λ a. tt;
+          }
 
           pub by-terms : (s .top ≡ 0 → ⊥) → Decides Terms c first s
           unfolding totals.finiteTotal

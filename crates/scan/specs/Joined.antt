@@ -10,6 +10,7 @@ use Rattle.totals_spec.specs.Decode as dec
 use Rattle.totals_spec.specs.Nan as nans
 use Rattle.totals_spec.specs.Terms as terms
 use Rattle.totals_spec.specs.Totals as totals
+use Rattle.totals_spec.specs.Alone.{AllGive, Alone}
 use Rattle.format.specs.Joined.{unpackedOf}
 use Rattle.binary.specs.Joined.{nanOf}
 use Rattle.format.specs.Fits.{Encodes}
@@ -154,10 +155,17 @@ TakesPair f c x s r = (l : List (ℕ × ℕ)) (apart : ℕ) → ScannedPairs f c
 abbrev pub nanDecides : Bool → Scan → Bool
 nanDecides first s = s .nan .some && not (first && not (s .signaling) && s .«positive_infinity»)
 
+-- no pass is run: v is the result, with flag 1 where i says so
+pub record Told (f : spec.Format) (c : env.Settings) (sub products first sig : Bool) (ops : List dec.Unpacked) (l : List terms.Item) (v : dec.Unpacked)
+    (i : Bool) : Type 0 where
+  pub is : totals.accepted f c sub products first sig (nans.selectAll c ops) l ≡ totals.special f sub v i
+  pub encodes : Encodes f v
+  pub alone : AllGive (spec.kindOf (f .kind)) l → Alone (spec.kindOf (f .kind)) v
+
 abbrev pub Decides : Early → env.Settings → Bool → Scan → Type 0
 Decides (Given v i) c first s =
     (f : spec.Format) (sub products sig : Bool) (ops : List dec.Unpacked) (l : List terms.Item) → Gathered f c sub sig ops l s
-    → (totals.accepted f c sub products first sig (nans.selectAll c ops) l ≡ totals.special f sub (unpackedOf v) i) × Encodes f (unpackedOf v)
+    → Told f c sub products first sig ops l (unpackedOf v) i
 Decides Terms c first s =
     (f : spec.Format) (sub products sig : Bool) (ops : List dec.Unpacked) (l : List terms.Item) → Gathered f c sub sig ops l s
     → (totals.accepted f c sub products first sig (nans.selectAll c ops) l ≡ totals.finiteTotal f c sub products false (terms.terms l))

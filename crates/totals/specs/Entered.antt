@@ -1,14 +1,24 @@
 -- What a byte entry leaves behind: the number that it gives, and the buffer. And a format and settings from an entry's numbers, in its order.
 use mathlib.Core.Path.{_≡_}
 use mathlib.Core.List.{List}
-use Prim.Native.Nat.{ℕ}
+use Prim.Native.Nat.{ℕ, _^_, _<_, _≤_}
+use lib.ListN.{length}
 use Rattle.totals_spec.specs.Format.{Format}
 use Rattle.totals_spec.specs.Settings.{Settings}
+use Rattle.totals_spec.specs.Totals.{Answer}
 use Rattle.totals_spec.specs.Bytes.{Entry}
 
 pub record Enters (e : Entry) (code : ℕ) (buffer : List ℕ) : Type 0 where
   pub code-is : code ≡ e .code
   pub buffer-is : buffer ≡ e .buffer
+
+-- a record that can be entered: the buffer has room for it, and each field fits where it is written
+pub record Fits (a : Answer) (buffer : List ℕ) : Type 0 where
+  pub room : 24 ≤ length buffer
+  pub number : a .refusal < 256
+  pub place : a .place < 2 ^ 32
+  pub flags : a .flags < 256
+  pub side : a .side < 4
 
 abbrev pub formatFrom : (kind exponentBits width : ℕ) → Format
 formatFrom k e w = record { kind = k; E = e; W = w }

@@ -5,22 +5,23 @@ use format::Format;
 use format::env::Settings;
 use reduction::total::Answer;
 use values::put_word;
-ghost use Prim.Native.Nat.{_≤_, _<_};
-ghost use lib.ListN.{length};
 ghost use Rattle.totals_spec.specs.Bytes as bytes;
 ghost use Rattle.reduction.specs.Answered.{answerOf};
-ghost use Rattle.totals.specs.Entered.{Enters, formatFrom, settingsFrom};
+ghost use Rattle.totals.specs.Entered.{Enters, Fits, formatFrom, settingsFrom};
+
+// The side is the third byte of its word, above the flags.
+const SIDE: u64 = 65536;
 
 // An accepted record is written; any other leaves the buffer as it was. Returns the refusal, plus 256 times the place.
 fn enter(a: Answer, answer: &mut [u8]) -> u64
-    requires { ⌜ (24 ≤ length (now answer)) × (a .refusal < 256) × (a .place < 4294967296) ⌝ }
+    requires { ⌜ Fits (answerOf a) (now answer) ⌝ }
     ensures { λ r. ⌜ Enters (bytes.entered (answerOf a) (now (answer .entry))) r (now (answer .exit)) ⌝ }
 {
     if a.refusal != 0 {
         return a.refusal + 256 * a.place;
     }
     put_word(answer, 0, a.result);
-    put_word(answer, 8, a.flags);
+    put_word(answer, 8, a.flags + SIDE * a.side);
     put_word(answer, 16, a.passes);
     0
 }

@@ -7,14 +7,13 @@ use native.Mathlib.Nat.{not-suc-le-zero, suc-inj, suc-ne-zero}
 use lib.ListN.{length}
 use lib.Dec.{T}
 use Rattle.totals_spec.specs.Basics.{any, isSet}
-use Rattle.totals_spec.specs.Format.{Format, digits, grid}
+use Rattle.totals_spec.specs.Format.{Format}
 use Rattle.totals_spec.specs.Settings.{Settings, Summand, value, magnitude, square, summandOf}
 use Rattle.totals_spec.specs.Decode.{Unpacked, zeroOf, finite, infinity, nan, decode, operand, isSubnormal, signBit}
 use Rattle.totals_spec.specs.Terms.{Item, nanItem, invalidItem, infinite, zeroItem, term, Term, item, itemOf, pairItem, pairOf, isNanItem, isInvalid}
-use Rattle.totals_spec.specs.Terms.{isInfinite, terms, exactSum}
-use Rattle.totals_spec.specs.Chain.{chain}
-use Rattle.totals_spec.specs.Totals.{sumRounded, reported, towardsNegative, finiteTotal, withoutNan, accepted, sumAccepted, sumAnswer, pairs, dotAccepted}
-use Rattle.totals_spec.specs.Totals.{dotAnswer}
+use Rattle.totals_spec.specs.Terms.{isInfinite, isZero, terms}
+use Rattle.totals_spec.specs.Totals.{towardsNegative, zeroSign, finiteTotal, withoutNan, accepted, isSquare, sumRefusal, sumTerms, sumAccepted}
+use Rattle.totals_spec.specs.Totals.{sumAnswer, dotRefusal, pairs, dotTerms, dotAccepted, dotAnswer}
 use Rattle.totals_spec.specs.Promises.{isNumber, AllFinite, Sum-exact, Dot-exact}
 use Rattle.totals_spec.proofs.Order.{dot-lengths}
 
@@ -40,21 +39,23 @@ none-of t z g (infinite s ∷ l) h = absurd (h .0)
 none-of t z g (zeroItem s ∷ l) h = ap₂ _||_ (z s) (none-of t z g l (h .1))
 none-of t z g (term x ∷ l) h = ap₂ _||_ (g x) (none-of t z g l (h .1))
 
+-- a zero's sign, where there are only zeros
+abbrev pub zeroFor : Settings → List Item → Bool
+zeroFor c l = zeroSign (any (isZero false) l) (any (isZero true) l) (towardsNegative c)
+
 some-term : (ts : List Term) → 0 < length ts → any (λ t. true) ts ≡ true
 some-term [] h = absurd (not-suc-le-zero h)
 some-term (t ∷ ts) h = refl
 
-plain-accepted : (f : Format) (c : Settings) (sub products first signaling : Bool) (v : Unpacked) (l : List Item) → AllPlain l → 0 < length (terms l)
-    → accepted f c sub products first signaling v l
-    ≡ reported f sub products (sumRounded f c (grid f products) (towardsNegative c) (exactSum (terms l))) (chain (digits f) (terms l))
-unfolding accepted withoutNan finiteTotal
-plain-accepted f c sub products first signaling v l h some =
+plain-accepted : (f : Format) (c : Settings) (sub products first signaling : Bool) (v : Unpacked) (l : List Item) → AllPlain l
+    → accepted f c sub products first signaling v l ≡ finiteTotal f c sub products (zeroFor c l) (terms l)
+unfolding accepted withoutNan
+plain-accepted f c sub products first signaling v l h =
     rw (
       none-of isNanItem (λ s. refl) (λ x. refl) l h,
       none-of isInvalid (λ s. refl) (λ x. refl) l h,
       none-of (isInfinite false) (λ s. refl) (λ x. refl) l h,
       none-of (isInfinite true) (λ s. refl) (λ x. refl) l h,
-      some-term (terms l) some,
     )
 
 -- ---- finite values give zeros and terms
@@ -118,14 +119,28 @@ pairs-any t [] (y ∷ ys) e = absurd (suc-ne-zero (length ys) (sym e))
 pairs-any t (x ∷ xs) [] e = absurd (suc-ne-zero (length xs) e)
 pairs-any t (x ∷ xs) (y ∷ ys) e = ap (λ (b : Bool). (t x || t y) || b) (pairs-any t xs ys (suc-inj e)) ∙ or-mix (t x) (t y) (any t xs) (any t ys)
 
+-- ---- so the record is one of finite values, with a term or without
+
+pub sum-finite : (f : Format) (c : Settings) (u : ℕ) (l : List ℕ) → sumRefusal f c u l ≡ 0 → AllFinite f l
+    → sumAnswer f c u l
+    ≡ finiteTotal f c (any (isSubnormal f) l) (isSquare (summandOf u)) (zeroFor c (map (item f c (summandOf u)) l)) (sumTerms f c (summandOf u) l)
+unfolding sumAnswer sumAccepted
+sum-finite f c u l r h = rw r (plain-accepted f c _ _ _ _ _ (map (item f c (summandOf u)) l) (plain-items f c (summandOf u) l h))
+
+pub dot-finite : (f : Format) (c : Settings) (xs ys : List ℕ) → dotRefusal f c xs ys ≡ 0 → AllFinite f xs → AllFinite f ys
+    → dotAnswer f c xs ys
+    ≡ finiteTotal f c (any (isSubnormal f) xs || any (isSubnormal f) ys) true (zeroFor c (map (pairItem f c) (pairs xs ys))) (dotTerms f c xs ys)
+unfolding dotAnswer dotAccepted
+dot-finite f c xs ys r h k =
+    rw (r, pairs-any (isSubnormal f) xs ys (dot-lengths f c xs ys r))
+    (plain-accepted f c _ _ _ _ _ (map (pairItem f c) (pairs xs ys)) (plain-pairs f c xs ys h k))
+
 -- ---- THE PROMISE
 
 pub sum-exact : Sum-exact
-unfolding sumAnswer sumAccepted
-sum-exact f c u l r h some = rw r (plain-accepted f c _ _ _ _ _ (map (item f c (summandOf u)) l) (plain-items f c (summandOf u) l h) some)
+unfolding finiteTotal
+sum-exact f c u l r h some = sum-finite f c u l r h ∙ rw (some-term (sumTerms f c (summandOf u) l) some)
 
 pub dot-exact : Dot-exact
-unfolding dotAnswer dotAccepted
-dot-exact f c xs ys r h k some =
-    rw (r, pairs-any (isSubnormal f) xs ys (dot-lengths f c xs ys r))
-    (plain-accepted f c _ _ _ _ _ (map (pairItem f c) (pairs xs ys)) (plain-pairs f c xs ys h k) some)
+unfolding finiteTotal
+dot-exact f c xs ys r h k some = dot-finite f c xs ys r h k ∙ rw (some-term (dotTerms f c xs ys) some)

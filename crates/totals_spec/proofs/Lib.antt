@@ -26,8 +26,19 @@ pub mod Invariant
 pub mod FreePass
 pub mod NearPass
 pub mod Exact
+pub mod Beside
+pub mod Range
+pub mod Back
+pub mod Powers
+pub mod Stored
+pub mod Largest
+pub mod Cases
+pub mod Lean
 pub mod ByChain
 pub mod Finite
+pub mod Sides
+pub mod Alone
+pub mod Fields
 -- The promises: what `specs/Promises.antt` states. Read this one first.
 pub mod Promises
 -- More of a pass: how near S is to the exact sum, and that a boundary need not be taken off.

@@ -7,9 +7,10 @@ use Rattle.totals_spec.specs.Settings.{summandOf}
 use Rattle.totals_spec.specs.Totals.{pairs}
 use Rattle.totals_spec.specs.Limit.{lowBit}
 use Rattle.totals_spec.specs.Promises.{Careers-agree, Margins-agree, Examples-agree, Zeros-accepted, Zeros-refused, Sum-refusal, Dot-refusal, Sum-refused}
-use Rattle.totals_spec.specs.Promises.{Dot-refused, Sum-place, Dot-place, Sum-entry-refused, Dot-entry-refused, Sum-exact, Dot-exact, Sum-by-chain}
-use Rattle.totals_spec.specs.Promises.{Dot-by-chain, Sum-order, Dot-order, Sum-entry-order, Dot-entry-order, Sum-limit, Dot-limit, Binary64-sum-limit}
-use Rattle.totals_spec.specs.Promises.{Binary64-square-limit, Binary64-dot-limit, Sum-ends, Dot-ends, Sum-edges, Dot-edges, Low-bit}
+use Rattle.totals_spec.specs.Promises.{Dot-refused, Sum-place, Dot-place, Sum-entry-refused, Dot-entry-refused, Sum-exact, Dot-exact, Sum-side}
+use Rattle.totals_spec.specs.Promises.{Dot-side, Sum-no-side, Dot-no-side, Sum-by-chain, Dot-by-chain, Sum-order, Dot-order, Sum-entry-order}
+use Rattle.totals_spec.specs.Promises.{Dot-entry-order, Sum-limit, Dot-limit, Binary64-sum-limit, Binary64-square-limit, Binary64-dot-limit, Sum-ends}
+use Rattle.totals_spec.specs.Promises.{Dot-ends, Sum-edges, Dot-edges, Low-bit, Sides-agree}
 use Rattle.totals_spec.proofs.Bits.{low-divides, low-set}
 use Rattle.totals_spec.proofs.Good.{good-terms, good-pairs}
 use Rattle.totals_spec.proofs.Valid.{digits-le}
@@ -19,6 +20,7 @@ use Rattle.totals_spec.specs.Careers as tests
 use Rattle.totals_spec.proofs.Careers as careers
 use Rattle.totals_spec.proofs.Refused as refusals
 use Rattle.totals_spec.proofs.Finite as finite
+use Rattle.totals_spec.proofs.Sides as sides
 use Rattle.totals_spec.proofs.ByChain as chains
 use Rattle.totals_spec.proofs.Order as order
 use Rattle.totals_spec.proofs.Passes as passes
@@ -31,6 +33,9 @@ careers-agree = tests.careers-agree
 
 pub margins-agree : Margins-agree
 margins-agree = tests.margins-agree
+
+pub sides-agree : Sides-agree
+sides-agree = tests.sides-agree
 
 pub examples-agree : Examples-agree
 examples-agree = (tests.refusals-agree, tests.entry-agrees, tests.pence-agree, tests.program-agrees)
@@ -74,6 +79,20 @@ sum-exact = finite.sum-exact
 
 pub dot-exact : Dot-exact
 dot-exact = finite.dot-exact
+
+-- ==== document 02, A.4: the side (Sides)
+
+pub sum-side : Sum-side
+sum-side = sides.sum-side
+
+pub dot-side : Dot-side
+dot-side = sides.dot-side
+
+pub sum-no-side : Sum-no-side
+sum-no-side = sides.sum-no-side
+
+pub dot-no-side : Dot-no-side
+dot-no-side = sides.dot-no-side
 
 -- ==== promise 2: what a chain ends with, rounded, is the exact sum rounded (ByChain)
 

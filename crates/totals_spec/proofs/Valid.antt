@@ -6,7 +6,7 @@ use native.Mathlib.Omega.{arith}
 use lib.Dec.{T, leb, leb→le}
 use Rattle.totals_spec.specs.Format.{Format, validFormat, digits}
 use Rattle.totals_spec.specs.Settings.{Settings, validSettings, chosen, precisionOf}
-use Rattle.totals_spec.specs.Bounds.{FormatBounds, SettingsBounds}
+use Rattle.totals_spec.specs.Bounds.{FormatBounds, RangeBounds, SettingsBounds}
 
 pub and-left : (a b : Bool) → T (a && b) → T a
 and-left true true t = tt
@@ -84,3 +84,11 @@ precision-most f c b = go (c .precision) (b .precision-le)
 
 pub precision-le : (f : Format) (c : Settings) → T (validSettings f c) → precisionOf f c ≤ digits f
 precision-le f c t = precision-most f c (settings-bounds f c t)
+
+pub precision-least : (f : Format) (c : Settings) → RangeBounds f → 1 ≤ precisionOf f c
+unfolding precisionOf
+precision-least f c b = go (c .precision)
+  where
+    go : (q : ℕ) → 1 ≤ chosen q (digits f)
+    go zero = let h : 1 ≤ digits f = omega (arith, b .w-ge) in h
+    go (suc q) = omega arith

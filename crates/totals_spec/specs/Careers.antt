@@ -24,7 +24,8 @@ use Rattle.totals_spec.specs.Chain.{lostEnd, lookAt, half, wrapped, deci
 use Rattle.totals_spec.specs.Round.{dropped, roundedAt, overflows, largest, overflow, numberOf, finished, tinySum, roundTo, round}
 use Rattle.totals_spec.specs.Encode.{encode}
 use Rattle.totals_spec.specs.Nan.{defaultNanOf, selectAll}
-use Rattle.totals_spec.specs.Totals.{Answer, special, sumRounded, reported, finiteTotal, withoutNan, accepted, sumRefusal, sumAccepted, sumAnswer, dotRefusal, dotPlace, dotAnswer}
+use Rattle.totals_spec.specs.Side.{leansOf, sideOf}
+use Rattle.totals_spec.specs.Totals.{Answer, special, sumRounded, reported, finiteTotal, withoutNan, accepted, sumRefusal, sumAccepted, sumAnswer, dotRefusal, dotPlace, dotAccepted, dotAnswer}
 use Rattle.totals_spec.specs.Bytes.{Entry, valuesIn, written, entered, sumEntry}
 use Rattle.totals_spec.specs.Pence.{Pence, penceOf, penceAnswer}
 use Rattle.totals_spec.specs.Program.{readFrom, hexText, decimalFrom, answerText, programText}
@@ -50,33 +51,34 @@ pub record Row : Type 0 where
   pub flags : ℕ
   pub passes : ℕ
   pub lastEdge : ℤ
+  pub side : ℕ
 
 unfoldable pub careers : List Row
 careers =
     -- C1: empty, toward negative
-    record { mode = 4; summand = 0; list = []; result = 0; flags = 0x00; passes = 0; lastEdge = pos 0 }
+    record { mode = 4; summand = 0; list = []; result = 0; flags = 0x00; passes = 0; lastEdge = pos 0; side = 0 }
     -- C2: −0
-    ∷ record { mode = 0; summand = 0; list = 0x8000000000000000 ∷ []; result = 0x8000000000000000; flags = 0x00; passes = 0; lastEdge = pos 0 }
+    ∷ record { mode = 0; summand = 0; list = 0x8000000000000000 ∷ []; result = 0x8000000000000000; flags = 0x00; passes = 0; lastEdge = pos 0; side = 0 }
     -- C3: +0, −0, toward negative
-    ∷ record { mode = 4; summand = 0; list = 0 ∷ 0x8000000000000000 ∷ []; result = 0x8000000000000000; flags = 0x00; passes = 0; lastEdge = pos 0 }
+    ∷ record { mode = 4; summand = 0; list = 0 ∷ 0x8000000000000000 ∷ []; result = 0x8000000000000000; flags = 0x00; passes = 0; lastEdge = pos 0; side = 0 }
     -- C4: 1, −1
-    ∷ record { mode = 0; summand = 0; list = 0x3ff0000000000000 ∷ 0xbff0000000000000 ∷ []; result = 0; flags = 0x00; passes = 1; lastEdge = negsuc 701 }
+    ∷ record { mode = 0; summand = 0; list = 0x3ff0000000000000 ∷ 0xbff0000000000000 ∷ []; result = 0; flags = 0x00; passes = 1; lastEdge = negsuc 701; side = 0 }
     -- C5: 2^1000, 1, −2^1000
-    ∷ record { mode = 0; summand = 0; list = 0x7e70000000000000 ∷ 0x3ff0000000000000 ∷ 0xfe70000000000000 ∷ []; result = 0x3ff0000000000000; flags = 0x00; passes = 2; lastEdge = negsuc 467 }
+    ∷ record { mode = 0; summand = 0; list = 0x7e70000000000000 ∷ 0x3ff0000000000000 ∷ 0xfe70000000000000 ∷ []; result = 0x3ff0000000000000; flags = 0x00; passes = 2; lastEdge = negsuc 467; side = 0 }
     -- C6: 1, 2^−53
-    ∷ record { mode = 0; summand = 0; list = 0x3ff0000000000000 ∷ 0x3ca0000000000000 ∷ []; result = 0x3ff0000000000000; flags = 0x10; passes = 1; lastEdge = negsuc 701 }
+    ∷ record { mode = 0; summand = 0; list = 0x3ff0000000000000 ∷ 0x3ca0000000000000 ∷ []; result = 0x3ff0000000000000; flags = 0x10; passes = 1; lastEdge = negsuc 701; side = 1 }
     -- C7: 1, 2^−53, 2^−1000
-    ∷ record { mode = 0; summand = 0; list = 0x3ff0000000000000 ∷ 0x3ca0000000000000 ∷ 0x0170000000000000 ∷ []; result = 0x3ff0000000000001; flags = 0x50; passes = 2; lastEdge = negsuc 1402 }
+    ∷ record { mode = 0; summand = 0; list = 0x3ff0000000000000 ∷ 0x3ca0000000000000 ∷ 0x0170000000000000 ∷ []; result = 0x3ff0000000000001; flags = 0x50; passes = 2; lastEdge = negsuc 1402; side = 2 }
     -- C8: 7fefffffffffffff twice
-    ∷ record { mode = 0; summand = 0; list = 0x7fefffffffffffff ∷ 0x7fefffffffffffff ∷ []; result = 0x7ff0000000000000; flags = 0x54; passes = 1; lastEdge = pos 321 }
+    ∷ record { mode = 0; summand = 0; list = 0x7fefffffffffffff ∷ 0x7fefffffffffffff ∷ []; result = 0x7ff0000000000000; flags = 0x54; passes = 1; lastEdge = pos 321; side = 3 }
     -- C9: C8 toward zero
-    ∷ record { mode = 5; summand = 0; list = 0x7fefffffffffffff ∷ 0x7fefffffffffffff ∷ []; result = 0x7fefffffffffffff; flags = 0x14; passes = 1; lastEdge = pos 321 }
+    ∷ record { mode = 5; summand = 0; list = 0x7fefffffffffffff ∷ 0x7fefffffffffffff ∷ []; result = 0x7fefffffffffffff; flags = 0x14; passes = 1; lastEdge = pos 321; side = 1 }
     -- C10: 0000000000000001
-    ∷ record { mode = 0; summand = 0; list = 1 ∷ []; result = 1; flags = 0xa0; passes = 1; lastEdge = negsuc 1775 }
+    ∷ record { mode = 0; summand = 0; list = 1 ∷ []; result = 1; flags = 0xa0; passes = 1; lastEdge = negsuc 1775; side = 0 }
     -- C11: square of 2^−600
-    ∷ record { mode = 0; summand = 2; list = 0x1a70000000000000 ∷ []; result = 0; flags = 0x38; passes = 1; lastEdge = negsuc 1900 }
+    ∷ record { mode = 0; summand = 2; list = 0x1a70000000000000 ∷ []; result = 0; flags = 0x38; passes = 1; lastEdge = negsuc 1900; side = 1 }
     -- C12: magnitude of −∞, quiet NaN
-    ∷ record { mode = 0; summand = 1; list = 0xfff0000000000000 ∷ 0x7ff8000000000000 ∷ []; result = 0x7ff0000000000000; flags = 0x00; passes = 0; lastEdge = pos 0 }
+    ∷ record { mode = 0; summand = 1; list = 0xfff0000000000000 ∷ 0x7ff8000000000000 ∷ []; result = 0x7ff0000000000000; flags = 0x00; passes = 0; lastEdge = pos 0; side = 3 }
     ∷ []
 
 -- ---- rows at the margins of the passes' rules, worked out from document 01's text; binary64 has p = 53
@@ -84,27 +86,30 @@ careers =
 unfoldable pub margins : List Row
 margins =
     -- 1, 2^−638, 2^−1000: at −702 n = 703, r = 649 and d = 2^64, under the margin of 2^65: a boundary, and the next pass at −1403 is exact
-    record { mode = 0; summand = 0; list = 0x3ff0000000000000 ∷ 0x1810000000000000 ∷ 0x0170000000000000 ∷ []; result = 0x3ff0000000000000; flags = 0x10; passes = 2; lastEdge = negsuc 1402 }
+    record { mode = 0; summand = 0; list = 0x3ff0000000000000 ∷ 0x1810000000000000 ∷ 0x0170000000000000 ∷ []; result = 0x3ff0000000000000; flags = 0x10; passes = 2; lastEdge = negsuc 1402; side = 1 }
     -- 1, 2^−637, 2^−1000: d = 2^65, so the first pass is final
-    ∷ record { mode = 0; summand = 0; list = 0x3ff0000000000000 ∷ 0x1820000000000000 ∷ 0x0170000000000000 ∷ []; result = 0x3ff0000000000000; flags = 0x10; passes = 1; lastEdge = negsuc 701 }
+    ∷ record { mode = 0; summand = 0; list = 0x3ff0000000000000 ∷ 0x1820000000000000 ∷ 0x0170000000000000 ∷ []; result = 0x3ff0000000000000; flags = 0x10; passes = 1; lastEdge = negsuc 701; side = 1 }
     -- 1, 2^−53, −2^−702, −2^−1000: d = 2^649 − 1, near the multiple above, which is a tie; the sum lies below it
-    ∷ record { mode = 0; summand = 0; list = 0x3ff0000000000000 ∷ 0x3ca0000000000000 ∷ 0x9410000000000000 ∷ 0x8170000000000000 ∷ []; result = 0x3ff0000000000000; flags = 0x10; passes = 2; lastEdge = negsuc 1402 }
+    ∷ record { mode = 0; summand = 0; list = 0x3ff0000000000000 ∷ 0x3ca0000000000000 ∷ 0x9410000000000000 ∷ 0x8170000000000000 ∷ []; result = 0x3ff0000000000000; flags = 0x10; passes = 2; lastEdge = negsuc 1402; side = 1 }
     -- 1, −1, 2^−580, 2^−1000: n = 123 = p + 70, d = 0: a boundary
-    ∷ record { mode = 0; summand = 0; list = 0x3ff0000000000000 ∷ 0xbff0000000000000 ∷ 0x1bb0000000000000 ∷ 0x0170000000000000 ∷ []; result = 0x1bb0000000000000; flags = 0x10; passes = 2; lastEdge = negsuc 1402 }
+    ∷ record { mode = 0; summand = 0; list = 0x3ff0000000000000 ∷ 0xbff0000000000000 ∷ 0x1bb0000000000000 ∷ 0x0170000000000000 ∷ []; result = 0x1bb0000000000000; flags = 0x10; passes = 2; lastEdge = negsuc 1402; side = 1 }
     -- 1, −1, 2^−581, 2^−1000: n = 122, so the next edge is 766 below −702 + 122
-    ∷ record { mode = 0; summand = 0; list = 0x3ff0000000000000 ∷ 0xbff0000000000000 ∷ 0x1ba0000000000000 ∷ 0x0170000000000000 ∷ []; result = 0x1ba0000000000000; flags = 0x10; passes = 2; lastEdge = negsuc 1345 }
+    ∷ record { mode = 0; summand = 0; list = 0x3ff0000000000000 ∷ 0xbff0000000000000 ∷ 0x1ba0000000000000 ∷ 0x0170000000000000 ∷ []; result = 0x1ba0000000000000; flags = 0x10; passes = 2; lastEdge = negsuc 1345; side = 1 }
     -- 2^1000, 2^−338, 2^−1074: a boundary at 298, and at −403 S = 2^65, n = 66: the side is known
-    ∷ record { mode = 0; summand = 0; list = 0x7e70000000000000 ∷ 0x2ad0000000000000 ∷ 1 ∷ []; result = 0x7e70000000000000; flags = 0x90; passes = 2; lastEdge = negsuc 402 }
+    ∷ record { mode = 0; summand = 0; list = 0x7e70000000000000 ∷ 0x2ad0000000000000 ∷ 1 ∷ []; result = 0x7e70000000000000; flags = 0x90; passes = 2; lastEdge = negsuc 402; side = 1 }
     -- 2^1000, 2^−339, 2^−1074: n = 65, so the next edge is 766 below −403 + 65, and that pass is exact
-    ∷ record { mode = 0; summand = 0; list = 0x7e70000000000000 ∷ 0x2ac0000000000000 ∷ 1 ∷ []; result = 0x7e70000000000000; flags = 0x90; passes = 3; lastEdge = negsuc 1103 }
+    ∷ record { mode = 0; summand = 0; list = 0x7e70000000000000 ∷ 0x2ac0000000000000 ∷ 1 ∷ []; result = 0x7e70000000000000; flags = 0x90; passes = 3; lastEdge = negsuc 1103; side = 1 }
     -- 2^1000, −2^−338, 2^−1074: below the boundary
-    ∷ record { mode = 0; summand = 0; list = 0x7e70000000000000 ∷ 0xaad0000000000000 ∷ 1 ∷ []; result = 0x7e70000000000000; flags = 0xd0; passes = 2; lastEdge = negsuc 402 }
+    ∷ record { mode = 0; summand = 0; list = 0x7e70000000000000 ∷ 0xaad0000000000000 ∷ 1 ∷ []; result = 0x7e70000000000000; flags = 0xd0; passes = 2; lastEdge = negsuc 402; side = 2 }
     -- C5 in another order
-    ∷ record { mode = 0; summand = 0; list = 0x3ff0000000000000 ∷ 0x7e70000000000000 ∷ 0xfe70000000000000 ∷ []; result = 0x3ff0000000000000; flags = 0x00; passes = 2; lastEdge = negsuc 467 }
+    ∷ record { mode = 0; summand = 0; list = 0x3ff0000000000000 ∷ 0x7e70000000000000 ∷ 0xfe70000000000000 ∷ []; result = 0x3ff0000000000000; flags = 0x00; passes = 2; lastEdge = negsuc 467; side = 0 }
     -- squares of 2^−538 twice and of 2^−600: 2^−1075 + 2^−1200, just above half of the least number; rounded to 53 digits first it would be a tie
-    ∷ record { mode = 0; summand = 2; list = 0x1e50000000000000 ∷ 0x1e50000000000000 ∷ 0x1a70000000000000 ∷ []; result = 1; flags = 0x78; passes = 1; lastEdge = negsuc 1776 }
+    ∷ record { mode = 0; summand = 2; list = 0x1e50000000000000 ∷ 0x1e50000000000000 ∷ 0x1a70000000000000 ∷ []; result = 1; flags = 0x78; passes = 1; lastEdge = negsuc 1776; side = 2 }
     -- −0, 1, −1: terms that cancel, whichever zeros stand among them
-    ∷ record { mode = 0; summand = 0; list = 0x8000000000000000 ∷ 0x3ff0000000000000 ∷ 0xbff0000000000000 ∷ []; result = 0; flags = 0x00; passes = 1; lastEdge = negsuc 701 }
+    ∷ record { mode = 0; summand = 0; list = 0x8000000000000000 ∷ 0x3ff0000000000000 ∷ 0xbff0000000000000 ∷ []; result = 0; flags = 0x00; passes = 1; lastEdge = negsuc 701; side = 0 }
+    -- C6 and C7 negated: what lay below lies above, and the other way round
+    ∷ record { mode = 0; summand = 0; list = 0xbff0000000000000 ∷ 0xbca0000000000000 ∷ []; result = 0xbff0000000000000; flags = 0x10; passes = 1; lastEdge = negsuc 701; side = 2 }
+    ∷ record { mode = 0; summand = 0; list = 0xbff0000000000000 ∷ 0xbca0000000000000 ∷ 0x8170000000000000 ∷ []; result = 0xbff0000000000001; flags = 0x50; passes = 2; lastEdge = negsuc 1402; side = 1 }
     ∷ []
 
 abbrev pub sameInt : ℤ → ℤ → Bool
@@ -116,18 +121,46 @@ sameInt (negsuc m) (negsuc n) = eqb m n
 abbrev pub agrees : Row → Answer → Bool
 agrees r a =
     eqb (a .result) (r .result) && eqb (a .flags) (r .flags) && eqb (a .passes) (r .passes) && sameInt (a .lastEdge) (r .lastEdge)
-    && eqb (a .refusal) 0 && eqb (a .place) 0
+    && eqb (a .refusal) 0 && eqb (a .place) 0 && eqb (a .side) (r .side)
 
 -- each row is what the definitions give
 unfoldable pub allAgree : List Row → Bool
 allAgree [] = true
 allAgree (r ∷ rs) = agrees r (sumAnswer binary64 (rounded (r .mode)) (r .summand) (r .list)) && allAgree rs
 
+-- ---- which way a result leans, in binary16, in two formats of few bits, and in binary64
+
+abbrev pub leansTo : (result flags side : ℕ) → Answer → Bool
+leansTo result flags side a = eqb (a .result) result && eqb (a .flags) flags && eqb (a .side) side && eqb (a .refusal) 0
+
+-- ties to even, with flush-to-zero or denormals-are-zero
+unfoldable pub small : (flush denormals : ℕ) → Settings
+small f d =
+    record { rounding = 0; tininess = 0; nanPropagation = 0; defaultNanSign = 0; flushToZero = f; denormalsAreZero = d; saturate = 0; precision = 0 }
+
+unfoldable pub sideExamples : Bool
+sideExamples =
+    -- 1 and 2^−11 toward positive; their negatives toward positive and toward negative
+    leansTo 0x3c01 0x50 2 (sumAnswer binary16 (rounded 3) 0 (0x3c00 ∷ 0x1000 ∷ []))
+    && leansTo 0xbc00 0x10 2 (sumAnswer binary16 (rounded 3) 0 (0xbc00 ∷ 0x9000 ∷ []))
+    && leansTo 0xbc01 0x50 1 (sumAnswer binary16 (rounded 4) 0 (0xbc00 ∷ 0x9000 ∷ []))
+    -- the largest number twice: toward zero, of either sign, and to an infinity; NoInf's NaN, and in Finite the largest number itself
+    && leansTo 0x7bff 0x14 1 (sumAnswer binary16 (rounded 5) 0 (0x7bff ∷ 0x7bff ∷ []))
+    && leansTo 0xfbff 0x14 2 (sumAnswer binary16 (rounded 5) 0 (0xfbff ∷ 0xfbff ∷ []))
+    && leansTo 0x7c00 0x54 3 (sumAnswer binary16 (rounded 0) 0 (0x7bff ∷ 0x7bff ∷ []))
+    && leansTo 0x7f 0x14 3 (sumAnswer (record { kind = 1; E = 4; W = 8 }) (rounded 0) 0 (0x7e ∷ 0x7e ∷ []))
+    && leansTo 0x7 0x14 1 (sumAnswer (record { kind = 3; E = 2; W = 4 }) (rounded 0) 0 (0x7 ∷ 0x7 ∷ []))
+    -- −2^−1074 flushed to −0; 1 and 2^−1074, taken as zero
+    && leansTo 0x8000000000000000 0xb8 2 (sumAnswer binary64 (small 1 0) 0 (0x8000000000000001 ∷ []))
+    && leansTo 0x3ff0000000000000 0x80 0 (sumAnswer binary64 (small 0 1) 0 (0x3ff0000000000000 ∷ 1 ∷ []))
+    -- 1 × 1 and 2^−1074 × −2^−1074
+    && leansTo 0x3ff0000000000000 0xd0 2 (dotAnswer binary64 (rounded 0) (0x3ff0000000000000 ∷ 1 ∷ []) (0x3ff0000000000000 ∷ 0x8000000000000001 ∷ []))
+
 -- ---- the examples of the refusals 1 to 5 and 7 (6 is in `Promises.antt`)
 
 abbrev pub refusedAs : ℕ → ℕ → Answer → Bool
 refusedAs n at a =
-    eqb (a .refusal) n && eqb (a .place) at && eqb (a .result) 0 && eqb (a .flags) 0 && eqb (a .passes) 0 && sameInt (a .lastEdge) (pos 0)
+    eqb (a .refusal) n && eqb (a .place) at && eqb (a .result) 0 && eqb (a .flags) 0 && eqb (a .passes) 0 && sameInt (a .lastEdge) (pos 0) && eqb (a .side) 0
 
 abbrev pub sameList : List ℕ → List ℕ → Bool
 sameList [] [] = true
@@ -172,7 +205,7 @@ refusals =
 unfoldable pub entryExample : Bool
 entryExample =
     enteredAs 0
-    (0 ∷ 0 ∷ 0 ∷ 0 ∷ 0 ∷ 0 ∷ 0xf0 ∷ 0x3f ∷ 0x10 ∷ 0 ∷ 0 ∷ 0 ∷ 0 ∷ 0 ∷ 0 ∷ 0 ∷ 1 ∷ 0 ∷ 0 ∷ 0 ∷ 0 ∷ 0 ∷ 0 ∷ 0 ∷ 7 ∷ 7 ∷ [])
+    (0 ∷ 0 ∷ 0 ∷ 0 ∷ 0 ∷ 0 ∷ 0xf0 ∷ 0x3f ∷ 0x10 ∷ 0 ∷ 1 ∷ 0 ∷ 0 ∷ 0 ∷ 0 ∷ 0 ∷ 1 ∷ 0 ∷ 0 ∷ 0 ∷ 0 ∷ 0 ∷ 0 ∷ 0 ∷ 7 ∷ 7 ∷ [])
     (sumEntry binary64 (rounded 0) 0 (0 ∷ 0 ∷ 0 ∷ 0 ∷ 0 ∷ 0 ∷ 0xf0 ∷ 0x3f ∷ 0 ∷ 0 ∷ 0 ∷ 0 ∷ 0 ∷ 0 ∷ 0xa0 ∷ 0x3c ∷ []) (replicate 26 7))
 
 -- ---- pence: 0.125 is 13, −0.125 is −13; refusal 8: an infinity
@@ -237,7 +270,7 @@ unfolding
     difference validFormat bias exponentRange depth origin grid validSettings precisionOf
     decode isSubnormal operand single product item pairItem plusSum minusSum topOf
     lostEnd lookAt half wrapped decide sumOf pass run chain size span climb
-    dropped roundedAt overflows largest overflow numberOf finished tinySum roundTo round encode defaultNanOf selectAll
+    dropped roundedAt overflows largest overflow numberOf finished tinySum roundTo round encode leansOf sideOf defaultNanOf selectAll
     special sumRounded reported finiteTotal withoutNan accepted sumRefusal sumAccepted sumAnswer
 careers-agree = tt
 
@@ -247,9 +280,19 @@ unfolding
     difference validFormat bias exponentRange depth origin grid validSettings precisionOf
     decode isSubnormal operand single product item pairItem plusSum minusSum topOf
     lostEnd lookAt half wrapped decide sumOf pass run chain size span climb
-    dropped roundedAt overflows largest overflow numberOf finished tinySum roundTo round encode defaultNanOf selectAll
+    dropped roundedAt overflows largest overflow numberOf finished tinySum roundTo round encode leansOf sideOf defaultNanOf selectAll
     special sumRounded reported finiteTotal withoutNan accepted sumRefusal sumAccepted sumAnswer
 margins-agree = tt
+
+pub sides-agree : T sideExamples
+unfolding
+    sideExamples small binary64 binary16 rounded
+    difference validFormat bias exponentRange depth origin grid validSettings precisionOf
+    decode isSubnormal operand single product item pairItem plusSum minusSum topOf
+    lostEnd lookAt half wrapped decide sumOf pass run chain size span climb
+    dropped roundedAt overflows largest overflow numberOf finished tinySum roundTo round encode leansOf sideOf defaultNanOf selectAll
+    special sumRounded reported finiteTotal withoutNan accepted sumRefusal sumAccepted sumAnswer dotRefusal dotAccepted dotAnswer
+sides-agree = tt
 
 pub refusals-agree : T refusals
 unfolding
@@ -262,7 +305,7 @@ unfolding
     difference validFormat bias exponentRange depth origin grid validSettings precisionOf
     decode isSubnormal operand single product item pairItem plusSum minusSum topOf
     lostEnd lookAt half wrapped decide sumOf pass run chain size span climb
-    dropped roundedAt overflows largest overflow numberOf finished tinySum roundTo round encode defaultNanOf selectAll
+    dropped roundedAt overflows largest overflow numberOf finished tinySum roundTo round encode leansOf sideOf defaultNanOf selectAll
     special sumRounded reported finiteTotal withoutNan accepted sumRefusal sumAccepted sumAnswer
 entry-agrees = tt
 
@@ -276,6 +319,6 @@ unfolding
     difference validFormat bias exponentRange depth origin grid validSettings precisionOf
     decode isSubnormal operand single product item pairItem plusSum minusSum topOf
     lostEnd lookAt half wrapped decide sumOf pass run chain size span climb
-    dropped roundedAt overflows largest overflow numberOf finished tinySum roundTo round encode defaultNanOf selectAll
+    dropped roundedAt overflows largest overflow numberOf finished tinySum roundTo round encode leansOf sideOf defaultNanOf selectAll
     special sumRounded reported finiteTotal withoutNan accepted sumRefusal sumAccepted sumAnswer
 program-agrees = tt

@@ -17,9 +17,11 @@ use Rattle.totals_spec.specs.Totals.{refused, sumRounded, reported, towa
 use Rattle.totals_spec.specs.Bytes.{valuesIn, uneven, sumEntry, dotEntry}
 use Rattle.totals_spec.specs.Rearranged.{AsOften, samePair, holdsNan}
 use Rattle.totals_spec.specs.Limit.{lowBit, mostPasses}
+use Rattle.totals_spec.specs.Side.{sideOf}
 use Rattle.totals_spec.specs.Settled.{chainTotal}
 use Rattle.totals_spec.specs.Places.{StrayAt, DotStrayAt}
-use Rattle.totals_spec.specs.Careers.{binary64, rounded, careers, margins, allAgree, refusals, entryExample, penceExamples, programRuns, programAgrees}
+use Rattle.totals_spec.specs.Careers.{binary64, rounded, careers, margins, allAgree, sideExamples, refusals, entryExample}
+use Rattle.totals_spec.specs.Careers.{penceExamples, programRuns, programAgrees}
 
 -- ==== the document's examples
 
@@ -30,6 +32,10 @@ Careers-agree = T (allAgree careers)
 -- rows at the margins of the passes' rules
 abbrev pub Margins-agree : Type 0
 Margins-agree = T (allAgree margins)
+
+-- which way results lean: directed roundings, overflow, flush-to-zero and denormals-are-zero, of sums of either sign
+abbrev pub Sides-agree : Type 0
+Sides-agree = T sideExamples
 
 -- the examples of the refusals, of a byte entry, of pence and of the program
 abbrev pub Examples-agree : Type 0
@@ -97,7 +103,7 @@ abbrev pub Sum-exact : Type 0
 Sum-exact = (f : Format) (c : Settings) (u : ℕ) (l : List ℕ) → sumRefusal f c u l ≡ 0 → AllFinite f l
     → 0 < length (sumTerms f c (summandOf u) l)
     → sumAnswer f c u l
-    ≡ reported f (any (isSubnormal f) l) (isSquare (summandOf u))
+    ≡ reported f (any (isSubnormal f) l) (isSquare (summandOf u)) (exactSum (sumTerms f c (summandOf u) l))
     (sumRounded f c (grid f (isSquare (summandOf u))) (towardsNegative c) (exactSum (sumTerms f c (summandOf u) l)))
     (chain (digits f) (sumTerms f c (summandOf u) l))
 
@@ -105,9 +111,27 @@ abbrev pub Dot-exact : Type 0
 Dot-exact = (f : Format) (c : Settings) (xs ys : List ℕ) → dotRefusal f c xs ys ≡ 0 → AllFinite f xs → AllFinite f ys
     → 0 < length (dotTerms f c xs ys)
     → dotAnswer f c xs ys
-    ≡ reported f (any (isSubnormal f) xs || any (isSubnormal f) ys) true
+    ≡ reported f (any (isSubnormal f) xs || any (isSubnormal f) ys) true (exactSum (dotTerms f c xs ys))
     (sumRounded f c (grid f true) (towardsNegative c) (exactSum (dotTerms f c xs ys)))
     (chain (digits f) (dotTerms f c xs ys))
+
+-- the side: how the result, decoded, lies beside the exact sum of the terms
+abbrev pub Sum-side : Type 0
+Sum-side = (f : Format) (c : Settings) (u : ℕ) (l : List ℕ) → sumRefusal f c u l ≡ 0 → AllFinite f l
+    → (sumAnswer f c u l) .side ≡ sideOf (grid f (isSquare (summandOf u))) (decode f ((sumAnswer f c u l) .result)) (exactSum (sumTerms f c (summandOf u) l))
+
+abbrev pub Dot-side : Type 0
+Dot-side = (f : Format) (c : Settings) (xs ys : List ℕ) → dotRefusal f c xs ys ≡ 0 → AllFinite f xs → AllFinite f ys
+    → (dotAnswer f c xs ys) .side ≡ sideOf (grid f true) (decode f ((dotAnswer f c xs ys) .result)) (exactSum (dotTerms f c xs ys))
+
+-- of every accepted list: a NaN or an infinity has no side
+abbrev pub Sum-no-side : Type 0
+Sum-no-side = (f : Format) (c : Settings) (u : ℕ) (l : List ℕ) → sumRefusal f c u l ≡ 0 → isNumber (decode f ((sumAnswer f c u l) .result)) ≡ false
+    → (sumAnswer f c u l) .side ≡ 3
+
+abbrev pub Dot-no-side : Type 0
+Dot-no-side = (f : Format) (c : Settings) (xs ys : List ℕ) → dotRefusal f c xs ys ≡ 0 → isNumber (decode f ((dotAnswer f c xs ys) .result)) ≡ false
+    → (dotAnswer f c xs ys) .side ≡ 3
 
 -- what a chain ends with, rounded once, is the exact sum rounded once: near a tie too, for every format, setting and precision. (For every place
 -- of the grid: `products` and the sign of a zero do not matter)

@@ -1,10 +1,12 @@
-//! One case, looked at from every side: the refusal, the result, flags and passes, each byte of the buffers, and a rearranged list.
+//! One case, looked at from every side: the refusal, the result, flags and passes, which way the result leans, each byte of the buffers, and a
+//! rearranged list.
 
 use std::panic::{AssertUnwindSafe, catch_unwind};
 
 use fermuzhai::raw;
 
 use crate::case::{Case, Operation};
+use crate::leaning::leaning;
 use crate::refusals::{Expected, Side, expected, is_stray};
 use crate::rng::Rng;
 use crate::shape::Shape;
@@ -27,7 +29,7 @@ pub struct Oracle<'a> {
 #[derive(Clone, Copy, Debug)]
 pub enum Seen {
     Refused(u64),
-    Accepted { answer: Answer, rearranged: bool },
+    Accepted { answer: Answer, side: u8, rearranged: bool },
 }
 
 /// The two entries to compare, as functions of a case's numbers and bytes. Tests put others in their place.
@@ -132,10 +134,14 @@ impl Bench {
 
     fn check_accepted(&mut self, case: &Case, oracle: &Oracle) -> Result<Seen, String> {
         let written = self.written(case);
-        if written[9..16] != [0; 7] {
-            return Err(format!("bytes 9 to 15 of the answer are {:?}", &written[9..16]));
+        let [flags, 0, side, 0, 0, 0, 0, 0] = written[8..16] else {
+            return Err(format!("bytes 8 to 15 of the answer are {:?}", &written[8..16]));
+        };
+        let answer = Answer { result: word(written, 0), flags, passes: word(written, 16) };
+        let wanted = leaning(case, answer.result);
+        if side != wanted {
+            return Err(format!("side {side} of {answer:x?}, and by the exact sum it is {wanted}"));
         }
-        let answer = Answer { result: word(written, 0), flags: written[8], passes: word(written, 16) };
         let Ok(original) = catch_unwind(AssertUnwindSafe(|| (oracle.total)(case))) else {
             return Err(format!("the original panics, where the answer is {answer:x?}"));
         };
@@ -146,7 +152,7 @@ impl Bench {
         if rearranged {
             self.check_order(case)?;
         }
-        Ok(Seen::Accepted { answer, rearranged })
+        Ok(Seen::Accepted { answer, side, rearranged })
     }
 
     /// The rearranged list gives the same 24 bytes. The answer of the case itself is in the buffer.
@@ -319,6 +325,40 @@ mod tests {
         7 + 256 * (words.enumerate().filter(|&(_, word)| is_stray(word, f[2])).last().unwrap().0 as u64)
     }
 
+    /// 1 and 2 exchanged below zero, as if the side were one of magnitudes.
+    fn leans_by_magnitude(f: [u64; 3], c: [u64; 8], u: u64, values: &[u8], answer: Bytes) -> u64 {
+        let code = raw::sum(f, c, u, values, answer);
+        if code == 0 && answer[7 - (64 - f[2] as usize) / 8] & 0x80 != 0 && [1, 2].contains(&answer[10]) {
+            answer[10] = 3 - answer[10];
+        }
+        code
+    }
+
+    fn leans_before_denormals_are_zero(f: [u64; 3], c: [u64; 8], u: u64, values: &[u8], answer: Bytes) -> u64 {
+        let mut other = [0; 24];
+        let code = raw::sum(f, c, u, values, answer);
+        if code == 0 && raw::sum(f, [c[0], c[1], c[2], c[3], c[4], 0, c[6], c[7]], u, values, &mut other) == 0 {
+            answer[10] = other[10];
+        }
+        code
+    }
+
+    fn has_no_side(f: [u64; 3], c: [u64; 8], u: u64, values: &[u8], answer: Bytes) -> u64 {
+        let code = raw::sum(f, c, u, values, answer);
+        if code == 0 {
+            answer[10] = 0;
+        }
+        code
+    }
+
+    fn has_its_side_in_byte_9(f: [u64; 3], c: [u64; 8], u: u64, values: &[u8], answer: Bytes) -> u64 {
+        let code = raw::sum(f, c, u, values, answer);
+        if code == 0 {
+            answer.swap(9, 10);
+        }
+        code
+    }
+
     fn answers_by_the_first_element(f: [u64; 3], c: [u64; 8], u: u64, values: &[u8], answer: Bytes) -> u64 {
         let code = raw::sum(f, c, u, values, answer);
         if code == 0 && values.len() == 24 && values[0] > values[8] {
@@ -336,6 +376,10 @@ mod tests {
         assert!(is_caught(reads_settings_as_bytes));
         assert!(is_caught(names_the_place_after));
         assert!(is_caught(names_the_last_place));
+        assert!(is_caught(leans_by_magnitude));
+        assert!(is_caught(leans_before_denormals_are_zero));
+        assert!(is_caught(has_no_side));
+        assert!(is_caught(has_its_side_in_byte_9));
         assert!(is_caught(answers_by_the_first_element));
     }
 }

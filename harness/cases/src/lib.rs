@@ -5,6 +5,7 @@ mod case;
 mod check;
 mod draw;
 mod exhaustive;
+mod leaning;
 mod lists;
 mod refusals;
 mod refused;

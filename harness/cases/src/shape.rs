@@ -16,6 +16,14 @@ pub struct Shape {
     pub largest: u64,
 }
 
+/// What an encoding stands for: a number m × 2^k counts in least numbers, and a zero is one of m = 0.
+#[derive(Clone, Copy, Debug, PartialEq, Eq)]
+pub enum Decoded {
+    Nan,
+    Infinity,
+    Number { negative: bool, m: u64, k: i64 },
+}
+
 fn low_bits(n: u32) -> u64 {
     if n == 64 { u64::MAX } else { (1 << n) - 1 }
 }
@@ -91,6 +99,22 @@ impl Shape {
         }
     }
 
+    pub fn decode(&self, value: u64) -> Decoded {
+        let magnitude = value & (self.sign - 1);
+        if self.is_nan(value) {
+            return Decoded::Nan;
+        }
+        if magnitude > self.largest {
+            return Decoded::Infinity;
+        }
+        let negative = value & self.sign != 0;
+        let fraction = magnitude & low_bits(self.fraction);
+        match self.field(magnitude) {
+            0 => Decoded::Number { negative, m: fraction, k: 0 },
+            field => Decoded::Number { negative, m: self.least_normal() | fraction, k: field - 1 },
+        }
+    }
+
     /// A NaN or an infinity, or a zero where the format has neither. `choice` is any number.
     pub fn special(&self, choice: u64) -> u64 {
         let sign = if choice & 1 == 1 { self.sign } else { 0 };
@@ -110,7 +134,7 @@ impl Shape {
 
 #[cfg(test)]
 mod tests {
-    use super::Shape;
+    use super::{Decoded, Shape};
 
     #[test]
     fn binary64() {
@@ -122,6 +146,10 @@ mod tests {
         assert_eq!(shape.encode(1, 52), Some(f64::MIN_POSITIVE.to_bits()));
         assert_eq!(shape.encode(1, shape.highest_position() + 1), None);
         assert!(shape.is_nan(f64::NAN.to_bits()) && !shape.is_nan(f64::INFINITY.to_bits()));
+        assert_eq!(shape.decode(f64::NAN.to_bits()), Decoded::Nan);
+        assert_eq!(shape.decode(f64::NEG_INFINITY.to_bits()), Decoded::Infinity);
+        assert_eq!(shape.decode((-1.5f64).to_bits()), Decoded::Number { negative: true, m: 3 << 51, k: shape.position_of_one() - 52 });
+        assert_eq!(shape.decode(5), Decoded::Number { negative: false, m: 5, k: 0 });
     }
 
     #[test]

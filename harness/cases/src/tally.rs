@@ -25,6 +25,8 @@ pub struct Tally {
     precisions: u64,
     /// By the bit of the flag.
     flags: [u64; 8],
+    /// By the side.
+    sides: [u64; 4],
     /// Passes of sums and of products: 0 to 7, and more.
     passes: [[u64; LONGEST + 1]; 2],
     /// The same of binary64 alone, whose chains have known limits.
@@ -42,7 +44,8 @@ impl Tally {
         self.cases += 1;
         match *seen {
             Seen::Refused(number) => self.refusals[number as usize] += 1,
-            Seen::Accepted { answer, rearranged } => {
+            Seen::Accepted { answer, side, rearranged } => {
+                self.sides[usize::from(side)] += 1;
                 self.refusals[0] += 1;
                 self.rearranged += u64::from(rearranged);
                 self.add_given(case);
@@ -79,6 +82,7 @@ impl Tally {
         self.most_passes = self.most_passes.max(other.most_passes);
         add(&mut self.refusals, &other.refusals);
         add(&mut self.flags, &other.flags);
+        add(&mut self.sides, &other.sides);
         self.precisions |= other.precisions;
         for (format, count) in &other.formats {
             *self.formats.entry(*format).or_default() += count;
@@ -105,6 +109,9 @@ impl Tally {
         }
         for bit in [0, 2, 3, 4, 5, 6, 7] {
             want(format!("flag {}", 1 << bit), self.flags[bit]);
+        }
+        for side in 0..4 {
+            want(format!("side {side}"), self.sides[side]);
         }
         for format in formats {
             want(format!("format {format:?}"), self.formats.get(format).copied().unwrap_or(0));
@@ -144,6 +151,7 @@ pub fn report(tally: &Tally, seed: u64, seconds: f64) {
     println!();
     println!("refusals 1 to 7: {:?}", &tally.refusals[1..]);
     println!("flags 1, 4, 8, 16, 32, 64, 128: {:?}", [0, 2, 3, 4, 5, 6, 7].map(|bit| tally.flags[bit]));
+    println!("sides 0 to 3: {:?}", tally.sides);
     println!("sums in 0 to 7 and in more passes: {:?}", tally.passes[0]);
     println!("square sums and dots in 0 to 7 and in more passes: {:?}", tally.passes[1]);
     println!("of binary64: sums {:?}, square sums and dots {:?}", tally.binary64[0], tally.binary64[1]);

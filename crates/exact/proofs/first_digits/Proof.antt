@@ -5,7 +5,7 @@ use native.Mathlib.Omega.{arith}
 use lib.Pow.{pow-lt}
 use borrow.Author.Needs.{needs}
 use borrow.Author.Tests.{not-true, not-false}
-use Rattle.exact.proofs.Powers.{carried}
+use Rattle.totals_spec.proofs.Powers.{carried}
 use Rattle.exact.proofs.Plan.{first-lt, first-ge, rounded-to}
 use Rattle.exact.proofs.first_digits.Statement.{statement}
 use Rattle.exact.proofs.first_digits.Tie as tie

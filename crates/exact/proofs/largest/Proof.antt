@@ -12,7 +12,8 @@ use Rattle.totals_spec.specs.Round as spec
 use Rattle.format.specs.Joined.{formatOf}
 use Rattle.format.specs.Fits.{Encodes}
 use Rattle.exact.proofs.Rules.{noinf-other}
-use Rattle.exact.proofs.Beyond.{range-fits, largest-plain, largest-noinf, ones-lt, ones-fit, ones-pos, ones-full}
+use Rattle.totals_spec.proofs.Range.{range-fits}
+use Rattle.exact.proofs.Beyond.{largest-plain, largest-noinf, ones-lt, ones-fit, ones-pos, ones-full}
 use Rattle.exact.proofs.largest.Statement.{statement}
 use Rattle.exact.proofs.largest.Tie as tie
 

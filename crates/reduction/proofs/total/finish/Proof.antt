@@ -1,58 +1,118 @@
 -- `reduction::total::finish` meets its contract.
-use mathlib.Core.Path.{ap, _∙_}
+use mathlib.Core.Path.{_≡_, sym, ap, _∙_, subst}
 use Prim.Native.Nat.{_+_, _^_, _<_}
 use native.Mathlib.Omega.{arith}
-use lib.IntN.{subℕ}
+use lib.IntN.{ℤ, subℕ}
+use lib.Signed.{mag}
 use mir.Syntax.{w64}
 use mir.Val.{SFits}
 use mir.ValLaws.{toZ-ofZ}
 use Rattle.reduction.proofs.Records.{position-fits}
+use Rattle.totals_spec.specs.Basics.{Signed}
+use Rattle.totals_spec.specs.Decode.{decode}
 use Rattle.totals_spec.specs.Encode.{encode}
+use Rattle.totals_spec.specs.Format.{Format, grid}
 use Rattle.totals_spec.specs.Round.{Rounded}
-use Rattle.totals_spec.specs.Totals.{reported}
-use Rattle.format.specs.Joined.{formatOf}
+use Rattle.totals_spec.specs.Settings.{Settings}
+use Rattle.totals_spec.specs.Settled.{settled}
+use Rattle.totals_spec.specs.Side.{sideOf, roundedSide}
+use Rattle.totals_spec.specs.Totals.{towardsNegative, sumRounded, reported}
+use Rattle.totals_spec.proofs.Lean.{sum-leans}
+use Rattle.totals_spec.proofs.Valid.{precision-least, precision-most}
+use Rattle.format.specs.Joined.{formatOf, settingsOf}
+use Rattle.exact.specs.Joined.{roundedOf}
+use Rattle.window.specs.Joined.{outcomeOf}
 use borrow.Author.Needs.{needs}
 use Rattle.reduction.proofs.total.finish.Statement.{statement}
 use Rattle.reduction.proofs.total.finish.Tie as tie
 
--- the sum is rounded and encoded, and the position of the bit worth 1 is known
-abbrev flagged : tie.After-origin → tie.After-flag
-flagged o = o .before .before
+-- at the entry, and once the sum is rounded
+abbrev form : tie.Start → Format
+form s = formatOf (s .args .f)
 
-abbrev summed : tie.After-origin → tie.After-round-sum
-summed o = flagged o .before .before
+abbrev env : tie.Start → Settings
+env s = settingsOf (s .args .c)
 
-abbrev entry : tie.After-origin → tie.Start
-entry o = summed o .before .before
+abbrev entry : tie.After-round-sum → tie.Start
+entry t = t .before .before
 
-near : (o : tie.After-origin) → (entry o .args .e .chain .edge < 2 ^ 62) × (o .origin .result < 2 ^ 62)
-near o = (omega (arith, entry o .pre .2 .edge), omega (arith, o .origin .ensures .1))
+abbrev total : tie.Start → Signed
+total s = settled (outcomeOf (s .args .e))
+
+abbrev sum : tie.Start → Rounded
+sum s = sumRounded (form s) (env s) (grid (form s) (s .args .products)) (towardsNegative (env s)) (total s)
+
+equal : (t : tie.After-round-sum) → roundedOf (t .round-sum .result) ≡ sum (entry t)
+equal t = t .round-sum .ensures .equal
+
+-- the rounding tells the side
+leans : (t : tie.After-round-sum) → let s = entry t in let r = roundedOf (t .round-sum .result) in
+    roundedSide (r .value) (r .flags) ≡ sideOf (grid (form s) (s .args .products)) (decode (form s) (encode (form s) (sum s .value))) (total s)
+leans t =
+    let s = entry t in
+    ap (λ (x : Rounded). roundedSide (x .value) (x .flags)) (equal t)
+    ∙ sym (sum-leans (form s) (env s) _ _ (total s) (s .pre .0 .range) (precision-least _ _ (s .pre .0 .range)) (precision-most _ _ (s .pre .1)))
+
+-- once the result is encoded, and then the origin known
+abbrev coded : tie.After-origin → tie.After-encode
+coded t = t .before .before .before
+
+abbrev rounded : tie.After-origin → tie.After-round-sum
+rounded t = coded t .before
+
+round-sum-requires : tie.Need-round-sum-requires
+round-sum-requires c κs = search needs
+
+encode-requires : tie.Need-encode-requires
+encode-requires c κs = (c .before .before .pre .0, c .round-sum .ensures .encodes)
+
+flag-requires : tie.Need-flag-requires
+flag-requires c κs = search needs
+
+add-t11 : tie.Need-add-t11
+add-t11 c = search needs
+
+origin-requires : tie.Need-origin-requires
+origin-requires c κs = search needs
+
+position-of-requires : tie.Need-position-of-requires
+position-of-requires c κs = (omega (arith, entry (rounded c) .pre .2 .edge), omega (arith, c .origin .ensures .1))
+
+side-of-requires : tie.Need-side-of-requires
+side-of-requires c κs = search needs
 
 returns : tie.Need-returns
 unfolding reported
 returns c =
-    let o = c .before in
-    let a = entry o .args in
-    let r = summed o .round-sum .ensures .equal in
-    let p = c .position-of .ensures in
-    let fits : SFits w64 (c .position-of .result) = record { sfits = rw p (position-fits (a .e .chain .edge) (o .origin .result) (near o .0) (near o .1)) } in
+    let o = c .before .before in
+    let p = c .before .position-of in
+    let r = rounded o in
+    let s = entry r in
+    let at = s .args .e .chain .edge in
+    let fits : SFits w64 (p .result) = record {
+      sfits =
+          subst (λ (z : ℤ). mag z < 2 ^ 63) (sym (p .ensures))
+          (position-fits at (o .origin .result) (omega (arith, s .pre .2 .edge)) (omega (arith, o .origin .ensures .1)));
+    } in
     λ i. record {
-      result = (flagged o .before .encode .ensures ∙ ap (λ (x : Rounded). encode (formatOf (a .f)) (x .value)) r) i;
-      flags = (flagged o .flag .ensures .0 i) + r i .flags;
-      passes = a .e .chain .passes;
-      lastEdge = (toZ-ofZ w64 (c .position-of .result) fits ∙ p ∙ ap (subℕ (a .e .chain .edge)) (o .origin .ensures .0)) i;
+      result = (coded o .encode .ensures ∙ ap (λ (x : Rounded). encode (form s) (x .value)) (equal r)) i;
+      flags = (o .before .before .flag .ensures .0 i) + (equal r i .flags);
+      passes = s .args .e .chain .passes;
+      lastEdge = (toZ-ofZ w64 (p .result) fits ∙ p .ensures ∙ ap (subℕ at) (o .origin .ensures .0)) i;
       refusal = 0;
       place = 0;
+      side = (c .side-of .ensures ∙ leans r) i;
     }
 
 pub finish-spec : {M : Type 1} → statement M
 finish-spec =
     tie.close
     (tie.spec
-    (λ c κs. search needs)
-    (λ c κs. (c .before .before .pre .0, c .round-sum .ensures .encodes))
-    (λ c κs. search needs)
-    (λ c. search needs)
-    (λ c κs. search needs)
-    (λ c κs. near c)
+    round-sum-requires
+    encode-requires
+    flag-requires
+    add-t11
+    origin-requires
+    position-of-requires
+    side-of-requires
     returns)

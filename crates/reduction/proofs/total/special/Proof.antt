@@ -1,22 +1,44 @@
 -- `reduction::total::special` meets its contract.
+use mathlib.Core.Path.{sym, _∙_}
 use Prim.Native.Nat.{_+_}
 use lib.IntN.{pos}
 use Rattle.totals_spec.specs.Totals.{special}
+use Rattle.format.specs.Joined.{formatOf}
+use Rattle.reduction.proofs.Records.{told}
 use borrow.Author.Needs.{needs}
 use Rattle.reduction.proofs.total.special.Statement.{statement}
 use Rattle.reduction.proofs.total.special.Tie as tie
 
+encode-requires : tie.Need-encode-requires
+encode-requires c κs = search needs
+
+flag-requires : tie.Need-flag-requires
+flag-requires c κs = search needs
+
+flag-requires-2 : tie.Need-flag-requires-2
+flag-requires-2 c κs = search needs
+
+add-t8 : tie.Need-add-t8
+add-t8 c = search needs
+
+side-of-requires : tie.Need-side-of-requires
+side-of-requires c κs = search needs
+
 returns : tie.Need-returns
 unfolding special
-returns c = λ i. record {
-  result = c .before .before .encode .ensures i;
-  flags = (c .before .flag .ensures .0 i) + (c .flag2 .ensures .0 i);
-  passes = 0;
-  lastEdge = pos 0;
-  refusal = 0;
-  place = 0;
-}
+returns c =
+    let g = c .before in
+    let e = g .before .before in
+    let s = e .before in
+    λ i. record {
+      result = e .encode .ensures i;
+      flags = (g .before .flag .ensures .0 i) + (g .flag2 .ensures .0 i);
+      passes = 0;
+      lastEdge = pos 0;
+      refusal = 0;
+      place = 0;
+      side = (c .side-of .ensures ∙ sym (told (formatOf (s .args .f)) (s .pre .0 .range) (s .args .v) (s .pre .1) (s .pre .2))) i;
+    }
 
 pub special-spec : {M : Type 1} → statement M
-special-spec =
-    tie.close (tie.spec (λ c κs. search needs) (λ c κs. search needs) (λ c κs. search needs) (λ c. search needs) returns)
+special-spec = tie.close (tie.spec encode-requires flag-requires flag-requires-2 add-t8 side-of-requires returns)

@@ -6,15 +6,15 @@ use Prim.Native.Nat.{ℕ}
 use borrow.Author.Needs.{needs}
 use lib.ListN.{length}
 use Rattle.totals_spec.specs.Format.{Format}
-use Rattle.totals_spec.specs.Settings.{Settings}
+use Rattle.totals_spec.specs.Settings.{Settings, summandOf}
 use Rattle.format.specs.Joined.{formatOf, settingsOf}
 use Rattle.values.specs.Sources.{elements}
 use Rattle.values.specs.Walks.{isDot}
 use Rattle.values.proofs.Sources.{elements-length}
 use Rattle.scan.specs.Joined.{Decides}
 use Rattle.reduction.specs.Answered.{productsIn, firstIn}
-use Rattle.reduction.proofs.Reduce.{given-encodes, given-is, top-is, finish-is}
-use Rattle.reduction.proofs.Items.{Accepts, accepts, by-chain, answer-is}
+use Rattle.reduction.proofs.Reduce.{given, given-is, top-is, finish-is}
+use Rattle.reduction.proofs.Items.{items-give, Accepts, accepts, by-chain, answer-is}
 use Rattle.reduction.proofs.walk.total.Statement.{statement}
 use Rattle.reduction.proofs.walk.total.Tie as tie
 
@@ -57,7 +57,8 @@ special-requires : tie.Need-special-requires
 special-requires c κs =
     let d = c .before .before .before in
     let s = entry d in
-    (shown s .format, given-encodes (scanned d .scan .ensures) (productsIn (u s)) _ _ (decides d) _ _ (c .before .v .given .1))
+    let t = given (scanned d .scan .ensures) (productsIn (u s)) _ _ (decides d) _ _ (c .before .v .given .1) in
+    (shown s .format, t .encodes, t .alone (items-give (form s) (env s) (summandOf (u s)) (left s) (right s) (isDot (s .args .k))))
 
 exact-requires : tie.Need-exact-requires
 exact-requires c κs =

@@ -1,5 +1,6 @@
 -- `totals::entry::totals_dot` meets its contract.
 use mathlib.Core.Path.{sym, subst}
+use Rattle.totals_spec.proofs.Fields.{Fields, dot-fields}
 use Rattle.totals_spec.proofs.Refused.{Small, dot-small}
 use Rattle.totals.proofs.Written.{dot-uneven-left, dot-uneven-right, dot-short, dot-enters}
 use borrow.Author.Needs.{needs}
@@ -22,7 +23,8 @@ enter-requires : tie.Need-enter-requires
 enter-requires c κs =
     let t = c .before in
     let small = subst Small (sym (t .dot-bytes .ensures)) (dot-small _ _ _ _) in
-    (t .before .if3 .left, small .number, small .place)
+    let fields = subst Fields (sym (t .dot-bytes .ensures)) (dot-fields _ _ _ _) in
+    record { room = t .before .if3 .left; number = small .number; place = small .place; flags = fields .flags; side = fields .side }
 
 same-length : tie.Need-same-length
 same-length c = search needs

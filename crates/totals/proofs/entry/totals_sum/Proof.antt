@@ -1,5 +1,6 @@
 -- `totals::entry::totals_sum` meets its contract.
 use mathlib.Core.Path.{sym, subst}
+use Rattle.totals_spec.proofs.Fields.{Fields, sum-fields}
 use Rattle.totals_spec.proofs.Refused.{Small, sum-small}
 use Rattle.totals.proofs.Written.{sum-uneven, sum-short, sum-enters}
 use borrow.Author.Needs.{needs}
@@ -19,7 +20,8 @@ enter-requires : tie.Need-enter-requires
 enter-requires c κs =
     let t = c .before in
     let small = subst Small (sym (t .sum-bytes .ensures)) (sum-small _ _ _ _) in
-    (t .before .if2 .left, small .number, small .place)
+    let fields = subst Fields (sym (t .sum-bytes .ensures)) (sum-fields _ _ _ _) in
+    record { room = t .before .if2 .left; number = small .number; place = small .place; flags = fields .flags; side = fields .side }
 
 same-length : tie.Need-same-length
 same-length c = search needs
