@@ -12,7 +12,7 @@ use Rattle.totals_spec.specs.Settings.{Settings}
 use Rattle.totals_spec.specs.Totals.{Answer, sumAnswer}
 use Rattle.totals_spec.specs.Pence.{Pence, penceAnswer}
 
--- ---- reading: lines of 16 lower-case hex digits, "each ended by byte 10, the last line end optional"
+-- ---- reading: 16 hex digits a line, in lower case. Byte 10 ends a line; the last one may lack it
 
 -- a byte in front of the first line
 abbrev pub onto : ℕ → List (List ℕ) → List (List ℕ)
@@ -51,7 +51,7 @@ taken none n rest = badLine n
 taken (some x) n (values l) = values (x ∷ l)
 taken (some x) n (badLine m) = badLine m
 
--- the lines from number n on: "any line 8193" is bad
+-- the lines from number n on: whatever stands on line 8193 is bad
 unfoldable pub readFrom : ℕ → List (List ℕ) → Read
 readFrom n [] = values []
 readFrom n (l ∷ ls) = cond (ltb 8192 n) (badLine n) (taken (lineValue l) n (readFrom (suc n) ls))
@@ -92,7 +92,7 @@ penceText p = cond (eqb (p .refusal) 0) (signedText (p .figure)) noneText
 abbrev pub refusedText : List ℕ
 refusedText = 114 ∷ 101 ∷ 102 ∷ 117 ∷ 115 ∷ 101 ∷ 100 ∷ 32 ∷ 108 ∷ 105 ∷ 110 ∷ 101 ∷ 32 ∷ []
 
--- ---- the program: "It sums with ties to even, tininess after, all else 0"
+-- ---- the program: rounding 0, tininess 1, and 0 for every other setting
 
 abbrev pub programFormat : Format
 programFormat = record { kind = 0; E = 11; W = 64 }

@@ -41,7 +41,7 @@ Sides-agree = T sideExamples
 abbrev pub Examples-agree : Type 0
 Examples-agree = T refusals × T entryExample × T penceExamples × T (programAgrees programRuns)
 
--- "1,048,576 zeros are accepted", and one more gets 6
+-- as many zeros as the limit allows are summed, and one more gets 6
 abbrev pub Zeros-accepted : Type 0
 Zeros-accepted = (n : ℕ) → n ≤ 1048576 → (sumAnswer binary64 (rounded 0) 0 (replicate n 0)) .refusal ≡ 0
 

@@ -1,5 +1,5 @@
--- Rearrangements (document 01, "The passes"): "A rearrangement holds each element as often as the list does, or in a dot each pair of elements
--- as often." And lists that hold a NaN, for which the order counts.
+-- Rearrangements (document 01, "The passes"): two lists that have every element, or every pair of a dot, equally many times. And lists that hold a
+-- NaN, for which the order counts.
 use mathlib.Core.Path.{_≡_}
 use mathlib.Core.Bool.{Bool, _&&_}
 use mathlib.Core.List.{List}
