@@ -13,7 +13,8 @@ use Rattle.totals_spec.specs.Settings.{Settings, summandOf}
 use Rattle.totals_spec.specs.Decode.{Unpacked, zeroOf, finite, infinity, nan, decode, isSubnormal}
 use Rattle.totals_spec.specs.Terms.{Term, exactSum, topOf}
 use Rattle.totals_spec.specs.Chain.{Outcome, zeroSum, exactly, nearly, beside, unfinished, lookAt, chain}
-use Rattle.totals_spec.specs.Totals.{refused, sumRounded, reported, towardsNegative, finiteTotal, isSquare, sumRefusal, sumTerms, sumAnswer, dotRefusal, pairs, dotTerms, dotAnswer}
+use Rattle.totals_spec.specs.Totals.{refused, sumRounded, reported, towardsNegative, finiteTotal, isSquare, pairs}
+use Rattle.totals_spec.specs.Totals.{sumRefusal, sumTerms, sumAnswer, dotRefusal, dotTerms, dotAnswer}
 use Rattle.totals_spec.specs.Bytes.{valuesIn, uneven, sumEntry, dotEntry}
 use Rattle.totals_spec.specs.Rearranged.{AsOften, samePair, holdsNan}
 use Rattle.totals_spec.specs.Limit.{lowBit, mostPasses}

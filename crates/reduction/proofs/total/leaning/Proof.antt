@@ -11,10 +11,13 @@ use Rattle.reduction.proofs.total.leaning.Tie as tie
 inexact : (t : tie.Else1) → isOn 16 (t .before .before .args .flags) ≡ true
 inexact t = sym (t .before .has-flag .ensures) ∙ not-false _ (t .if1 .left)
 
-up : (t : tie.Then2) → isOn 64 (t .before .before .before .before .args .flags) ≡ true
+abbrev entry : tie.After-has-flag2 → tie.Start
+entry k = k .before .before .before
+
+up : (t : tie.Then2) → isOn 64 (entry (t .before) .args .flags) ≡ true
 up t = sym (t .before .has-flag2 .ensures) ∙ t .if2 .taken
 
-down : (t : tie.Else2) → isOn 64 (t .before .before .before .before .args .flags) ≡ false
+down : (t : tie.Else2) → isOn 64 (entry (t .before) .args .flags) ≡ false
 down t = sym (t .before .has-flag2 .ensures) ∙ t .if2 .left
 
 has-flag-requires : tie.Need-has-flag-requires
