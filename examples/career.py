@@ -57,7 +57,7 @@ def hex_of(x):
 
 
 def nearest(numerator, denominator):
-    """The nearest whole number, ties away from zero."""
+    """The fraction rounded to an integer, halves away from zero."""
     n = (2 * abs(numerator) + denominator) // (2 * denominator)
     return n if numerator >= 0 else -n
 

@@ -267,7 +267,7 @@ static void words(void)
     CHECK(REFUSED(totals_sum_words(half, TOTALS_VALUE, stray, 3, NULL), TOTALS_STRAY_BIT, 1));
     CHECK(REFUSED(totals_dot_words(half, fits, 3, stray + 1, 2, NULL), TOTALS_DIFFERENT_LENGTHS, 0));
     CHECK(REFUSED(totals_dot_words(half, fits, 2, stray, 2, NULL), TOTALS_STRAY_BIT, 1));
-    /* several: the first; in a dot of the left list, though the right one has it earlier */
+    /* several: the first; in a dot the left list goes first, though the right one has it earlier */
     CHECK(REFUSED(totals_dot_words(half, stray, 3, wide, 3, NULL), TOTALS_STRAY_BIT, 1));
     CHECK(REFUSED(totals_dot_words(half, fits, 3, wide, 3, NULL), TOTALS_STRAY_BIT, 0));
     CHECK(REFUSED(totals_sum_words(half, 3, list, 2, NULL), TOTALS_SETTING_OUT_OF_RANGE, 0));

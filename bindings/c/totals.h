@@ -36,8 +36,8 @@ extern "C" {
 /* Kind: how infinities, NaNs and zeros are encoded. */
 enum {
     TOTALS_IEEE = 0,   /* as in IEEE 754 */
-    TOTALS_NO_INF = 1, /* no infinity; the NaN is all ones below the sign */
-    TOTALS_FNUZ = 2,   /* no infinity and no -0; the NaN is the sign bit alone */
+    TOTALS_NO_INF = 1, /* no infinity; a NaN has every bit but the sign set */
+    TOTALS_FNUZ = 2,   /* no infinity and no -0, whose pattern is the NaN */
     TOTALS_FINITE = 3  /* neither infinity nor NaN */
 };
 
@@ -135,7 +135,7 @@ enum {
     TOTALS_EQUAL = 0,
     TOTALS_BELOW = 1,
     TOTALS_ABOVE = 2,
-    TOTALS_NO_COMPARISON = 3 /* the result is a NaN or infinite */
+    TOTALS_NO_COMPARISON = 3 /* there is nothing to compare: a NaN, or an infinity */
 };
 
 /* The most elements of a list, or pairs of a dot. */
@@ -148,15 +148,15 @@ enum {
     TOTALS_SHORT_BUFFER = 2,         /* an answer buffer under 24 bytes */
     TOTALS_NO_SUCH_FORMAT = 3,       /* kind above 3, exponent bits outside 2..28, width below these + 2 or above 64 */
     TOTALS_SETTING_OUT_OF_RANGE = 4, /* a setting or the summand out of its range */
-    TOTALS_DIFFERENT_LENGTHS = 5,    /* dot: two lists of different lengths */
-    TOTALS_TOO_MANY_ELEMENTS = 6,    /* more than 1,048,576 elements, or pairs in a dot */
-    TOTALS_STRAY_BIT = 7,            /* an element with a set bit at position `width` or above */
+    TOTALS_DIFFERENT_LENGTHS = 5,    /* dot: the lists differ in length */
+    TOTALS_TOO_MANY_ELEMENTS = 6,    /* over 1,048,576 elements (of a dot: pairs) */
+    TOTALS_STRAY_BIT = 7,            /* an element is 2^width or more */
     TOTALS_NO_LIST = 254,            /* this and the next from the inline functions alone: NULL for a list that is not empty */
     TOTALS_NO_MEMORY = 255           /* a long list of float could not be copied */
 };
 
 #define TOTALS_REFUSAL(code) ((code) % 256)
-/* For TOTALS_STRAY_BIT, the index of the first such element: in a dot of the left list if that holds one, else of the right. */
+/* For TOTALS_STRAY_BIT, the index of the first such element; a dot looks into its right list only where the left has none. */
 #define TOTALS_PLACE(code) ((code) / 256)
 
 /* An answer takes 24 bytes. */
@@ -238,7 +238,7 @@ static inline const char *totals_strerror(uint64_t refusal)
     case TOTALS_SHORT_BUFFER: return "the answer buffer has fewer than 24 bytes";
     case TOTALS_NO_SUCH_FORMAT: return "there is no such format";
     case TOTALS_SETTING_OUT_OF_RANGE: return "a setting or the summand is out of its range";
-    case TOTALS_DIFFERENT_LENGTHS: return "the two lists have different lengths";
+    case TOTALS_DIFFERENT_LENGTHS: return "the two lists differ in length";
     case TOTALS_TOO_MANY_ELEMENTS: return "there are more than 1,048,576 elements";
     case TOTALS_STRAY_BIT: return "an element does not fit the format's width";
     case TOTALS_NO_LIST: return "the list is NULL, and its length is not 0";
@@ -281,7 +281,7 @@ static inline uint64_t totals_get_(const uint8_t *bytes)
     return word;
 }
 
-/* The values in eight bytes each, little end first, in the room or in memory that is then owned; NULL where there is none. */
+/* The values as the entries read them, in the room or in memory that is then owned; NULL where there is none. */
 static inline const uint8_t *totals_bytes_(totals_list_ list, uint8_t *room, uint8_t **owned)
 {
     static const uint8_t none[8] = {0, 0, 0, 0, 0, 0, 0, 0};

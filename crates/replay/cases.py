@@ -309,7 +309,7 @@ def margins():
         at((1, 1000), (1, -338), (-1, -403), (1, -900)),
         at((1, 1000), (1, 947), (-1, -338), (-1, -900)),
         at((1, 1000), (1, 947), (-1, -339), (-1, -900)),
-        # the next edge is 766 below a lost bit and 65, or below what is left
+        # 766 down, counted from a lost bit and 65 or from what is left
         at((1, 1000), (-1, 1000), (1, 297), (1, -600)),
         at((1, 1000), (-1, 1000), (1, 363), (1, 297), (1, -600)),
         at((1, 1000), (-1, 1000), (1, 364), (1, 297), (1, -600)),
@@ -537,7 +537,7 @@ def precisions(draw):
     return cases
 
 
-# ---- lists without a rounding
+# ---- lists that are not rounded
 
 def nans(rule):
     """NaNs of either sign, quiet and signaling, with payloads, by one rule; in sums of each summand and on either side of a dot."""

@@ -326,7 +326,7 @@ def dot_record(f, c, left, right):
 # ---- refusals
 
 def stray(w, values):
-    """The indices of the elements with a set bit at position W or above."""
+    """The indices of the elements that are 2^W or more."""
     return [i for i, v in enumerate(values) if v >> w]
 
 

@@ -7,7 +7,7 @@
 stdin is the number of cases in 4 hex digits and a line end, then the cases. A case has 589 bytes: 512 of which
 the first P, over and over, make the A bytes of input, 64 of which the first T are the text expected and the others 0, and a line AAAAA PPP TT in hex.
 
-The expected texts follow document 01 ("Pence and the program"). The sums of the good inputs are worked out in exact fractions; the few that
+The expected texts follow document 01. The sums of the good inputs are worked out in exact fractions; the few that
 are no finite numbers, and the passes, are written out by hand from document 01's table of careers.
 """
 
@@ -24,7 +24,7 @@ def number(line):
 
 
 def pence(x):
-    """x × 100 to the nearest whole number, ties away from zero."""
+    """A hundred times x, rounded to an integer, halves away from zero."""
     n = (200 * abs(x) + 1) // 2
     return int(n) if x >= 0 else -int(n)
 

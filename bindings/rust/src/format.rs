@@ -5,9 +5,9 @@
 pub enum Kind {
     /// Infinities and NaNs as in IEEE 754.
     Ieee = 0,
-    /// No infinity; the NaN is all ones below the sign.
+    /// No infinity; a NaN has every bit but the sign set.
     NoInf = 1,
-    /// No infinity and no −0; the NaN is the sign bit alone. The bias is one larger than in the
+    /// No infinity and no −0, whose pattern is the NaN. The bias is one larger than in the
     /// other kinds.
     Fnuz = 2,
     /// Neither infinity nor NaN.

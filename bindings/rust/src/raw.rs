@@ -1,4 +1,4 @@
-//! The two byte entries of `libtotals.a`, with plain numbers and byte slices.
+//! The two byte entries of `libtotals.a`, as they are.
 //!
 //! The numbers and the layout of the answer are those of the repository's `docs/SPECIFICATION.md`.
 //! For most callers [`Totals`](crate::Totals) is the better way in.
@@ -135,7 +135,7 @@ pub fn dot(f: Format, c: Settings, left: &[u8], right: &[u8], answer: &mut [u8])
     }
 }
 
-/// Values as the entries read them: eight bytes each, little end first.
+/// Values as the entries read them: eight bytes a value, the least byte first.
 #[must_use]
 pub fn bytes(values: &[u64]) -> Vec<u8> {
     u64::bytes(values).into_owned()

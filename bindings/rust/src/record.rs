@@ -166,7 +166,7 @@ pub enum Side {
     Below = 1,
     /// The result is greater than the exact sum.
     Above = 2,
-    /// The result is a NaN or infinite.
+    /// There is nothing to compare: the result is an infinity, or a NaN.
     NoComparison = 3,
 }
 

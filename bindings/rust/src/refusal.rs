@@ -33,7 +33,7 @@ impl Display for OfList {
 ///
 /// let refusal = dot(&[1.0, 2.0], &[3.0]).unwrap_err();
 /// assert_eq!(refusal, Refusal::DifferentLengths);
-/// assert_eq!(refusal.to_string(), "the two lists have different lengths");
+/// assert_eq!(refusal.to_string(), "the two lists differ in length");
 /// ```
 #[derive(Clone, Copy, Debug, PartialEq, Eq, Hash)]
 #[non_exhaustive]
@@ -60,11 +60,11 @@ pub enum Refusal {
     SettingOutOfRange,
     /// 5: the two lists of a dot have different lengths.
     DifferentLengths,
-    /// 6: more than 1,048,576 elements, or pairs in a dot.
+    /// 6: over 1,048,576 elements (of a dot: pairs).
     TooManyElements,
-    /// 7: an element has a set bit at the format's width or above.
+    /// 7: an element is 2 to the power of the format's width, or more.
     StrayBit {
-        /// The index of the first such element: in a dot of the left list if that has one.
+        /// The index of the first such element; a dot looks into its left list first.
         place: usize,
         /// Which list of a dot it stands in, the left one where both hold one; `None` in a sum, and
         /// from [`Refusal::from_code`].
@@ -128,7 +128,7 @@ impl Display for Refusal {
             Self::SettingOutOfRange => {
                 out.write_str("a setting or the summand is out of its range")
             }
-            Self::DifferentLengths => out.write_str("the two lists have different lengths"),
+            Self::DifferentLengths => out.write_str("the two lists differ in length"),
             Self::TooManyElements => out.write_str("there are more than 1,048,576 elements"),
             Self::StrayBit { place, list } => {
                 write!(

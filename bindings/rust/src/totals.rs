@@ -136,7 +136,7 @@ impl<T: Value> Totals<T> {
         self.sum_bytes(summand, &T::bytes(values))
     }
 
-    /// One of the three sums, of values that lie eight bytes each, little end first.
+    /// One of the three sums, of values in bytes: eight a value, the least byte first.
     ///
     /// # Errors
     ///
@@ -160,7 +160,7 @@ impl<T: Value> Totals<T> {
             .map_err(|refusal| self.with_setting(refusal))
     }
 
-    /// The dot product of values that lie eight bytes each, little end first.
+    /// The dot product of values in bytes: eight a value, the least byte first.
     ///
     /// # Errors
     ///

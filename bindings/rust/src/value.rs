@@ -36,7 +36,7 @@ pub(crate) mod sealed {
         fn from_encoding(encoding: u64) -> Self;
         fn show(&self, out: &mut Formatter<'_>) -> fmt::Result;
 
-        /// The encodings as the entries read them: eight bytes each, little end first.
+        /// The encodings as the entries read them: eight bytes a value, the least byte first.
         fn bytes(values: &[Self]) -> Cow<'_, [u8]> {
             Cow::Owned(copied(values))
         }

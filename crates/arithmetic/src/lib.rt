@@ -1,4 +1,4 @@
-// Terms: a non-zero element, or a product of two, as a sign, a significand of two words and a shift in units.
+// Terms, what an element or a pair adds: a sign, a significand of two words and a shift in units.
 use binary::field_of;
 use binary::fraction_of;
 use binary::is_plain;
@@ -207,7 +207,7 @@ fn top_of(k: u64, m: u64) -> u64
     k + (word::bit_length(m) as u64) + TOP
 }
 
-// That of a product, counted by the two factors' positions plus 1.
+// That of a product: one above the sum of its factors' tops.
 fn top_of_product(k: u64, m: u64, j: u64, n: u64) -> u64
     requires { ⌜ (k < 268435456) × (j < 268435456) × (0 < m) × (0 < n) ⌝ }
     ensures { λ r. ⌜ r ≡ bitLength m + bitLength n + k + j + 1024 - 1 ⌝ }

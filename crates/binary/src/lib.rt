@@ -176,7 +176,7 @@ pub struct Read {
     pub subnormal: bool,
 }
 
-// An operand: denormals-are-zero turns a subnormal into a zero of its sign.
+// An operand: the decoded number, or under denormals-are-zero a signed zero in place of a subnormal one.
 pub fn operand(f: Format, c: Settings, b: u64) -> Read
     requires { ⌜ FormatBounds (formatOf f) ⌝ }
     ensures { λ r. ⌜ (unpackedOf (r .value) ≡ dec.operand (formatOf f) (settingsOf c) b) × (r .subnormal ≡ dec.isSubnormal (formatOf f) b) ⌝ }

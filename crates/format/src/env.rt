@@ -84,7 +84,7 @@ pub fn valid_settings(f: Format, c: Settings) -> bool
     c.precision <= digits(f)
 }
 
-// q: the precision set, else p.
+// q, the digits to round to: p where no precision is set.
 pub fn precision_within(f: Format, c: Settings) -> u64
     requires { ⌜ RangeBounds (formatOf f) × SettingsBounds (formatOf f) (settingsOf c) ⌝ }
     ensures { λ r. ⌜ (r ≡ env.precisionOf (formatOf f) (settingsOf c)) × (1 ≤ r) × (r ≤ spec.digits (formatOf f)) ⌝ }

@@ -1,4 +1,4 @@
--- Hex digits in bytes, by the program's digits (document 01, "Pence and the program").
+-- Hex digits in bytes, by the program's digits (document 01).
 use mathlib.Core.List.{List}
 use mathlib.Core.Option.{Option, none, some}
 use Prim.Native.Nat.{ℕ, zero, suc, _+_, _*_}

@@ -1,4 +1,4 @@
--- The word and the place of each of a window's bits are the quotient and the remainder by 64.
+-- `window-bits`: of every bit of a window, the word and the place that `split` finds are those of a division by 64.
 use mathlib.Core.Path.{_≡_, refl}
 use Prim.Native.Nat.{ℕ, _+_, _*_, _/_, _%_, _<_}
 use native.Mathlib.Nat.{mod-lt, div-add-mod'}

@@ -18,7 +18,7 @@ shiftedWord i = i / 2 ^ 6
 abbrev pub leftOver : ℕ → ℕ
 leftOver i = i - shiftedWord i * 2 ^ 6
 
--- for each of a window's 768 bits: one of its twelve words, the quotient by 64, and one of that word's 64 places, the remainder
+-- bit i of a window: one of its twelve words, the quotient by 64, and one of that word's 64 places, the remainder
 pub record Found (i : ℕ) : Type 0 where
   pub quotient : shiftedWord i ≡ i / 64
   pub remainder : leftOver i ≡ i % 64

@@ -45,7 +45,7 @@ pub struct Answer {
     pub result: u64,
     pub flags: u64,
     pub passes: u64,
-    // the low edge of the last pass, 0 where there was none
+    // where the last pass cut, as a position; 0 without a pass
     pub last_edge: i64,
     pub refusal: u64,
     pub place: u64,

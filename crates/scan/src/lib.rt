@@ -218,7 +218,7 @@ pub fn take_pair(f: Format, c: Settings, s: Scan, x: u64, y: u64) -> Scan
     r.item(pair_of(v, w))
 }
 
-// Whether a NaN decides: where infinities come first one of them beats a quiet NaN, but no signaling one.
+// Whether a NaN decides. Where infinities come first, a quiet NaN yields to one of them and a signaling NaN does not.
 fn nan_decides(infinity_first: bool, s: Scan) -> bool
     ensures { λ r. ⌜ r ≡ nanDecides «infinity_first» s ⌝ }
 {

@@ -1,4 +1,4 @@
--- What reading the lines gives (document 01, "Pence and the program"), in the code's terms.
+-- What reading the lines gives (document 01), in the code's terms.
 use mathlib.Core.Path.{_≡_}
 use mathlib.Core.Bool.{cond}
 use mathlib.Core.List.{List, [], _∷_, _++_}

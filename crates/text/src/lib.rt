@@ -1,4 +1,4 @@
-// What the program `total` writes for what it reads (document 01, "Pence and the program"), both as bytes.
+// What the program `total` writes for what it reads (document 01), both as bytes.
 mod read;
 pub mod write;
 
@@ -15,7 +15,7 @@ ghost use Rattle.totals_spec.specs.Program.{programFormat, programSettings, ans
 ghost use Rattle.totals_spec.specs.Totals.{sumAnswer};
 ghost use Rattle.text.specs.Holds.{Holds};
 
-// The text of the sum of some binary64 numbers: ties to even, tininess after, all else 0.
+// The text of the sum of some binary64 numbers. Every setting is 0 but the tininess.
 fn sum_text(values: &[u64]) -> Text
     ensures { λ r. ⌜ Holds r (answerText (sumAnswer programFormat programSettings 0 (now (values .entry)))) ⌝ }
 {

@@ -1,5 +1,5 @@
-// Reading: lines of 16 lower-case hex digits, each ended by byte 10, the last line end optional. A good line is 17 bytes with its line end, so line n
-// begins at the place 17 (n - 1), up to the first bad one.
+// Reading: a number a line, in 16 hex digits with small letters; the last line may lack its byte 10. A good line is 17 bytes with its line end, so
+// line n begins at the place 17 (n - 1), up to the first bad one.
 use hex::digit;
 ghost use mathlib.Core.Path.{_≡_};
 ghost use mathlib.Core.Option.{some};

@@ -6,7 +6,7 @@ use Rattle.totals_spec.specs.Format.{Format, validFormat}
 use Rattle.totals_spec.specs.Settings.{Settings, validSettings}
 use Rattle.totals_spec.specs.Totals.{refuseIf, limit}
 
--- n is the length of the list, or in a dot of the left one and m of the right one
+-- n is the length of the list; a dot has n on the left and m on the right
 unfoldable pub sumNumbers : Format → Settings → ℕ → ℕ → ℕ
 sumNumbers f c u n =
     refuseIf (not (validFormat f)) 3

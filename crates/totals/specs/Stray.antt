@@ -9,7 +9,7 @@ use Rattle.totals_spec.specs.Totals.{firstIndex}
 use Rattle.totals.specs.declared.stray.Found.{Found}
 use Rattle.totals.specs.declared.stray.Found.the-variants.{At, Nothing}
 
--- a set bit at position w or above
+-- b does not fit w bits
 abbrev pub strayAt : ℕ → ℕ → Bool
 strayAt w b = leb (2 ^ w) b
 
@@ -21,7 +21,7 @@ Says Nothing some first = some ≡ false
 abbrev pub FoundIn : Found → ℕ → List ℕ → Type 0
 FoundIn r w l = Says r (any (strayAt w) l) (firstIndex (strayAt w) l)
 
--- in the lists of a walk: in a dot of the left list if that holds one, else of the right
+-- in the lists of a walk; a dot looks into the right list only where the left has none
 abbrev pub FoundOn : Bool → Found → ℕ → List ℕ → List ℕ → Type 0
 FoundOn true r w x y =
     Says r (any (strayAt w) x || any (strayAt w) y) (cond (any (strayAt w) x) (firstIndex (strayAt w) x) (firstIndex (strayAt w) y))

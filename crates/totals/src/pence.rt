@@ -1,4 +1,4 @@
-// The pence figure of one encoding: its value times 100, to the nearest whole number, ties away from zero.
+// Pence: a hundred times the number that an encoding stands for, rounded to an integer, half a penny away from zero.
 use crate::stray::greatest;
 use binary::decode;
 use format::Format;
@@ -110,7 +110,7 @@ fn figure_of(d: u64, v: Unpacked) -> Pence
     }
 }
 
-// The pence figure of one encoding.
+// The pence of an encoding, or why there are none.
 pub fn pence_of(f: Format, b: u64) -> Pence
     ensures { λ r. ⌜ penceRecord r ≡ spec.penceAnswer (formatOf f) b ⌝ }
 {

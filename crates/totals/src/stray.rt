@@ -1,4 +1,4 @@
-// The search for a set bit at position W or above, refusal 7.
+// The search for an element that does not fit the width, refusal 7.
 use values::Source;
 use values::Walk;
 use values::element;
@@ -8,7 +8,7 @@ ghost use Rattle.values.specs.Sources.{Within, elements};
 ghost use Rattle.values.specs.Walks.{isDot};
 ghost use Rattle.totals.specs.Stray.{FoundIn, FoundOn};
 
-// An element with a set bit at position W or above.
+// Where such an element stands.
 pub enum Found {
     At(usize),
     Nothing,

@@ -51,7 +51,7 @@ module _ (p w P N a c RA RC : ℕ) (hp : p ≤ 64) (eP : P ≡ a * 2 ^ w + RA) (
     RO : cond s RC RA + cond s RA RC ≤ terms-max * 2 ^ w
     RO = rests-oriented s RA RC (terms-max * 2 ^ w) R
 
-    -- the quotient of M by 2^r has p + 1 bits
+    -- M / 2^r has p + 1 bits
     quotient-big : 2 ^ p ≤ k / 2 ^ (n - p - 1)
     quotient-big = le-div-iff-mul-le (pow-pos (n - p - 1)) .1 (subst (λ (x : ℕ). x ≤ k) e (size-reaches k (n - 1) (subst (λ (x : ℕ). n - 1 < x) (sym kn) less)))
       where

@@ -82,7 +82,7 @@ module _ (w k hi lo RH RL : ℕ) (H : hi + RL ≡ lo + k * 2 ^ w + RH) where
       less : k % 2 ^ r * 2 ^ w < 2 ^ (w + r)
       less = subst (λ (x : ℕ). k % 2 ^ r * 2 ^ w < x) (unit-parts w r) (mul-lt-mul-of-pos-right (mod-lt k (pow-pos r)) (pow-pos w))
 
-  -- the next edge is 766 below m: the sum is within 3 × 2^(m − 1)
+  -- where the chain goes on at m − 766, the sum is within 3 × 2^(m − 1)
   pub next-close : (n lost m : ℕ) → k < 2 ^ n → RH + RL ≤ terms-max * (2 ^ lost - 1) → w + n ≤ suc m → lost + 64 ≤ suc m → Close hi lo (3 * 2 ^ m)
   next-close n lost m kn R l u = (omega (arith, top, rest, H, R, pow-pos m), omega (arith, rest, H, R, pow-pos m))
     where

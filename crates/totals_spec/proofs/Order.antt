@@ -1,4 +1,4 @@
--- Promise 3, the order: a rearrangement of a list that is accepted and holds no NaN has the same record, whole.
+-- Promise 3, the order: an accepted list without a NaN and each rearrangement of it have one record.
 use mathlib.Core.Path.{_≡_, refl, sym, ap, ap₂, _∙_, fun-ext}
 use mathlib.Core.Bool.{Bool, true, false, not, _&&_, _||_, cond, true≢false}
 use mathlib.Core.List.{List, [], _∷_, map, List·Permᴰ}
@@ -218,7 +218,7 @@ module _ (f : Format) (c : Settings) (xs ys xs′ ys′ : List ℕ) (d : List·P
       rw (r, r′, ← (any-perm (λ x. isSubnormal f (x .0) || isSubnormal f (x .1)) d))
       (accepted-perm f c _ true (map-perm (pairItem f c) d) false _ _ _ _ (pairs-nan f c xs ys h k))
 
--- ---- promise 3 as document 01 has it: a rearrangement holds each element, or in a dot each pair of elements, as often
+-- ---- promise 3 as it is stated: a rearrangement is given by how often each element, or each pair, occurs
 
 pub sum-order : Sum-order
 sum-order f c u l₁ l₂ h r k =

@@ -1,4 +1,4 @@
--- `firstIndex` gives the lowest index of an element with a stray bit.
+-- `firstIndex` gives the lowest index at which a test holds.
 use mathlib.Core.Path.{_≡_, refl, sym, subst}
 use mathlib.Core.Bool.{Bool, true, false, _||_, cond}
 use mathlib.Core.List.{List, [], _∷_}

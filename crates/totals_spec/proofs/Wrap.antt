@@ -1,4 +1,4 @@
--- S, summed modulo 2^768, is the sum of the parts itself where that lies from −2^767 to 2^767 − 1.
+-- S, summed modulo 2^768, is the sum of the parts itself where that fits a signed window.
 use mathlib.Core.Path.{_≡_, ap, _∙_}
 use mathlib.Core.Bool.{Bool, true, false, not}
 use Prim.Native.Nat.{ℕ, suc, _+_, _-_, _*_, _/_, _%_, _≤_, _<_}

@@ -1,9 +1,9 @@
--- "Careers to check" (document 01): C1 to C12 as the rows of a table, and the document's other examples, as tests that the checker computes.
+-- Document 01's careers: C1 to C12 as the rows of a table, and the document's other examples, as tests that the checker computes.
 --
--- The last edges, which the document gives for C7 alone, follow from its text. The first edge is T − 702, and without a pass the edge is 0:
+-- The last edges, which the document gives for C7 alone, follow from its text. A chain begins at T − 702, and without a pass the edge is 0:
 --   C1, C2, C3, C12   no pass: 0
 --   C4, C6            T = 0, and the first pass is exact: −702
---   C5                T = 1000, so 298; there S = 0 and the lost bit is 0; the next edge is 766 below the larger of 298 and 65: −468, exact
+--   C5                T = 1000, so 298; there S = 0 and the lost bit is 0; the next one is max(298, 65) − 766 = −468, exact
 --   C7                T = 0, so −702; n = 703, r = 649, d = 0: a boundary; the next edge is −702 − 701 = −1403, exact
 --   C8, C9            T = 1023: 321
 --   C10               T = −1074: −1776
@@ -93,11 +93,11 @@ margins =
     ∷ record { mode = 0; summand = 0; list = 0x3ff0000000000000 ∷ 0x3ca0000000000000 ∷ 0x9410000000000000 ∷ 0x8170000000000000 ∷ []; result = 0x3ff0000000000000; flags = 0x10; passes = 2; lastEdge = negsuc 1402; side = 1 }
     -- 1, −1, 2^−580, 2^−1000: n = 123 = p + 70, d = 0: a boundary
     ∷ record { mode = 0; summand = 0; list = 0x3ff0000000000000 ∷ 0xbff0000000000000 ∷ 0x1bb0000000000000 ∷ 0x0170000000000000 ∷ []; result = 0x1bb0000000000000; flags = 0x10; passes = 2; lastEdge = negsuc 1402; side = 1 }
-    -- 1, −1, 2^−581, 2^−1000: n = 122, so the next edge is 766 below −702 + 122
+    -- 1, −1, 2^−581, 2^−1000: n = 122, so it goes on at −702 + 122 − 766
     ∷ record { mode = 0; summand = 0; list = 0x3ff0000000000000 ∷ 0xbff0000000000000 ∷ 0x1ba0000000000000 ∷ 0x0170000000000000 ∷ []; result = 0x1ba0000000000000; flags = 0x10; passes = 2; lastEdge = negsuc 1345; side = 1 }
     -- 2^1000, 2^−338, 2^−1074: a boundary at 298, and at −403 S = 2^65, n = 66: the side is known
     ∷ record { mode = 0; summand = 0; list = 0x7e70000000000000 ∷ 0x2ad0000000000000 ∷ 1 ∷ []; result = 0x7e70000000000000; flags = 0x90; passes = 2; lastEdge = negsuc 402; side = 1 }
-    -- 2^1000, 2^−339, 2^−1074: n = 65, so the next edge is 766 below −403 + 65, and that pass is exact
+    -- 2^1000, 2^−339, 2^−1074: n = 65, so it goes on at −403 + 65 − 766, and that pass is exact
     ∷ record { mode = 0; summand = 0; list = 0x7e70000000000000 ∷ 0x2ac0000000000000 ∷ 1 ∷ []; result = 0x7e70000000000000; flags = 0x90; passes = 3; lastEdge = negsuc 1103; side = 1 }
     -- 2^1000, −2^−338, 2^−1074: below the boundary
     ∷ record { mode = 0; summand = 0; list = 0x7e70000000000000 ∷ 0xaad0000000000000 ∷ 1 ∷ []; result = 0x7e70000000000000; flags = 0xd0; passes = 2; lastEdge = negsuc 402; side = 2 }
@@ -105,7 +105,7 @@ margins =
     ∷ record { mode = 0; summand = 0; list = 0x3ff0000000000000 ∷ 0x7e70000000000000 ∷ 0xfe70000000000000 ∷ []; result = 0x3ff0000000000000; flags = 0x00; passes = 2; lastEdge = negsuc 467; side = 0 }
     -- squares of 2^−538 twice and of 2^−600: 2^−1075 + 2^−1200, just above half of the least number; rounded to 53 digits first it would be a tie
     ∷ record { mode = 0; summand = 2; list = 0x1e50000000000000 ∷ 0x1e50000000000000 ∷ 0x1a70000000000000 ∷ []; result = 1; flags = 0x78; passes = 1; lastEdge = negsuc 1776; side = 2 }
-    -- −0, 1, −1: terms that cancel, whichever zeros stand among them
+    -- −0, 1, −1: a zero in the list has no say where terms cancel
     ∷ record { mode = 0; summand = 0; list = 0x8000000000000000 ∷ 0x3ff0000000000000 ∷ 0xbff0000000000000 ∷ []; result = 0; flags = 0x00; passes = 1; lastEdge = negsuc 701; side = 0 }
     -- C6 and C7 negated: what lay below lies above, and the other way round
     ∷ record { mode = 0; summand = 0; list = 0xbff0000000000000 ∷ 0xbca0000000000000 ∷ []; result = 0xbff0000000000000; flags = 0x10; passes = 1; lastEdge = negsuc 701; side = 2 }
@@ -240,7 +240,7 @@ programRuns =
       input = oneWith 48 ++ (10 ∷ 51 ∷ 102 ∷ 100 ∷ 48 ∷ 48 ∷ 48 ∷ 48 ∷ 48 ∷ 48 ∷ 48 ∷ 48 ∷ 48 ∷ 48 ∷ 48 ∷ 48 ∷ 48 ∷ 10 ∷ []);
       output = 51 ∷ 102 ∷ 102 ∷ 52 ∷ 48 ∷ 48 ∷ 48 ∷ 48 ∷ 48 ∷ 48 ∷ 48 ∷ 48 ∷ 48 ∷ 48 ∷ 48 ∷ 48 ∷ 10 ∷ 48 ∷ 48 ∷ 10 ∷ 49 ∷ 10 ∷ 49 ∷ 50 ∷ 53 ∷ 10 ∷ [];
     }
-    -- the last line end is optional: 1.0 prints `3ff0000000000000`, `00`, `1`, `100`
+    -- without its last line end: 1.0 prints `3ff0000000000000`, `00`, `1`, `100`
     ∷ record { input = oneWith 48; output = oneWith 48 ++ (10 ∷ 48 ∷ 48 ∷ 10 ∷ 49 ∷ 10 ∷ 49 ∷ 48 ∷ 48 ∷ 10 ∷ []) }
     -- nothing is the empty list: +0, no flags, no passes, 0 pence
     ∷ record { input = []; output = replicate 16 48 ++ (10 ∷ 48 ∷ 48 ∷ 10 ∷ 48 ∷ 10 ∷ 48 ∷ 10 ∷ []) }
@@ -251,7 +251,7 @@ programRuns =
     }
     -- a line of 17 digits
     ∷ record { input = 51 ∷ oneWith 48; output = refusedLine 1 }
-    -- an empty line is bad; so is a capital digit, and a line of 15 digits
+    -- empty lines, a capital digit, a line of 15 digits
     ∷ record { input = 10 ∷ []; output = refusedLine 1 }
     ∷ record { input = oneWith 48 ++ (10 ∷ 10 ∷ []); output = refusedLine 2 }
     ∷ record { input = oneWith 65; output = refusedLine 1 }

@@ -1,4 +1,4 @@
--- The program (document 01, "Pence and the program"): what it writes for what it reads, both as bytes.
+-- The program (document 01): what it writes for what it reads, both as bytes.
 use mathlib.Core.Bool.{_&&_, cond}
 use mathlib.Core.List.{List, [], _∷_, _++_}
 use mathlib.Core.Option.{Option, none, some}

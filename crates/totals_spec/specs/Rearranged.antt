@@ -1,4 +1,4 @@
--- Rearrangements (document 01, "The passes"): two lists that have every element, or every pair of a dot, equally many times. And lists that hold a
+-- Rearrangements (document 01): two lists that have every element, or every pair of a dot, equally many times. And lists that hold a
 -- NaN, for which the order counts.
 use mathlib.Core.Path.{_≡_}
 use mathlib.Core.Bool.{Bool, _&&_}

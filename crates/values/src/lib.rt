@@ -1,4 +1,4 @@
-// Values in bytes: eight bytes each, little end first.
+// Values in bytes, eight to a value, the least byte first.
 ghost use mathlib.Core.Path.{_≡_};
 ghost use Prim.Native.Nat.{_+_, _*_, _/_, _<_, _≤_};
 ghost use lib.ListN.{length, getD};

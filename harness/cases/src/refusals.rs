@@ -8,7 +8,7 @@ pub enum Expected {
     Accepted,
     /// Numbers 1 to 6: place 0.
     Refused(u64),
-    /// Number 7: the place is the index of any element of this list with a set bit at position W or above.
+    /// Number 7: the place is that of an element of this list that does not fit the width.
     Stray(Side),
 }
 
@@ -18,12 +18,12 @@ pub enum Side {
     Right,
 }
 
-/// 3: kind above 3, E outside 2..28, W below E + 2 or above 64.
+/// 3: a kind or a width out of its range.
 fn no_format([kind, e, w]: [u64; 3]) -> bool {
     kind > 3 || !(2..=28).contains(&e) || w < e + 2 || w > 64
 }
 
-/// 4: a setting outside its range, or summand above 2. The format is one.
+/// 4: a setting or the summand is too large. The format is one.
 fn out_of_range(case: &Case) -> bool {
     let [_, e, w] = case.format;
     let highest = [7, 1, 3, 1, 1, 1, 1, w - e];
@@ -31,12 +31,12 @@ fn out_of_range(case: &Case) -> bool {
     setting || matches!(case.operation, Operation::Sum(summand) if summand > 2)
 }
 
-/// Whether a value has a set bit at position W or above.
+/// Whether a value does not fit the width.
 pub fn is_stray(value: u64, width: u64) -> bool {
     width < 64 && value >> width != 0
 }
 
-/// The first row whose condition holds, in the order of the numbers.
+/// The lowest number whose condition holds.
 pub fn expected(case: &Case) -> Expected {
     let dot = case.is_dot();
     let width = case.format[2];

@@ -61,7 +61,7 @@ fn break_pairing(rng: &mut Rng, case: &mut Case) {
     }
 }
 
-/// Sets a bit at position W or above, at one end of the range or anywhere between, in one element or two.
+/// Sets a bit that does not fit the width, at one end of the range or anywhere between, in one element or two.
 fn put_stray_bit(rng: &mut Rng, case: &mut Case, width: u64) {
     if width >= 64 {
         return;
