@@ -22,5 +22,7 @@ fn main() {
     let t = answer_text(&input[..n]);
     let bytes = t.bytes;
     let length = t.length;
-    io::write_all(STDOUT_FILENO, &bytes[..length]);
+    if !io::write_all(STDOUT_FILENO, &bytes[..length]) {
+        os::fail(b"total: standard output");
+    }
 }

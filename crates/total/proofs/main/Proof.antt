@@ -40,8 +40,17 @@ slice-aggregate-write-all c = held-counts (c .before .before .answer-text .ensur
 write-all-requires : tie.Need-write-all-requires
 write-all-requires c κs = search needs
 
+slice-aggregate-fail-2 : tie.Need-slice-aggregate-fail-2
+slice-aggregate-fail-2 c = search needs
+
+fail-requires-2 : tie.Need-fail-requires-2
+fail-requires-2 c κs = search needs
+
 returns-2 : tie.Need-returns-2
 returns-2 c = search needs
+
+returns-3 : tie.Need-returns-3
+returns-3 c = search needs
 
 pub main-spec : {M : Type 1} → statement M
 main-spec =
@@ -59,4 +68,7 @@ main-spec =
     array-share-prefix-bytes
     slice-aggregate-write-all
     write-all-requires
-    returns-2)
+    slice-aggregate-fail-2
+    fail-requires-2
+    returns-2
+    returns-3)
