@@ -5,12 +5,9 @@ use hex::number;
 use reduction::total::Answer;
 use values::put_word;
 ghost use mathlib.Core.Path.{_≡_};
-ghost use mathlib.Core.Bool.{cond};
-ghost use Prim.Native.Nat.{_+_, _%_, _^_, _<_, _≤_};
-ghost use lib.Dec.{eqb};
-ghost use lib.IntN.{pos, negℤ};
+ghost use Prim.Native.Nat.{_<_, _≤_};
 ghost use lib.ListN.{length, getD};
-ghost use Rattle.hex.specs.Digits.{numberAt};
+ghost use Rattle.replay.specs.Row.{wordAt, isDot, formatIn, settingsIn, signedAt, answerIn};
 
 // Where the values begin; and the length of a row of twelve of them, and of a long one, of twenty-four.
 const VALUES: usize = 79;
@@ -25,11 +22,15 @@ fn byte_at(s: &[u8], i: usize) -> u8
     if i < s.len() { s[i] } else { 48 }
 }
 
-pub fn is_dot(s: &[u8]) -> bool {
+pub fn is_dot(s: &[u8]) -> bool
+    ensures { λ r. ⌜ r ≡ isDot (now (s .entry)) ⌝ }
+{
     byte_at(s, 0) == b'd'
 }
 
-pub fn format_at(s: &[u8]) -> Format {
+pub fn format_at(s: &[u8]) -> Format
+    ensures { λ r. ⌜ r ≡ formatIn (now (s .entry)) ⌝ }
+{
     Format {
         kind: number(s, 2, 1),
         exponent_bits: number(s, 4, 2),
@@ -37,7 +38,9 @@ pub fn format_at(s: &[u8]) -> Format {
     }
 }
 
-pub fn settings_at(s: &[u8]) -> Settings {
+pub fn settings_at(s: &[u8]) -> Settings
+    ensures { λ r. ⌜ r ≡ settingsIn (now (s .entry)) ⌝ }
+{
     Settings {
         rounding: number(s, 10, 1),
         tininess: number(s, 11, 1),
@@ -50,7 +53,9 @@ pub fn settings_at(s: &[u8]) -> Settings {
     }
 }
 
-pub fn summand_at(s: &[u8]) -> u64 {
+pub fn summand_at(s: &[u8]) -> u64
+    ensures { λ r. ⌜ r ≡ wordAt (now (s .entry)) 21 1 ⌝ }
+{
     number(s, 21, 1)
 }
 
@@ -65,14 +70,16 @@ pub fn count_at(s: &[u8], at: usize, most: usize) -> usize
 // A sign, and n digits behind it.
 pub fn signed_at(s: &[u8], at: usize, n: usize) -> i64
     requires { ⌜ at < 512 ⌝ }
-    ensures { λ r. ⌜ r ≡ cond (eqb (getD (now (s .entry)) at 48) 45) (negℤ (pos (numberAt (now (s .entry)) (at + 1) n % 2 ^ 64 % 2 ^ 63))) (pos (numberAt (now (s .entry)) (at + 1) n % 2 ^ 64 % 2 ^ 63)) ⌝ }
+    ensures { λ r. ⌜ r ≡ signedAt (now (s .entry)) at n ⌝ }
 {
     let m = (number(s, at + 1, n) % 9223372036854775808) as i64;
     if byte_at(s, at) == b'-' { -m } else { m }
 }
 
 // The record that a row expects.
-pub fn answer_at(s: &[u8]) -> Answer {
+pub fn answer_at(s: &[u8]) -> Answer
+    ensures { λ r. ⌜ r ≡ answerIn (now (s .entry)) ⌝ }
+{
     Answer {
         result: number(s, 32, 16),
         flags: number(s, 49, 2),
@@ -85,7 +92,9 @@ pub fn answer_at(s: &[u8]) -> Answer {
 }
 
 // What the byte entry returns.
-pub fn returned_at(s: &[u8]) -> u64 {
+pub fn returned_at(s: &[u8]) -> u64
+    ensures { λ r. ⌜ r ≡ wordAt (now (s .entry)) 73 3 ⌝ }
+{
     number(s, 73, 3)
 }
 

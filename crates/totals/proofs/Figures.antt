@@ -140,7 +140,7 @@ module _ (n : ℕ) (h : n < 2 ^ 63) where
       go zero h = h
       go (suc n) h = omega (arith, h)
 
-  signed-fits : (s : Bool) → SFits w64 (cond s (negℤ (pos n)) (pos n))
+  pub signed-fits : (s : Bool) → SFits w64 (cond s (negℤ (pos n)) (pos n))
   signed-fits true = negated-fits
   signed-fits false = record { sfits = h }
 
