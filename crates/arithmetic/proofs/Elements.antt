@@ -25,8 +25,9 @@ use Rattle.format.specs.declared.unpacked.Unpacked.the-variants.{Zero, Finite, 
 use Rattle.format.specs.Joined.{unpackedOf}
 use Rattle.arithmetic.specs.declared.Term.{Term}
 use Rattle.arithmetic.specs.declared.Item.the-variants as item
-use Rattle.binary.specs.Joined.{Plain}
-use Rattle.arithmetic.specs.Joined.{magnitude, StandsFor, Bounded, itemOf, plainNumber, aboveBase, fieldTop, fieldsTop, PlainField}
+use Rattle.binary.specs.Joined.{isPlain}
+use Rattle.binary.proofs.Plain.{Plain, plainly}
+use Rattle.arithmetic.specs.Joined.{magnitude, StandsFor, Bounded, itemOf, plainNumber, plainField, aboveBase, fieldTop, fieldsTop}
 
 -- ---- an operand: its exponent is below 2^28, its significand above 0
 
@@ -137,22 +138,19 @@ square-item u s k m r h e = rw (square-of u h) (ap item.Top e)
 
 -- ---- an element that is plainly a number
 
-pub plainly : (b : Bool) (f : spec.Format) (x : ℕ) → b ≡ true → Plain b f x → Plain true f x
-plainly b f x e h = subst (λ (z : Bool). Plain z f x) e h
-
-module _ (f : spec.Format) (x : ℕ) (h : Plain true f x) where
+module _ (f : spec.Format) (x : ℕ) (h : Plain f x) where
   pub plain-operand : (c : env.Settings) → dec.operand f c x ≡ plainNumber f x
   unfolding dec.operand
-  plain-operand c = rw (h .1) (off (isSet (c .denormalsAreZero)) ∙ h .0)
+  plain-operand c = rw (h .normal) (off (isSet (c .denormalsAreZero)) ∙ h .number)
     where
       off : (b : Bool) → cond (b && false) (dec.zeroOf (dec.signBit f x)) (dec.decode f x) ≡ dec.decode f x
       off true = refl
       off false = refl
 
   pub plain-nan : dec.isNan (dec.decode f x) ≡ false
-  plain-nan = ap dec.isNan (h .0)
+  plain-nan = ap dec.isNan (h .number)
 
-pub plain-item : (f : spec.Format) (c : env.Settings) (u : env.Summand) (x : ℕ) → Plain true f x → terms.itemOf u (plainNumber f x) ≡ terms.item f c u x
+pub plain-item : (f : spec.Format) (c : env.Settings) (u : env.Summand) (x : ℕ) → Plain f x → terms.itemOf u (plainNumber f x) ≡ terms.item f c u x
 unfolding terms.item
 plain-item f c u x h = ap (terms.itemOf u) (sym (plain-operand f x h c))
 
@@ -199,12 +197,33 @@ single-top f zero n h = refl
 single-top f (suc zero) n h = refl
 single-top f (suc (suc u)) n h = absurd (two-le u h)
 
-module _ (f : spec.Format) (x r : ℕ) (h : FormatBounds f) (p : Plain true f x) (e : r ≡ dec.fieldOf f x) where
+-- what the field of a plainly normal element says
+abbrev pub PlainField : ℕ → spec.Format → ℕ → Type 0
+PlainField r f b =
+    0 < r → (u : env.Summand) (c : env.Settings) → (dec.isSubnormal f b ≡ false) × (dec.isNan (dec.decode f b) ≡ false)
+    × (itemOf (terms.item f c u b) ≡ item.Top (fieldTop f u r))
+
+module _ (f : spec.Format) (x r : ℕ) (h : FormatBounds f) (p : Plain f x) (e : r ≡ dec.fieldOf f x) where
   position : (u : env.Summand) → 0 < r → itemOf (terms.itemOf u (plainNumber f x)) ≡ item.Top (fieldTop f u r)
   unfolding terms.single terms.product
   position env.value z = ap item.Top (omega (arith, plain-size f x h, above-some (spec.digits f + 1022) r z))
   position env.magnitude z = ap item.Top (omega (arith, plain-size f x h, above-some (spec.digits f + 1022) r z))
   position env.square z = ap item.Top (omega (arith, plain-size f x h, above-some (2 * spec.digits f + 1021) (r + r) (omega arith)))
 
+  positioned : PlainField r f x
+  positioned z u c = (p .normal, plain-nan f x p, ap itemOf (sym (plain-item f c u x p)) ∙ position u z)
+
+module _ (f : spec.Format) (x r : ℕ) (h : FormatBounds f) (e : r ≡ plainField f x) where
   pub plain-field : PlainField r f x
-  plain-field z u c = (p .1, plain-nan f x p, ap itemOf (sym (plain-item f c u x p)) ∙ position u z)
+  plain-field = go (isPlain f x) refl
+    where
+      go : (b : Bool) → isPlain f x ≡ b → PlainField r f x
+      go true q = positioned f x r h (plainly f x q) (e ∙ rw q)
+      go false q = λ z. let n : r ≡ 0 = e ∙ rw q in absurd (omega arith)
+
+  pub plain-field-small : r < 268435456
+  plain-field-small = go (isPlain f x) refl
+    where
+      go : (b : Bool) → isPlain f x ≡ b → r < 268435456
+      go true q = let n : r ≡ dec.fieldOf f x = e ∙ rw q in omega (arith, field-small f x h)
+      go false q = let n : r ≡ 0 = e ∙ rw q in omega arith

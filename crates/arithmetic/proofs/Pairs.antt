@@ -1,6 +1,6 @@
 -- The pairs of two lists of one length, and a pair as a term of the code.
-use mathlib.Core.Path.{_≡_, refl, sym, ap, _∙_, subst}
-use mathlib.Core.Bool.{Bool, true, false, true≢false}
+use mathlib.Core.Path.{_≡_, refl, sym, ap, _∙_}
+use mathlib.Core.Bool.{Bool, true, false, true≢false, and-eq-true-iff}
 use mathlib.Core.List.{List, [], _∷_}
 use Prim.Native.Nat.{ℕ, zero, suc, _+_, _*_, _<_}
 use native.Mathlib.Nat.{le-of-suc-le-suc, suc-inj, suc-ne-zero}
@@ -12,11 +12,12 @@ use Rattle.totals_spec.specs.Decode as dec
 use Rattle.totals_spec.specs.Terms as terms
 use Rattle.totals_spec.specs.Totals.{pairs}
 use Rattle.totals_spec.specs.Bounds.{FormatBounds}
-use Rattle.binary.specs.Joined.{Plain}
+use Rattle.binary.specs.Joined.{isPlain}
+use Rattle.binary.proofs.Plain.{Plain, plainly}
 use Rattle.arithmetic.specs.declared.Term.{Term}
 use Rattle.arithmetic.specs.declared.Item.the-variants as item
-use Rattle.arithmetic.specs.Joined.{magnitude, StandsFor, BothPlain, itemOf, plainProduct, PlainFields}
-use Rattle.arithmetic.proofs.Elements.{plain-operand, plain-nan, plain-size, above-some}
+use Rattle.arithmetic.specs.Joined.{magnitude, StandsFor, itemOf, plainProduct, bothPlain, plainFields, fieldsTop}
+use Rattle.arithmetic.proofs.Elements.{plain-operand, plain-nan, plain-size, above-some, field-small}
 
 -- ---- pairs of two lists
 
@@ -31,28 +32,46 @@ pairs-at (a ∷ x) (b ∷ y) (suc i) e h = pairs-at x y i (suc-inj e) (le-of-suc
 
 -- ---- plainly numbers, both
 
-pub both-of : (b : Bool) (f : spec.Format) (x y : ℕ) → Plain true f x → Plain b f y → BothPlain b f x y
-both-of true f x y h k = (h, k)
-both-of false f x y h k = tt
+pub both-plainly : (f : spec.Format) (x y : ℕ) → bothPlain f x y ≡ true → Plain f x × Plain f y
+both-plainly f x y e = let b = and-eq-true-iff (isPlain f x) (isPlain f y) .0 e in (plainly f x (b .0), plainly f y (b .1))
 
-pub both-plainly : (b : Bool) (f : spec.Format) (x y : ℕ) → b ≡ true → BothPlain b f x y → BothPlain true f x y
-both-plainly b f x y e h = subst (λ (z : Bool). BothPlain z f x y) e h
-
-pub plain-pair : (f : spec.Format) (c : env.Settings) (x y : ℕ) → BothPlain true f x y → terms.term (plainProduct f x y) ≡ terms.pairItem f c (x, y)
+pub plain-pair : (f : spec.Format) (c : env.Settings) (x y : ℕ) → Plain f x × Plain f y → terms.term (plainProduct f x y) ≡ terms.pairItem f c (x, y)
 unfolding terms.pairItem
 plain-pair f c x y h = sym (rw (plain-operand f x (h .0) c, plain-operand f y (h .1) c))
 
+-- what the sum of the fields of two plainly normal elements says
+abbrev pub PlainFields : ℕ → spec.Format → ℕ → ℕ → Type 0
+PlainFields r f x y =
+    0 < r → (c : env.Settings) → (dec.isSubnormal f x ≡ false) × (dec.isSubnormal f y ≡ false)
+    × (dec.isNan (dec.decode f x) ≡ false) × (dec.isNan (dec.decode f y) ≡ false)
+    × (itemOf (terms.pairItem f c (x, y)) ≡ item.Top (fieldsTop f r))
+
 -- the position of a product of normal numbers, by the sum of their fields
-pub plain-fields : (f : spec.Format) (x y r : ℕ) → FormatBounds f → BothPlain true f x y → r ≡ dec.fieldOf f x + dec.fieldOf f y → PlainFields r f x y
+positioned : (f : spec.Format) (x y r : ℕ) → FormatBounds f → Plain f x × Plain f y → r ≡ dec.fieldOf f x + dec.fieldOf f y → PlainFields r f x y
 unfolding terms.product
-plain-fields f x y r h p e z c = (
-  p .0 .1,
-  p .1 .1,
+positioned f x y r h p e z c = (
+  p .0 .normal,
+  p .1 .normal,
   plain-nan f x (p .0),
   plain-nan f y (p .1),
   ap itemOf (sym (plain-pair f c x y p))
-      ∙ ap item.Top (omega (arith, p .0 .2, p .1 .2, plain-size f x h, plain-size f y h, above-some (2 * spec.digits f + 1021) r z)),
+      ∙ ap item.Top (omega (arith, p .0 .some, p .1 .some, plain-size f x h, plain-size f y h, above-some (2 * spec.digits f + 1021) r z)),
 )
+
+module _ (f : spec.Format) (x y r : ℕ) (h : FormatBounds f) (e : r ≡ plainFields f x y) where
+  pub plain-fields : PlainFields r f x y
+  plain-fields = go (bothPlain f x y) refl
+    where
+      go : (b : Bool) → bothPlain f x y ≡ b → PlainFields r f x y
+      go true q = positioned f x y r h (both-plainly f x y q) (e ∙ rw q)
+      go false q = λ z. let n : r ≡ 0 = e ∙ rw q in absurd (omega arith)
+
+  pub plain-fields-small : r < 536870912
+  plain-fields-small = go (bothPlain f x y) refl
+    where
+      go : (b : Bool) → bothPlain f x y ≡ b → r < 536870912
+      go true q = let n : r ≡ dec.fieldOf f x + dec.fieldOf f y = e ∙ rw q in omega (arith, field-small f x h, field-small f y h)
+      go false q = let n : r ≡ 0 = e ∙ rw q in omega arith
 
 -- ---- a pair of which one is no finite number is no term
 

@@ -1,12 +1,12 @@
 -- The code's terms and items as those of totals_spec.
 use mathlib.Core.Path.{_≡_}
-use mathlib.Core.Bool.{Bool, true, false}
+use mathlib.Core.Bool.{Bool, _&&_, cond}
 use Prim.Native.Nat.{ℕ, zero, suc, _+_, _-_, _*_, _^_, _<_}
 use Rattle.totals_spec.specs.Format as spec
 use Rattle.totals_spec.specs.Settings as env
 use Rattle.totals_spec.specs.Decode as dec
 use Rattle.totals_spec.specs.Terms as terms
-use Rattle.binary.specs.Joined.{Plain}
+use Rattle.binary.specs.Joined.{isPlain}
 use Rattle.arithmetic.specs.declared.Term.{Term}
 use Rattle.arithmetic.specs.declared.Item.{Item}
 use Rattle.arithmetic.specs.declared.Item.the-variants as item
@@ -39,9 +39,17 @@ itemOf (terms.infinite s) = item.Infinite s
 itemOf (terms.zeroItem s) = item.Zero s
 itemOf (terms.term t) = item.Top (t .top)
 
-abbrev pub BothPlain : Bool → spec.Format → ℕ → ℕ → Type 0
-BothPlain true f x y = Plain true f x × Plain true f y
-BothPlain false f x y = Unit
+-- ---- plainly normal numbers
+
+abbrev pub bothPlain : spec.Format → ℕ → ℕ → Bool
+bothPlain f x y = isPlain f x && isPlain f y
+
+-- the exponent field of one, and 0 for an element that takes a closer look; of a pair the sum of the two fields
+abbrev pub plainField : spec.Format → ℕ → ℕ
+plainField f b = cond (isPlain f b) (dec.fieldOf f b) 0
+
+abbrev pub plainFields : spec.Format → ℕ → ℕ → ℕ
+plainFields f x y = cond (bothPlain f x y) (dec.fieldOf f x + dec.fieldOf f y) 0
 
 abbrev pub plainNumber : spec.Format → ℕ → dec.Unpacked
 plainNumber f b = dec.finite (dec.signBit f b) (dec.fieldOf f b - 1) (2 ^ spec.fractionBits f + dec.fractionOf f b)
@@ -68,15 +76,3 @@ abbrev pub fieldTop : spec.Format → env.Summand → ℕ → ℕ
 fieldTop f env.value n = aboveBase (spec.digits f + 1022) n
 fieldTop f env.magnitude n = aboveBase (spec.digits f + 1022) n
 fieldTop f env.square n = fieldsTop f (n + n)
-
--- r above 0 says that the element (the pair) is a term at the position of the field r, neither subnormal nor a NaN; 0 says nothing
-abbrev pub PlainField : ℕ → spec.Format → ℕ → Type 0
-PlainField r f b =
-    0 < r → (u : env.Summand) (c : env.Settings) → (dec.isSubnormal f b ≡ false) × (dec.isNan (dec.decode f b) ≡ false)
-    × (itemOf (terms.item f c u b) ≡ item.Top (fieldTop f u r))
-
-abbrev pub PlainFields : ℕ → spec.Format → ℕ → ℕ → Type 0
-PlainFields r f x y =
-    0 < r → (c : env.Settings) → (dec.isSubnormal f x ≡ false) × (dec.isSubnormal f y ≡ false)
-    × (dec.isNan (dec.decode f x) ≡ false) × (dec.isNan (dec.decode f y) ≡ false)
-    × (itemOf (terms.pairItem f c (x, y)) ≡ item.Top (fieldsTop f r))

@@ -23,7 +23,7 @@ ghost use Rattle.totals_spec.specs.Terms as terms;
 ghost use Rattle.totals_spec.specs.Decode as dec;
 ghost use Rattle.totals_spec.specs.Totals as totals;
 ghost use Rattle.format.specs.Joined.{formatOf, settingsOf, unpackedOf};
-ghost use Rattle.arithmetic.specs.Joined.{itemOf, StandsFor, Bounded, plainNumber, plainProduct, BothPlain, PlainField, PlainFields, fieldTop, fieldsTop};
+ghost use Rattle.arithmetic.specs.Joined.{itemOf, StandsFor, Bounded, plainNumber, plainProduct, bothPlain, plainField, plainFields, fieldTop, fieldsTop};
 
 // The highest of n bits at the shift k lies at n + k + ROOM - 1.
 const TOP: u64 = ROOM - 1;
@@ -191,7 +191,7 @@ pub fn plain_product(f: Format, x: u64, y: u64) -> Term
 // Whether both of a pair are plainly normal numbers.
 pub fn both_plain(f: Format, x: u64, y: u64) -> bool
     requires { ⌜ FormatBounds (formatOf f) ⌝ }
-    ensures { λ r. ⌜ BothPlain r (formatOf f) x y ⌝ }
+    ensures { λ r. ⌜ r ≡ bothPlain (formatOf f) x y ⌝ }
 {
     if is_plain(f, x) {
         return is_plain(f, y);
@@ -218,7 +218,7 @@ fn top_of_product(k: u64, m: u64, j: u64, n: u64) -> u64
 // The exponent field of an element that is plainly a normal number, and 0 for one that takes a closer look.
 pub fn plain_field(f: Format, b: u64) -> u64
     requires { ⌜ FormatBounds (formatOf f) ⌝ }
-    ensures { λ r. ⌜ (r < 268435456) × PlainField r (formatOf f) b ⌝ }
+    ensures { λ r. ⌜ r ≡ plainField (formatOf f) b ⌝ }
 {
     if !is_plain(f, b) {
         return 0;
@@ -229,7 +229,7 @@ pub fn plain_field(f: Format, b: u64) -> u64
 // The same of a pair: the sum of the two fields.
 pub fn plain_fields(f: Format, x: u64, y: u64) -> u64
     requires { ⌜ FormatBounds (formatOf f) ⌝ }
-    ensures { λ r. ⌜ (r < 536870912) × PlainFields r (formatOf f) x y ⌝ }
+    ensures { λ r. ⌜ r ≡ plainFields (formatOf f) x y ⌝ }
 {
     if !both_plain(f, x, y) {
         return 0;

@@ -12,11 +12,11 @@ use borrow.Author.Tests.{ne-eqb, eq-eqb, eqb-false, ltb-true, ltb-false}
 use Rattle.totals_spec.specs.Basics.{isSet}
 use Rattle.totals_spec.specs.Format as spec
 use Rattle.totals_spec.specs.Settings as env
-use Rattle.totals_spec.specs.Decode.{Unpacked, zeroOf, finite, nan, number, decodeFields, isFinite, decode, isSubnormal, signBit, fieldOf, fractionOf}
+use Rattle.totals_spec.specs.Decode.{Unpacked, zeroOf, finite, nan, number, decodeFields, isFinite, fieldOf}
 use Rattle.totals_spec.specs.Bounds.{FormatBounds}
 use Rattle.totals_spec.specs.Encode.{zeroBits, nanBits, assembled}
 use Rattle.totals_spec.specs.Nan.{staysNan, quiet, defaultNanOf}
-use Rattle.binary.specs.Joined.{nanPattern, topOf, Plain, selectedBy}
+use Rattle.binary.specs.Joined.{nanPattern, topOf, isPlain, selectedBy}
 
 -- ---- numbers: t fraction bits, the sign s, the exponent field x, the fraction m
 
@@ -112,14 +112,8 @@ all-ones : (M k x : ℕ) → k < 2 ^ 64 → M - 1 - 1 ≤ k → (k + 1) % 2 ^ 64
 all-ones M k x n h e l z = omega (arith, positive x z)
 
 module _ (f : spec.Format) (v : FormatBounds f) (b k : ℕ) (n : k < 2 ^ 64) (e : (k + 1) % 2 ^ 64 ≡ fieldOf f b) where
-  within : k < 2 ^ (f .E) - 1 - 1 → Plain true f b
-  unfolding decode isSubnormal
-  within h = (
-    decode-plain (f .kind) f (signBit f b) (fieldOf f b) (fractionOf f b) some below,
-    not-sub (decode f b) _ some,
-    positive _ some,
-    rw (ne-eqb _ _ some, ne-eqb _ _ below),
-  )
+  within : k < 2 ^ (f .E) - 1 - 1 → isPlain f b ≡ true
+  within h = rw (ne-eqb _ _ some, ne-eqb _ _ below)
     where
       up : fieldOf f b ≡ k + 1
       up = next-up (2 ^ (f .E)) k (fieldOf f b) (pow-mono (v .e-le)) h e
@@ -130,16 +124,16 @@ module _ (f : spec.Format) (v : FormatBounds f) (b k : ℕ) (n : k < 2 ^ 64) (e 
       below : fieldOf f b ≡ 2 ^ (f .E) - 1 → ⊥
       below z = omega (arith, up, z, h)
 
-  outside : 2 ^ (f .E) - 1 - 1 ≤ k → Plain false f b
+  outside : 2 ^ (f .E) - 1 - 1 ≤ k → isPlain f b ≡ false
   outside h = go (eqb (fieldOf f b) 0) refl
     where
-      go : (z : Bool) → eqb (fieldOf f b) 0 ≡ z → Plain false f b
+      go : (z : Bool) → eqb (fieldOf f b) 0 ≡ z → isPlain f b ≡ false
       go true z = rw z
       go false z = rw (z, eq-eqb _ _ (all-ones (2 ^ (f .E)) k (fieldOf f b) n h e (mod-lt (b / 2 ^ spec.fractionBits f) (pow-pos (f .E))) (eqb-false _ _ z)))
 
-  pub one-test : (r : Bool) → ltb k (2 ^ (f .E) - 1 - 1) ≡ r → Plain r f b
-  one-test true t = within (ltb-true _ _ t)
-  one-test false t = outside (ltb-false _ _ t)
+  pub one-test : (r : Bool) → ltb k (2 ^ (f .E) - 1 - 1) ≡ r → r ≡ isPlain f b
+  one-test true t = sym (within (ltb-true _ _ t))
+  one-test false t = sym (outside (ltb-false _ _ t))
 
 -- ---- operands: denormals-are-zero, the decoded value v, and whether it is subnormal
 

@@ -1,3 +1,4 @@
 pub mod Blank
 mod Cases
 pub mod Encodable
+pub mod Plain

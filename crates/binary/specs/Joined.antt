@@ -1,11 +1,10 @@
 -- The parts of decoding that have a function of their own, the running choice among NaNs, and plainly normal numbers.
-use mathlib.Core.Path.{_≡_}
-use Prim.Native.Nat.{ℕ, _+_, _-_, _^_, _<_, _%_}
-use mathlib.Core.Bool.{Bool, true, false, not, _&&_, cond}
+use Prim.Native.Nat.{ℕ, _-_, _^_, _%_}
+use mathlib.Core.Bool.{Bool, false, not, _&&_, cond}
 use lib.Dec.{eqb, ltb}
 use Rattle.totals_spec.specs.Format as spec
 use Rattle.totals_spec.specs.Settings as env
-use Rattle.totals_spec.specs.Decode.{Unpacked, zeroOf, finite, infinity, nan, topField, ones, decode, isSubnormal, signBit, fieldOf, fractionOf}
+use Rattle.totals_spec.specs.Decode.{Unpacked, zeroOf, infinity, nan, topField, ones, fieldOf, fractionOf}
 use Rattle.totals_spec.specs.Nan as nans
 use Rattle.binary.specs.declared.nan.Nan.{Nan}
 
@@ -23,13 +22,6 @@ nanPattern spec.finiteOnly f s x m = false
 -- an exponent field that is neither 0 nor all ones: a normal number in every kind
 abbrev pub isPlain : spec.Format → ℕ → Bool
 isPlain f b = not (eqb (fieldOf f b) 0) && not (topField f (fieldOf f b))
-
--- what that says of an encoding
-abbrev pub Plain : Bool → spec.Format → ℕ → Type 0
-Plain true f b =
-    (decode f b ≡ finite (signBit f b) (fieldOf f b - 1) (2 ^ spec.fractionBits f + fractionOf f b)) × (isSubnormal f b ≡ false) × (0 < fieldOf f b)
-    × (isPlain f b ≡ true)
-Plain false f b = isPlain f b ≡ false
 
 -- all bits but the sign are 0
 abbrev pub isBlank : spec.Format → ℕ → Bool

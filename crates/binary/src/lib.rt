@@ -20,7 +20,7 @@ ghost use Rattle.totals_spec.specs.Decode as dec;
 ghost use Rattle.totals_spec.specs.Encode as enc;
 ghost use Rattle.format.specs.Joined.{formatOf, settingsOf, unpackedOf};
 ghost use Rattle.format.specs.Fits.{Encodes};
-ghost use Rattle.binary.specs.Joined.{topOf, nanPattern, isBlank, Plain};
+ghost use Rattle.binary.specs.Joined.{topOf, nanPattern, isBlank, isPlain};
 
 // The sign bit.
 pub fn sign_of(f: Format, b: u64) -> bool
@@ -133,7 +133,7 @@ pub fn decode(f: Format, b: u64) -> Unpacked
 // wraps to the greatest word.
 pub fn is_plain(f: Format, b: u64) -> bool
     requires { ⌜ FormatBounds (formatOf f) ⌝ }
-    ensures { λ r. ⌜ Plain r (formatOf f) b ⌝ }
+    ensures { λ r. ⌜ r ≡ isPlain (formatOf f) b ⌝ }
 {
     std::num::wrapping_sub_u64(field_of(f, b), 1) < field_max(f) - 1
 }

@@ -20,11 +20,12 @@ use Rattle.totals_spec.specs.Chain.{residue, half, lookAt, lostEnd, lostOf, cut
 use Rattle.totals_spec.proofs.Window.{residue-zero, residue-plus, residue-minus, residue-cancel}
 use Rattle.totals_spec.proofs.Walk.{total-append, greatest-append, picked-append}
 use Rattle.arithmetic.specs.declared.Term.{Term}
-use Rattle.binary.specs.Joined.{Plain}
+use Rattle.binary.specs.Joined.{isPlain}
+use Rattle.binary.proofs.Plain.{plainly}
 use Rattle.window.specs.declared.Part.{Part}
 use Rattle.window.specs.declared.Pass.{Pass}
-use Rattle.arithmetic.specs.Joined.{magnitude, StandsFor, plainNumber, plainProduct, BothPlain}
-use Rattle.arithmetic.proofs.Elements.{plainly, plain-item}
+use Rattle.arithmetic.specs.Joined.{magnitude, StandsFor, plainNumber, plainProduct, bothPlain}
+use Rattle.arithmetic.proofs.Elements.{plain-item}
 use Rattle.arithmetic.proofs.Pairs.{both-plainly, plain-pair}
 use Rattle.window.specs.Joined.{PartAt, Passed}
 use Rattle.window.proofs.Numbers.{window}
@@ -141,13 +142,13 @@ passed ts w v lost q h e =
 
 -- ---- an element, or a pair, that is plainly normal
 
-pub plain-stands : (f : spec.Format) (c : env.Settings) (u : env.Summand) (x : ℕ) (b : Bool) (t : Term) → b ≡ true → Plain b f x
+pub plain-stands : (f : spec.Format) (c : env.Settings) (u : env.Summand) (x : ℕ) (t : Term) → isPlain f x ≡ true
     → StandsFor t (terms.itemOf u (plainNumber f x)) → StandsFor t (terms.item f c u x)
-plain-stands f c u x b t e h s = subst (λ (i : terms.Item). StandsFor t i) (plain-item f c u x (plainly b f x e h)) s
+plain-stands f c u x t e s = subst (λ (i : terms.Item). StandsFor t i) (plain-item f c u x (plainly f x e)) s
 
-pub pair-stands : (f : spec.Format) (c : env.Settings) (x y : ℕ) (b : Bool) (t : Term) → b ≡ true → BothPlain b f x y
+pub pair-stands : (f : spec.Format) (c : env.Settings) (x y : ℕ) (t : Term) → bothPlain f x y ≡ true
     → StandsFor t (terms.term (plainProduct f x y)) → StandsFor t (terms.pairItem f c (x, y))
-pair-stands f c x y b t e h s = subst (λ (i : terms.Item). StandsFor t i) (plain-pair f c x y (both-plainly b f x y e h)) s
+pair-stands f c x y t e s = subst (λ (i : terms.Item). StandsFor t i) (plain-pair f c x y (both-plainly f x y e)) s
 
 -- ---- a pass over a list of items: after i of them, and one turn
 

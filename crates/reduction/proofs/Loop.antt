@@ -1,6 +1,5 @@
 -- What the loop of passes may count on, for the terms of an accepted list, of words or of bytes.
 use mathlib.Core.Path.{_≡_, sym, ap, _∙_, subst}
-use mathlib.Core.Bool.{false}
 use mathlib.Core.List.{List, [], _∷_, map}
 use Prim.Native.Nat.{ℕ, _-_, _≤_, _<_}
 use native.Mathlib.Nat.{le-trans, lt-of-le-of-lt, not-suc-le-zero, zero-lt-suc}
@@ -22,7 +21,7 @@ use Rattle.window.specs.declared.Chain.{Chain}
 use Rattle.window.specs.declared.Step.{Step}
 use Rattle.window.specs.declared.Outcome.{Outcome}
 use Rattle.window.specs.declared.Verdict.the-variants.{Done, Next}
-use Rattle.window.specs.Joined.{Passed, Ready, Steps}
+use Rattle.window.specs.Joined.{Passed, Ready, Steps, started}
 use Rattle.window.proofs.Walked.{Walked, Lower, walked-start, walked-ready, walked-next, walked-done}
 use Rattle.reduction.specs.Held.{Sums}
 use Rattle.totals_spec.proofs.Tops.{topProduct, sum-top, dot-top}
@@ -77,8 +76,10 @@ pub loop-start : {p : ℕ} {ts : List Term} → Base p ts → 702 ≤ topOf ts
 loop-start {ts} b = first-edge ts (b .good) (b .some)
 
 module _ {p : ℕ} {ts : List Term} (b : Base p ts) where
-  pub loop-holds-at : (c : Chain) {top : ℕ} → top ≡ topOf ts → (c .near ≡ false) × (c .passes ≡ 0) × (c .edge ≡ top - 702) → Walked p ts c
-  loop-holds-at c e h = walked-start p ts (b .digits-le) (b .good) (b .few) (b .small) (b .some) c (h .0) (h .1) (h .2 ∙ ap (λ (n : ℕ). n - 702) e)
+  pub loop-holds-at : (c : Chain) {top : ℕ} → top ≡ topOf ts → c ≡ started top → Walked p ts c
+  loop-holds-at c e h =
+      walked-start p ts (b .digits-le) (b .good) (b .few) (b .small) (b .some) c (ap (λ (k : Chain). k .near) h) (ap (λ (k : Chain). k .passes) h)
+      (ap (λ (k : Chain). k .edge) h ∙ ap (λ (n : ℕ). n - 702) e)
 
   module _ (c : Chain) (q : Pass) (h : Walked p ts c) (g : Passed ts (c .edge) q) where
     pub loop-ready : (p ≤ 64) × Ready c (q .lost)

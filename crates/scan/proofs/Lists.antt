@@ -13,13 +13,14 @@ use Rattle.totals_spec.specs.Decode as dec
 use Rattle.totals_spec.specs.Nan as nans
 use Rattle.totals_spec.specs.Terms as terms
 use Rattle.totals_spec.specs.Totals as totals
+use Rattle.totals_spec.specs.Bounds.{FormatBounds}
 use Rattle.totals_spec.proofs.Good.{AllGood, good-terms, good-pairs}
 use Rattle.totals_spec.proofs.Tops.{top-high}
 use Rattle.totals_spec.proofs.Order.{item-nan, pair-nan}
 use Rattle.binary.specs.Joined.{nanOf}
-use Rattle.arithmetic.specs.Joined.{itemOf, PlainField, PlainFields, fieldTop, fieldsTop}
-use Rattle.arithmetic.proofs.Elements.{field-none, field-max, fields-max}
-use Rattle.arithmetic.proofs.Pairs.{pairs-at}
+use Rattle.arithmetic.specs.Joined.{itemOf, plainField, plainFields, fieldTop, fieldsTop}
+use Rattle.arithmetic.proofs.Elements.{field-none, field-max, fields-max, plain-field}
+use Rattle.arithmetic.proofs.Pairs.{pairs-at, plain-fields}
 use Rattle.scan.specs.declared.Scan.{Scan}
 use Rattle.scan.specs.Joined.{topOfItem, taken, seen, ifNan, Reads, Takes, TakesPair}
 use Rattle.scan.proofs.Choice.{if-left, if-right, if-signaling, none-signaling, decoded-encodes, operand-held}
@@ -96,9 +97,9 @@ module _ (f : spec.Format) (c : env.Settings) (u : env.Summand) where
       over-taken f c list l b s r (t .nan) (e ∙ ap (taken (itemOf (terms.item f c u b))) (k .rest)) (k .nan) apart
 
   -- what `plain_field` says
-  pub list-plainly : (b n : ℕ) → 0 < n → PlainField n f b → Plainly f c list b n
-  list-plainly b n z h =
-      let a = h z u c in
+  pub list-plainly : (b n : ℕ) → FormatBounds f → n ≡ plainField f b → 0 < n → Plainly f c list b n
+  list-plainly b n h e z =
+      let a = plain-field f b n h e z u c in
       record { subnormal = a .0; signaling = none-signaling (dec.decode f b) (a .1); nan = or-false (dec.isNan (dec.decode f b)) ∙ a .1; item = a .2 }
 
 -- ---- the pairs of a dot
@@ -137,9 +138,9 @@ module _ (f : spec.Format) (c : env.Settings) where
       (e ∙ ap (taken (itemOf (terms.pairItem f c (x, y)))) (twice-rest _ _ _ _ _ s t q a b)) (twice-nan _ _ _ _ _ s t q a b) apart
 
   -- what `plain_fields` says
-  pub pair-plainly : (x y n : ℕ) → 0 < n → PlainFields n f x y → Plainly f c dot (x, y) n
-  pair-plainly x y n z h =
-      let a = h z c in
+  pub pair-plainly : (x y n : ℕ) → FormatBounds f → n ≡ plainFields f x y → 0 < n → Plainly f c dot (x, y) n
+  pair-plainly x y n h e z =
+      let a = plain-fields f x y n h e z c in
       record {
         subnormal = ap₂ _||_ (a .0) (a .1);
         signaling = ap₂ _||_ (none-signaling (dec.decode f x) (a .2)) (none-signaling (dec.decode f y) (a .3));

@@ -5,6 +5,7 @@ use mathlib.Core.List.{List}
 use Prim.Native.Nat.{ℕ, suc, _+_, _-_, _*_, _/_, _^_, _≤_, _<_}
 use lib.Dec.{ltb, eqb}
 use lib.Ieee.{size}
+use lib.ListN.{replicate}
 use Rattle.limbs.specs.Value.{value, term}
 use Rattle.totals_spec.specs.Basics as words
 use Rattle.totals_spec.specs.Terms as terms
@@ -40,6 +41,10 @@ pub record PartAt (w : ℕ) (t : Term) (r : Part) : Type 0 where
 pub record Passed (ts : List terms.Term) (w : ℕ) (q : Pass) : Type 0 where
   pub total : value (q .total) ≡ chain.residue chain.half (chain.lookAt ts w .plus) (chain.lookAt ts w .minus)
   pub lost : q .lost ≡ chain.lookAt ts w .lost
+
+-- the chain before its first pass
+abbrev pub started : ℕ → Chain
+started top = record { near = false; negative = false; passes = 0; edge = top - 702; place = 0; whole = replicate 12 0 }
 
 abbrev pub signedOf : Signed → words.Signed
 signedOf s = record { neg = s .negative; mag = value (s .magnitude) }

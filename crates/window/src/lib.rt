@@ -8,11 +8,11 @@ use limbs_window::Order;
 ghost use mathlib.Core.Path.{_≡_};
 ghost use mathlib.Core.Bool.{true, false};
 ghost use Prim.Native.Nat.{ℕ, _+_, _-_, _*_, _/_, _%_, _^_, _<_, _≤_};
-ghost use Rattle.limbs.specs.Value.{value, bitLength, term};
+ghost use Rattle.limbs.specs.Value.{value, bitLength};
 ghost use Rattle.totals_spec.specs.Basics.{flag};
 ghost use Rattle.totals_spec.specs.Chain as spec;
 ghost use Rattle.arithmetic.specs.Joined.{magnitude};
-ghost use Rattle.window.specs.Joined.{PartAt, boundOf, sidedOf, exactOf, signedOf, nearBy, counted, Ready, Ends, Sides, Goes, Bounds, Follows, Steps, Roundable, Leaves};
+ghost use Rattle.window.specs.Joined.{PartAt, started, boundOf, sidedOf, exactOf, signedOf, nearBy, counted, Ready, Ends, Sides, Goes, Bounds, Follows, Steps, Roundable, Leaves};
 
 // The part of a term at or above an edge, to be added `up` bits above it, whether there is some, and the lost bit plus one.
 pub struct Part {
@@ -134,7 +134,7 @@ pub struct Step {
 // fills the 768 bits from top - 702 up.
 pub fn start(top: u64) -> Chain
     requires { ⌜ 702 ≤ top ⌝ }
-    ensures { λ r. ⌜ (r .near ≡ false) × (r .passes ≡ 0) × (r .edge ≡ top - 702) ⌝ }
+    ensures { λ r. ⌜ r ≡ started top ⌝ }
 {
     Chain {
         near: false,

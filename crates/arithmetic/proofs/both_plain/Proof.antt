@@ -1,17 +1,14 @@
 -- `arithmetic::both_plain` meets its contract.
-use Rattle.format.specs.Joined.{formatOf}
-use Rattle.arithmetic.proofs.Elements.{plainly}
-use Rattle.arithmetic.proofs.Pairs.{both-of}
+use mathlib.Core.Path.{sym, _∙_}
 use borrow.Author.Needs.{needs}
 use Rattle.arithmetic.proofs.both_plain.Statement.{statement}
 use Rattle.arithmetic.proofs.both_plain.Tie as tie
 
 returns : tie.Need-returns
-returns c =
-    let p = c .before .before in
-    let a = p .before .args in
-    both-of (c .is-plain2 .result) (formatOf (a .f)) (a .x) (a .y)
-    (plainly (p .is-plain .result) (formatOf (a .f)) (a .x) (c .before .if1 .taken) (p .is-plain .ensures)) (c .is-plain2 .ensures)
+returns c = rw (sym (c .before .before .is-plain .ensures) ∙ c .before .if1 .taken) (c .is-plain2 .ensures)
+
+returns-2 : tie.Need-returns-2
+returns-2 c = rw (sym (c .before .is-plain .ensures) ∙ c .if1 .left)
 
 pub both-plain-spec : {M : Type 1} → statement M
-both-plain-spec = tie.close (tie.spec (λ c κs. search needs) (λ c κs. search needs) returns (λ c. search needs))
+both-plain-spec = tie.close (tie.spec (λ c κs. search needs) (λ c κs. search needs) returns returns-2)

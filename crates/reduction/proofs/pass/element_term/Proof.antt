@@ -1,7 +1,8 @@
 -- `reduction::pass::element_term` meets its contract.
+use mathlib.Core.Path.{sym, _∙_}
 use borrow.Author.Needs.{needs}
 use Rattle.totals_spec.specs.Settings.{summandOf}
-use Rattle.arithmetic.proofs.Elements.{plainly}
+use Rattle.binary.proofs.Plain.{plainly}
 use Rattle.format.specs.Joined.{formatOf, settingsOf}
 use Rattle.reduction.proofs.Gather.{plain-stands}
 use Rattle.reduction.proofs.pass.element_term.Statement.{statement}
@@ -10,14 +11,14 @@ use Rattle.reduction.proofs.pass.element_term.Tie as tie
 plain-term-requires : tie.Need-plain-term-requires
 plain-term-requires c κs =
     let s = c .before .before in
-    (s .pre, plainly (c .before .is-plain .result) (formatOf (s .args .f)) (s .args .x) (c .if1 .taken) (c .before .is-plain .ensures) .2)
+    (s .pre, plainly (formatOf (s .args .f)) (s .args .x) (sym (c .before .is-plain .ensures) ∙ c .if1 .taken) .some)
 
 returns : tie.Need-returns
 returns c =
     let p = c .before .before in
     let a = p .before .args in
     let t = c .plain-term .ensures in
-    (plain-stands (formatOf (a .f)) (settingsOf (a .c)) (summandOf (a .u)) (a .x) _ _ (c .before .if1 .taken) (p .is-plain .ensures) (t .0), t .1)
+    (plain-stands (formatOf (a .f)) (settingsOf (a .c)) (summandOf (a .u)) (a .x) _ (sym (p .is-plain .ensures) ∙ c .before .if1 .taken) (t .0), t .1)
 
 pub element-term-spec : {M : Type 1} → statement M
 element-term-spec =

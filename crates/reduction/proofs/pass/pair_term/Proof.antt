@@ -19,13 +19,16 @@ abbrev second : tie.Start → dec.Unpacked
 second s = dec.operand (formatOf (s .args .f)) (settingsOf (s .args .c)) (s .args .y)
 
 plain-product-requires : tie.Need-plain-product-requires
-plain-product-requires c κs = let h = both-plainly _ _ _ _ (c .if1 .taken) (c .before .both-plain .ensures) in (c .before .before .pre, (h .0 .2, h .1 .2))
+plain-product-requires c κs =
+    let s = c .before .before in
+    let h = both-plainly (formatOf (s .args .f)) (s .args .x) (s .args .y) (sym (c .before .both-plain .ensures) ∙ c .if1 .taken) in
+    (s .pre, (h .0 .some, h .1 .some))
 
 returns : tie.Need-returns
 returns c =
     let k = c .before .before in
     let a = k .before .args in
-    pair-stands (formatOf (a .f)) (settingsOf (a .c)) (a .x) (a .y) _ _ (c .before .if1 .taken) (k .both-plain .ensures) (c .plain-product .ensures)
+    pair-stands (formatOf (a .f)) (settingsOf (a .c)) (a .x) (a .y) _ (sym (k .both-plain .ensures) ∙ c .before .if1 .taken) (c .plain-product .ensures)
 
 abbrev entry : tie.After-is-blank → tie.Start
 entry b = b .before .before .before

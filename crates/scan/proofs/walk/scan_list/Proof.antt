@@ -10,6 +10,7 @@ use Rattle.totals_spec.specs.Format.{Format}
 use Rattle.totals_spec.specs.Settings.{Settings, Summand, summandOf}
 use Rattle.format.specs.Joined.{formatOf, settingsOf}
 use Rattle.arithmetic.specs.Joined.{fieldTop}
+use Rattle.arithmetic.proofs.Elements.{plain-field-small}
 use Rattle.values.specs.Sources.{elements}
 use Rattle.values.proofs.Sources.{elements-length}
 use Rattle.scan.specs.Joined.{raised, Scanned}
@@ -67,7 +68,7 @@ turn t = record { inside = rw (long (entry (head t))) (inside t .if1 .taken); he
 
 plainly : (t : Known) → 0 < t .plain-field .result → let e = entry (head t) in
     Plainly (form e) (env e) (by e) (t .before .element .result) (t .plain-field .result)
-plainly t z = let e = entry (head t) in list-plainly (form e) (env e) (u e) _ _ z (t .plain-field .ensures .1)
+plainly t z = let e = entry (head t) in list-plainly (form e) (env e) (u e) _ _ (e .pre .0) (t .plain-field .ensures) z
 
 loop-holds : tie.Need-loop-holds Inv-loop μ-loop
 loop-holds c =
@@ -82,7 +83,9 @@ loop-again c =
 loop-again-2 : tie.Need-loop-again-2 Inv-loop μ-loop
 loop-again-2 c =
     let t = c .before .before in
-    (add-one-le (inside t .if1 .taken), t .plain-field .ensures .0, walk-plain (turn t) _ _ (plainly t (omega arith)) (omega arith))
+    let e = entry (head t) in
+    let small = plain-field-small (form e) _ _ (e .pre .0) (t .plain-field .ensures) in
+    (add-one-le (inside t .if1 .taken), small, walk-plain (turn t) _ _ (plainly t (omega arith)) (omega arith))
 
 loop-again-3 : tie.Need-loop-again-3 Inv-loop μ-loop
 loop-again-3 c =

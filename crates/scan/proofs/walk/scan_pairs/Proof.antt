@@ -12,6 +12,7 @@ use Rattle.totals_spec.specs.Totals.{pairs}
 use Rattle.totals_spec.proofs.Order.{pairs-length}
 use Rattle.format.specs.Joined.{formatOf, settingsOf}
 use Rattle.arithmetic.specs.Joined.{fieldsTop}
+use Rattle.arithmetic.proofs.Pairs.{plain-fields-small}
 use Rattle.values.specs.Sources.{elements}
 use Rattle.values.proofs.Sources.{elements-length}
 use Rattle.scan.specs.Joined.{raised, ScannedPairs}
@@ -88,7 +89,7 @@ turn t =
     }
 
 plainly : (t : Known) → 0 < t .plain-fields .result → let e = entry (head t) in Plainly (form e) (env e) (by e) (pair t) (t .plain-fields .result)
-plainly t z = let e = entry (head t) in pair-plainly (form e) (env e) _ _ _ z (t .plain-fields .ensures .1)
+plainly t z = let e = entry (head t) in pair-plainly (form e) (env e) _ _ _ (e .pre .0) (t .plain-fields .ensures) z
 
 loop-holds : tie.Need-loop-holds Inv-loop μ-loop
 loop-holds c =
@@ -104,7 +105,9 @@ loop-again c =
 loop-again-2 : tie.Need-loop-again-2 Inv-loop μ-loop
 loop-again-2 c =
     let t = c .before .before in
-    (add-one-le (inside t .if1 .taken), t .plain-fields .ensures .0, walk-plain (turn t) _ (t .plain-fields .result) (plainly t (omega arith)) (omega arith))
+    let e = entry (head t) in
+    let small = plain-fields-small (form e) _ _ _ (e .pre .0) (t .plain-fields .ensures) in
+    (add-one-le (inside t .if1 .taken), small, walk-plain (turn t) _ (t .plain-fields .result) (plainly t (omega arith)) (omega arith))
 
 loop-again-3 : tie.Need-loop-again-3 Inv-loop μ-loop
 loop-again-3 c =
