@@ -11,10 +11,10 @@ use Rattle.totals_spec.specs.Format.{Format}
 use Rattle.totals_spec.specs.Settings.{Settings, Summand, value, magnitude, square, summandOf}
 use Rattle.totals_spec.specs.Decode.{Unpacked, zeroOf, finite, infinity, nan, decode, operand, isSubnormal, signBit}
 use Rattle.totals_spec.specs.Terms.{Item, nanItem, invalidItem, infinite, zeroItem, term, Term, item, itemOf, pairItem, pairOf, isNanItem, isInvalid}
-use Rattle.totals_spec.specs.Terms.{isInfinite, isZero, terms}
-use Rattle.totals_spec.specs.Totals.{towardsNegative, zeroSign, finiteTotal, withoutNan, accepted, isSquare, sumRefusal, sumTerms, sumAccepted}
+use Rattle.totals_spec.specs.Terms.{isInfinite, terms}
+use Rattle.totals_spec.specs.Totals.{finiteTotal, withoutNan, accepted, isSquare, sumRefusal, sumTerms, sumAccepted}
 use Rattle.totals_spec.specs.Totals.{sumAnswer, dotRefusal, pairs, dotTerms, dotAccepted, dotAnswer}
-use Rattle.totals_spec.specs.Promises.{isNumber, AllFinite, Sum-exact, Dot-exact}
+use Rattle.totals_spec.specs.Promises.{isNumber, AllFinite, zeroFor, Sum-exact, Dot-exact}
 use Rattle.totals_spec.proofs.Order.{dot-lengths}
 
 -- ---- zeros and terms
@@ -38,10 +38,6 @@ none-of t z g (invalidItem ∷ l) h = absurd (h .0)
 none-of t z g (infinite s ∷ l) h = absurd (h .0)
 none-of t z g (zeroItem s ∷ l) h = ap₂ _||_ (z s) (none-of t z g l (h .1))
 none-of t z g (term x ∷ l) h = ap₂ _||_ (g x) (none-of t z g l (h .1))
-
--- a zero's sign, where there are only zeros
-abbrev pub zeroFor : Settings → List Item → Bool
-zeroFor c l = zeroSign (any (isZero false) l) (any (isZero true) l) (towardsNegative c)
 
 some-term : (ts : List Term) → 0 < length ts → any (λ t. true) ts ≡ true
 some-term [] h = absurd (not-suc-le-zero h)

@@ -38,6 +38,7 @@ pub mod ByChain
 pub mod Finite
 pub mod Sides
 pub mod Alone
+pub mod Zeros
 pub mod Fields
 -- The promises: what `specs/Promises.antt` states. Read this one first.
 pub mod Promises

@@ -11,6 +11,7 @@ use Rattle.totals_spec.specs.Promises.{Dot-refused, Sum-place, Dot-place
 use Rattle.totals_spec.specs.Promises.{Dot-side, Sum-no-side, Dot-no-side, Sum-by-chain, Dot-by-chain, Sum-order, Dot-order, Sum-entry-order}
 use Rattle.totals_spec.specs.Promises.{Dot-entry-order, Sum-limit, Dot-limit, Binary64-sum-limit, Binary64-square-limit, Binary64-dot-limit, Sum-ends}
 use Rattle.totals_spec.specs.Promises.{Dot-ends, Sum-edges, Dot-edges, Low-bit, Sides-agree}
+use Rattle.totals_spec.specs.Promises.{Sum-zeros, Dot-zeros}
 use Rattle.totals_spec.proofs.Bits.{low-divides, low-set}
 use Rattle.totals_spec.proofs.Good.{good-terms, good-pairs}
 use Rattle.totals_spec.proofs.Valid.{digits-le}
@@ -20,6 +21,7 @@ use Rattle.totals_spec.specs.Careers as tests
 use Rattle.totals_spec.proofs.Careers as careers
 use Rattle.totals_spec.proofs.Refused as refusals
 use Rattle.totals_spec.proofs.Finite as finite
+use Rattle.totals_spec.proofs.Zeros as zeros
 use Rattle.totals_spec.proofs.Sides as sides
 use Rattle.totals_spec.proofs.ByChain as chains
 use Rattle.totals_spec.proofs.Order as order
@@ -79,6 +81,14 @@ sum-exact = finite.sum-exact
 
 pub dot-exact : Dot-exact
 dot-exact = finite.dot-exact
+
+-- ==== promise 2: a list without a term (Zeros)
+
+pub sum-zeros : Sum-zeros
+sum-zeros = zeros.sum-zeros
+
+pub dot-zeros : Dot-zeros
+dot-zeros = zeros.dot-zeros
 
 -- ==== document 02, A.4: the side (Sides)
 

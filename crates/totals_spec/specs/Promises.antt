@@ -3,17 +3,19 @@
 use mathlib.Core.Path.{_≡_}
 use mathlib.Core.Logic.{_≢_}
 use mathlib.Core.Bool.{Bool, true, false, _||_}
-use mathlib.Core.List.{List, [], _∷_}
+use mathlib.Core.List.{List, [], _∷_, map}
 use Prim.Native.Nat.{ℕ, _+_, _-_, _/_, _%_, _^_, _≤_, _<_, max}
 use lib.ListN.{length, replicate}
+use lib.IntN.{pos}
 use lib.Dec.{T, eqb}
-use Rattle.totals_spec.specs.Basics.{any}
+use Rattle.totals_spec.specs.Basics.{any, flag}
 use Rattle.totals_spec.specs.Format.{Format, validFormat, digits, grid}
 use Rattle.totals_spec.specs.Settings.{Settings, summandOf}
 use Rattle.totals_spec.specs.Decode.{Unpacked, zeroOf, finite, infinity, nan, decode, isSubnormal}
-use Rattle.totals_spec.specs.Terms.{Term, exactSum, topOf}
+use Rattle.totals_spec.specs.Encode.{encode}
+use Rattle.totals_spec.specs.Terms.{Item, Term, item, pairItem, isZero, exactSum, topOf}
 use Rattle.totals_spec.specs.Chain.{Outcome, zeroSum, exactly, nearly, beside, unfinished, lookAt, chain}
-use Rattle.totals_spec.specs.Totals.{refused, sumRounded, reported, towardsNegative, finiteTotal, isSquare, pairs}
+use Rattle.totals_spec.specs.Totals.{Answer, refused, sumRounded, reported, towardsNegative, zeroSign, finiteTotal, isSquare, pairs}
 use Rattle.totals_spec.specs.Totals.{sumRefusal, sumTerms, sumAnswer, dotRefusal, dotTerms, dotAnswer}
 use Rattle.totals_spec.specs.Bytes.{valuesIn, uneven, sumEntry, dotEntry}
 use Rattle.totals_spec.specs.Rearranged.{AsOften, samePair, holdsNan}
@@ -115,6 +117,31 @@ Dot-exact = (f : Format) (c : Settings) (xs ys : List ℕ) → dotRefusal f c xs
     ≡ reported f (any (isSubnormal f) xs || any (isSubnormal f) ys) true (exactSum (dotTerms f c xs ys))
     (sumRounded f c (grid f true) (towardsNegative c) (exactSum (dotTerms f c xs ys)))
     (chain (digits f) (dotTerms f c xs ys))
+
+-- the sign of the zero of a list without a term: zeros of one sign keep it; of both signs it is +, and − only toward negative; no zero at all gives +
+abbrev pub zeroFor : Settings → List Item → Bool
+zeroFor c l = zeroSign (any (isZero false) l) (any (isZero true) l) (towardsNegative c)
+
+-- a zero, of sign − where `minus` says so, and flag 128 where `sub` does; all else is 0
+abbrev pub zeroAnswer : Format → (sub minus : Bool) → Answer
+zeroAnswer f sub minus = record {
+  result = encode f (zeroOf minus);
+  flags = flag 128 sub;
+  passes = 0;
+  lastEdge = pos 0;
+  refusal = 0;
+  place = 0;
+  side = 0;
+}
+
+-- of finite values without a term (none at all, zeros, subnormals that denormals-are-zero has made zeros) the record is that of a zero
+abbrev pub Sum-zeros : Type 0
+Sum-zeros = (f : Format) (c : Settings) (u : ℕ) (l : List ℕ) → sumRefusal f c u l ≡ 0 → AllFinite f l → length (sumTerms f c (summandOf u) l) ≡ 0
+    → sumAnswer f c u l ≡ zeroAnswer f (any (isSubnormal f) l) (zeroFor c (map (item f c (summandOf u)) l))
+
+abbrev pub Dot-zeros : Type 0
+Dot-zeros = (f : Format) (c : Settings) (xs ys : List ℕ) → dotRefusal f c xs ys ≡ 0 → AllFinite f xs → AllFinite f ys → length (dotTerms f c xs ys) ≡ 0
+    → dotAnswer f c xs ys ≡ zeroAnswer f (any (isSubnormal f) xs || any (isSubnormal f) ys) (zeroFor c (map (pairItem f c) (pairs xs ys)))
 
 -- the side: how the result, decoded, lies beside the exact sum of the terms
 abbrev pub Sum-side : Type 0
