@@ -2,6 +2,7 @@
 pub mod Careers
 pub mod Places
 pub mod Refused
+pub mod Exactly
 -- Facts that the theorems share.
 pub mod Bits
 pub mod Valid

@@ -11,7 +11,7 @@ use Rattle.totals_spec.specs.Promises.{Dot-refused, Sum-place, Dot-place
 use Rattle.totals_spec.specs.Promises.{Dot-side, Sum-no-side, Dot-no-side, Sum-by-chain, Dot-by-chain, Sum-order, Dot-order, Sum-entry-order}
 use Rattle.totals_spec.specs.Promises.{Dot-entry-order, Sum-limit, Dot-limit, Binary64-sum-limit, Binary64-square-limit, Binary64-dot-limit, Sum-ends}
 use Rattle.totals_spec.specs.Promises.{Dot-ends, Sum-edges, Dot-edges, Low-bit, Sides-agree}
-use Rattle.totals_spec.specs.Promises.{Sum-zeros, Dot-zeros}
+use Rattle.totals_spec.specs.Promises.{Sum-zeros, Dot-zeros, Sum-refused-exactly, Dot-refused-exactly, Entry-refused-exactly, Pence-refused-exactly}
 use Rattle.totals_spec.proofs.Bits.{low-divides, low-set}
 use Rattle.totals_spec.proofs.Good.{good-terms, good-pairs}
 use Rattle.totals_spec.proofs.Valid.{digits-le}
@@ -20,6 +20,7 @@ use Rattle.totals_spec.proofs.Edges.{edges-true}
 use Rattle.totals_spec.specs.Careers as tests
 use Rattle.totals_spec.proofs.Careers as careers
 use Rattle.totals_spec.proofs.Refused as refusals
+use Rattle.totals_spec.proofs.Exactly as exactly
 use Rattle.totals_spec.proofs.Finite as finite
 use Rattle.totals_spec.proofs.Zeros as zeros
 use Rattle.totals_spec.proofs.Sides as sides
@@ -73,6 +74,20 @@ sum-entry-refused = refusals.sum-entry-refused
 
 pub dot-entry-refused : Dot-entry-refused
 dot-entry-refused = refusals.dot-entry-refused
+
+-- ==== promise 1: each number exactly under its condition (Exactly)
+
+pub sum-refused-exactly : Sum-refused-exactly
+sum-refused-exactly = exactly.sum-refused-exactly
+
+pub dot-refused-exactly : Dot-refused-exactly
+dot-refused-exactly = exactly.dot-refused-exactly
+
+pub entry-refused-exactly : Entry-refused-exactly
+entry-refused-exactly = exactly.entry-refused-exactly
+
+pub pence-refused-exactly : Pence-refused-exactly
+pence-refused-exactly = exactly.pence-refused-exactly
 
 -- ==== promise 2: the exact sum, rounded once (Finite)
 

@@ -1,7 +1,7 @@
 -- THE PROMISES, as statements about the definitions. The file of the same name in `proofs/` proves each, under the same name in small letters.
 -- The contracts of the code say that its answers are what the definitions give.
 use mathlib.Core.Path.{_≡_}
-use mathlib.Core.Logic.{_≢_}
+use mathlib.Core.Logic.{_≢_, _↔_, _⊎_}
 use mathlib.Core.Bool.{Bool, true, false, _||_}
 use mathlib.Core.List.{List, [], _∷_, map}
 use Prim.Native.Nat.{ℕ, _+_, _-_, _/_, _%_, _^_, _≤_, _<_, max}
@@ -22,7 +22,9 @@ use Rattle.totals_spec.specs.Rearranged.{AsOften, samePair, holdsNan}
 use Rattle.totals_spec.specs.Limit.{lowBit, mostPasses}
 use Rattle.totals_spec.specs.Side.{sideOf}
 use Rattle.totals_spec.specs.Settled.{chainTotal}
+use Rattle.totals_spec.specs.Conditions.{Uneven, First, sumConditions, dotConditions, entryConditions, penceConditions}
 use Rattle.totals_spec.specs.Places.{StrayAt, DotStrayAt}
+use Rattle.totals_spec.specs.Pence.{penceAnswer}
 use Rattle.totals_spec.specs.Careers.{binary64, rounded, careers, margins, allAgree, sideExamples, refusals, entryExample}
 use Rattle.totals_spec.specs.Careers.{penceExamples, programRuns, programAgrees}
 
@@ -59,6 +61,25 @@ Sum-refusal = (f : Format) (c : Settings) (u : ℕ) (l : List ℕ) → (sumAnswe
 
 abbrev pub Dot-refusal : Type 0
 Dot-refusal = (f : Format) (c : Settings) (xs ys : List ℕ) → (dotAnswer f c xs ys) .refusal ≡ dotRefusal f c xs ys
+
+-- a call has the number n exactly where n's condition holds and none that is tried before it does: 3, 4, 6, 7 of a sum, 3 to 7 of a dot, 1 and 2
+-- before these of a byte entry (in the lowest byte of the number it returns), 3, 7, 8 of pence; and 0 exactly where none holds
+abbrev pub Sum-refused-exactly : Type 0
+Sum-refused-exactly = (f : Format) (c : Settings) (u : ℕ) (l : List ℕ) (n : ℕ) → (sumAnswer f c u l) .refusal ≡ n ↔ First (sumConditions f c u l) n
+
+abbrev pub Dot-refused-exactly : Type 0
+Dot-refused-exactly = (f : Format) (c : Settings) (xs ys : List ℕ) (n : ℕ) → (dotAnswer f c xs ys) .refusal ≡ n ↔ First (dotConditions f c xs ys) n
+
+abbrev pub Entry-refused-exactly : Type 0
+Entry-refused-exactly =
+    ((f : Format) (c : Settings) (u : ℕ) (bytes old : List ℕ) (n : ℕ)
+    → (sumEntry f c u bytes old) .code % 256 ≡ n ↔ First (entryConditions (Uneven bytes) old (sumConditions f c u (valuesIn bytes))) n)
+    × ((f : Format) (c : Settings) (left right old : List ℕ) (n : ℕ)
+    → (dotEntry f c left right old) .code % 256 ≡ n
+    ↔ First (entryConditions (Uneven left ⊎ Uneven right) old (dotConditions f c (valuesIn left) (valuesIn right))) n)
+
+abbrev pub Pence-refused-exactly : Type 0
+Pence-refused-exactly = (f : Format) (b n : ℕ) → (penceAnswer f b) .refusal ≡ n ↔ First (penceConditions f b) n
 
 -- a refused record is 0 but for number and place
 abbrev pub Sum-refused : Type 0

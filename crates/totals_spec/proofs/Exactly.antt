@@ -1,0 +1,276 @@
+-- PROMISE 1: the refusal number is that of the first condition that holds. Each test of the definitions finds its condition, and no other.
+use mathlib.Core.Path.{_≡_, refl, sym, _∙_, subst}
+use mathlib.Core.Logic.{_≢_, _↔_, _⊎_, inl, inr}
+use mathlib.Core.Bool.{Bool, true, false, not, _&&_, _||_, cond}
+use mathlib.Core.List.{List, [], _∷_}
+use Prim.Native.Nat.{ℕ, zero, suc, _+_, _*_, _%_, _^_, _<_}
+use native.Mathlib.Nat.{not-suc-le-zero, le-of-suc-le-suc}
+use native.Mathlib.Omega.{arith}
+use lib.Dec.{T, T-not, not-T, leb, ltb, eqb, leb→le, le→leb, ltb→lt, lt→ltb, nleb→lt, nltb→le, eqb→eq}
+use lib.ListN.{length, getD}
+use borrow.Author.Tests.{eq-eqb}
+use Rattle.totals_spec.specs.Basics.{any}
+use Rattle.totals_spec.specs.Bounds.{FormatBounds, SettingsBounds}
+use Rattle.totals_spec.specs.Format.{Format, validFormat, digits, depth}
+use Rattle.totals_spec.specs.Settings.{Settings, validSettings}
+use Rattle.totals_spec.specs.Decode.{Unpacked, zeroOf, finite, infinity, nan, decode}
+use Rattle.totals_spec.specs.Totals.{Answer, stray, limit, refuseIf, firstIndex, sumRefusal, sumAnswer, dotRefusal, dotAnswer}
+use Rattle.totals_spec.specs.Bytes.{Entry, valuesIn, uneven, short, entered, written, sumEntry, dotEntry}
+use Rattle.totals_spec.specs.Pence.{Pence, refusedPence, penceOf, figureOf, penceAnswer}
+use Rattle.totals_spec.specs.Conditions.{Uneven, Short, BadFormat, BadSettings, BadSummand, Unequal, TooMany, StrayBit, Stray, NoPence, Condition, First}
+use Rattle.totals_spec.specs.Conditions.{sumConditions, dotConditions, entryConditions}
+use Rattle.totals_spec.specs.Promises.{Sum-refused-exactly, Dot-refused-exactly, Entry-refused-exactly, Pence-refused-exactly}
+use Rattle.totals_spec.proofs.Bits.{T-of}
+use Rattle.totals_spec.proofs.Valid.{format-bounds, settings-bounds}
+use Rattle.totals_spec.proofs.Places.{first-stray}
+use Rattle.totals_spec.proofs.Refused.{sum-refusal, dot-refusal, sum-small, dot-small}
+
+-- ---- tests in their order, each of which finds a condition, and the number of the first that is true
+
+data Tests : List Condition → ℕ → Type 1 where
+  none : Tests [] 0
+  test : {n rest : ℕ} {P : Type 0} {l : List Condition} (b : Bool) → T b ↔ P → Tests l rest → Tests ((n, P) ∷ l) (refuseIf b n rest)
+
+first-if : (b : Bool) (n rest : ℕ) (P : Type 0) (l : List Condition) → T b ↔ P → First l rest → First ((n, P) ∷ l) (refuseIf b n rest)
+first-if true n rest P l t h = inl (t .0 tt, refl)
+first-if false n rest P l t h = inr (t .1, h)
+
+first : {l : List Condition} {n : ℕ} → Tests l n → First l n
+first none = refl
+first (test {n} {rest} {P} {l} b t h) = first-if b n rest P l t (first h)
+
+one-first : (l : List Condition) (m n : ℕ) → First l m → First l n → m ≡ n
+one-first [] m n h k = h ∙ sym k
+one-first (c ∷ l) m n (inl h) (inl k) = h .1 ∙ sym (k .1)
+one-first (c ∷ l) m n (inl h) (inr k) = absurd (k .0 (h .0))
+one-first (c ∷ l) m n (inr h) (inl k) = absurd (h .0 (k .0))
+one-first (c ∷ l) m n (inr h) (inr k) = one-first l m n (h .1) (k .1)
+
+exactly : {l : List Condition} {m : ℕ} → Tests l m → (n : ℕ) → m ≡ n ↔ First l n
+exactly {l} {m} t n = ((λ e. subst (First l) e (first t)), one-first l m n (first t))
+
+-- ---- what a test finds
+
+different : (a b : ℕ) → T (not (eqb a b)) ↔ a ≢ b
+different a b = ((λ t e. T-not (eqb a b) t (T-of (eq-eqb a b e))), λ h. not-T (eqb a b) (λ t. h (eqb→eq a b t)))
+
+either : (a b : Bool) {A B : Type 0} → T a ↔ A → T b ↔ B → T (a || b) ↔ A ⊎ B
+either true b h k = ((λ t. inl (h .0 tt)), λ p. tt)
+either false b {A} {B} h k = ((λ t. inr (k .0 t)), right)
+  where
+    right : A ⊎ B → T b
+    right (inl p) = absurd (h .1 p)
+    right (inr p) = k .1 p
+
+-- a conjunction fails where one of its parts does
+part-fails : (a b : Bool) {P : Type 0} → (T (not a) → P) → (T (not b) → P) → T (not (a && b)) → P
+part-fails true b h k t = k t
+part-fails false b h k t = h tt
+
+not-both : (a b : Bool) {A B : Type 0} → T (not a) ↔ A → T (not b) ↔ B → T (not (a && b)) ↔ A ⊎ B
+not-both a b {A} {B} h k = (part-fails a b (λ t. inl (h .0 t)) (λ t. inr (k .0 t)), back a b (h .1) (k .1))
+  where
+    back : (a b : Bool) → (A → T (not a)) → (B → T (not b)) → A ⊎ B → T (not (a && b))
+    back true b x y (inl p) = absurd (x p)
+    back true b x y (inr p) = y p
+    back false b x y p = tt
+
+-- ---- 1 and 2
+
+uneven-found : (bytes : List ℕ) → T (uneven bytes) ↔ Uneven bytes
+uneven-found bytes = different (length bytes % 8) 0
+
+short-found : (old : List ℕ) → T (short old) ↔ Short old
+short-found old = ((λ t. omega (arith, ltb→lt (length old) 24 t)), λ h. lt→ltb (length old) 24 (omega (arith, h)))
+
+-- ---- 3 and 4
+
+format-fails : (f : Format) → T (not (validFormat f)) ↔ BadFormat f
+unfolding validFormat
+format-fails f = (forth, λ p. not-T (validFormat f) (λ t. back p (format-bounds f t)))
+  where
+    forth : T (not (validFormat f)) → BadFormat f
+    forth =
+        let k = leb (f .kind) 3 in
+        let a = leb 2 (f .E) in
+        let b = leb (f .E) 28 in
+        let c = leb (f .E + 2) (f .W) in
+        let d = leb (f .W) 64 in
+        part-fails (k && a && b && c) d
+        (part-fails (k && a && b) c
+        (part-fails (k && a) b
+        (part-fails k a
+        (λ t. inl (omega (arith, nleb→lt (f .kind) 3 t)))
+        (λ t. inr (inl (omega (arith, nleb→lt 2 (f .E) t)))))
+        (λ t. inr (inr (inl (omega (arith, nleb→lt (f .E) 28 t))))))
+        (λ t. inr (inr (inr (inl (omega (arith, nleb→lt (f .E + 2) (f .W) t)))))))
+        (λ t. inr (inr (inr (inr (omega (arith, nleb→lt (f .W) 64 t))))))
+
+    back : BadFormat f → FormatBounds f → ⊥
+    back (inl h) b = omega (arith, h, b .kind-le)
+    back (inr (inl h)) b = omega (arith, h, b .e-ge)
+    back (inr (inr (inl h))) b = omega (arith, h, b .e-le)
+    back (inr (inr (inr (inl h)))) b = omega (arith, h, b .w-ge)
+    back (inr (inr (inr (inr h)))) b = omega (arith, h, b .w-le)
+
+settings-fail : (f : Format) (c : Settings) → T (not (validSettings f c)) ↔ BadSettings f c
+unfolding validSettings
+settings-fail f c = (forth, λ p. not-T (validSettings f c) (λ t. back p (settings-bounds f c t)))
+  where
+    forth : T (not (validSettings f c)) → BadSettings f c
+    forth =
+        let r = leb (c .rounding) 7 in
+        let i = leb (c .tininess) 1 in
+        let n = leb (c .nanPropagation) 3 in
+        let d = leb (c .defaultNanSign) 1 in
+        let z = leb (c .flushToZero) 1 in
+        let s = leb (c .denormalsAreZero) 1 in
+        let o = leb (c .saturate) 1 in
+        let q = leb (c .precision) (digits f) in
+        part-fails (r && i && n && d && z && s && o) q
+        (part-fails (r && i && n && d && z && s) o
+        (part-fails (r && i && n && d && z) s
+        (part-fails (r && i && n && d) z
+        (part-fails (r && i && n) d
+        (part-fails (r && i) n
+        (part-fails r i
+        (λ t. inl (omega (arith, nleb→lt (c .rounding) 7 t)))
+        (λ t. inr (inl (omega (arith, nleb→lt (c .tininess) 1 t)))))
+        (λ t. inr (inr (inl (omega (arith, nleb→lt (c .nanPropagation) 3 t))))))
+        (λ t. inr (inr (inr (inl (omega (arith, nleb→lt (c .defaultNanSign) 1 t)))))))
+        (λ t. inr (inr (inr (inr (inl (omega (arith, nleb→lt (c .flushToZero) 1 t))))))))
+        (λ t. inr (inr (inr (inr (inr (inl (omega (arith, nleb→lt (c .denormalsAreZero) 1 t)))))))))
+        (λ t. inr (inr (inr (inr (inr (inr (inl (omega (arith, nleb→lt (c .saturate) 1 t))))))))))
+        (λ t. inr (inr (inr (inr (inr (inr (inr (omega (arith, nleb→lt (c .precision) (digits f) t)))))))))
+
+    back : BadSettings f c → SettingsBounds f c → ⊥
+    back (inl h) b = omega (arith, h, b .rounding-le)
+    back (inr (inl h)) b = omega (arith, h, b .tininess-le)
+    back (inr (inr (inl h))) b = omega (arith, h, b .propagation-le)
+    back (inr (inr (inr (inl h)))) b = omega (arith, h, b .sign-le)
+    back (inr (inr (inr (inr (inl h))))) b = omega (arith, h, b .flush-le)
+    back (inr (inr (inr (inr (inr (inl h)))))) b = omega (arith, h, b .denormals-le)
+    back (inr (inr (inr (inr (inr (inr (inl h))))))) b = omega (arith, h, b .saturate-le)
+    back (inr (inr (inr (inr (inr (inr (inr h))))))) b = omega (arith, h, b .precision-le)
+
+summand-fails : (u : ℕ) → T (not (leb u 2)) ↔ BadSummand u
+summand-fails u = ((λ t. omega (arith, nleb→lt u 2 t)), λ h. not-T (leb u 2) (λ t. omega (arith, h, leb→le u 2 t)))
+
+-- ---- 5 and 6
+
+unequal-found : (xs ys : List ℕ) → T (not (eqb (length xs) (length ys))) ↔ Unequal xs ys
+unequal-found xs ys = ((λ t. omega (arith, different (length xs) (length ys) .0 t)), λ h. different (length xs) (length ys) .1 (omega (arith, h)))
+
+many-found : (l : List ℕ) → T (ltb limit (length l)) ↔ TooMany l
+many-found l = ((λ t. omega (arith, ltb→lt limit (length l) t)), λ h. lt→ltb limit (length l) (omega (arith, h)))
+
+-- ---- 7
+
+any-at : (f : Format) (l : List ℕ) (i : ℕ) → i < length l → StrayBit f (getD l i 0) → T (any (stray f) l)
+any-at f [] i h s = absurd (not-suc-le-zero h)
+any-at f (x ∷ l) zero h s = or-left (stray f x) (any (stray f) l) (le→leb (2 ^ (f .W)) x s)
+  where
+    or-left : (a b : Bool) → T a → T (a || b)
+    or-left true b t = tt
+    or-left false b t = absurd t
+any-at f (x ∷ l) (suc i) h s = or-right (stray f x) (any (stray f) l) (any-at f l i (le-of-suc-le-suc h) s)
+  where
+    or-right : (a b : Bool) → T b → T (a || b)
+    or-right true b t = tt
+    or-right false b t = t
+
+stray-found : (f : Format) (l : List ℕ) → T (any (stray f) l) ↔ Stray f l
+stray-found f l = (forth, λ s. any-at f l (s .0) (s .1) (s .2))
+  where
+    forth : T (any (stray f) l) → Stray f l
+    forth t = let s = first-stray f l t in (firstIndex (stray f) l, s .inside, leb→le _ _ (s .set))
+
+-- ---- sums and dots
+
+sum-tests : (f : Format) (c : Settings) (u : ℕ) (l : List ℕ) → Tests (sumConditions f c u l) (sumRefusal f c u l)
+unfolding sumRefusal
+sum-tests f c u l =
+    test (not (validFormat f)) (format-fails f)
+    (test (not (validSettings f c && leb u 2)) (not-both (validSettings f c) (leb u 2) (settings-fail f c) (summand-fails u))
+    (test (ltb limit (length l)) (many-found l)
+    (test (any (stray f) l) (stray-found f l) none)))
+
+dot-tests : (f : Format) (c : Settings) (xs ys : List ℕ) → Tests (dotConditions f c xs ys) (dotRefusal f c xs ys)
+unfolding dotRefusal
+dot-tests f c xs ys =
+    test (not (validFormat f)) (format-fails f)
+    (test (not (validSettings f c)) (settings-fail f c)
+    (test (not (eqb (length xs) (length ys))) (unequal-found xs ys)
+    (test (ltb limit (length xs)) (many-found xs)
+    (test (any (stray f) xs || any (stray f) ys) (either (any (stray f) xs) (any (stray f) ys) (stray-found f xs) (stray-found f ys)) none))))
+
+pub sum-refused-exactly : Sum-refused-exactly
+sum-refused-exactly f c u l n = rw (sum-refusal f c u l) (exactly (sum-tests f c u l) n)
+
+pub dot-refused-exactly : Dot-refused-exactly
+dot-refused-exactly f c xs ys n = rw (dot-refusal f c xs ys) (exactly (dot-tests f c xs ys) n)
+
+-- ---- byte entries: the lowest byte of the number returned
+
+entry-number : (a b : Bool) (r : Answer) (old : List ℕ) → r .refusal < 256
+    → (cond {A = Entry} a (record { code = 1; buffer = old }) (cond b (record { code = 2; buffer = old }) (entered r old))) .code % 256
+    ≡ refuseIf a 1 (refuseIf b 2 (r .refusal))
+unfolding entered
+entry-number true b r old h = refl
+entry-number false true r old h = refl
+entry-number false false r old h = go (eqb (r .refusal) 0) (eqb→eq (r .refusal) 0)
+  where
+    go : (t : Bool) → (T t → r .refusal ≡ 0)
+        → (cond {A = Entry} t (record { code = 0; buffer = written r old }) (record { code = r .refusal + 256 * r .place; buffer = old })) .code % 256
+        ≡ r .refusal
+    go true e = sym (e tt)
+    go false e = omega (arith, h)
+
+entry-tests : {A : Type 0} {l : List Condition} {m : ℕ} (a : Bool) (old : List ℕ) → T a ↔ A → Tests l m
+    → Tests (entryConditions A old l) (refuseIf a 1 (refuseIf (short old) 2 m))
+entry-tests a old t h = test a t (test (short old) (short-found old) h)
+
+pub entry-refused-exactly : Entry-refused-exactly
+unfolding sumEntry dotEntry
+entry-refused-exactly = (
+  λ f c u bytes old n.
+      let l = valuesIn bytes in
+      rw (entry-number (uneven bytes) (short old) (sumAnswer f c u l) old (sum-small f c u l .number), sum-refusal f c u l)
+      (exactly (entry-tests (uneven bytes) old (uneven-found bytes) (sum-tests f c u l)) n),
+  λ f c left right old n.
+      let xs = valuesIn left in
+      let ys = valuesIn right in
+      rw (entry-number (uneven left || uneven right) (short old) (dotAnswer f c xs ys) old (dot-small f c xs ys .number), dot-refusal f c xs ys)
+      (exactly (entry-tests (uneven left || uneven right) old
+      (either (uneven left) (uneven right) (uneven-found left) (uneven-found right)) (dot-tests f c xs ys)) n),
+)
+
+-- ---- pence
+
+pence-number : (a : Bool) (n : ℕ) (r : Pence) → (cond a (refusedPence n) r) .refusal ≡ refuseIf a n (r .refusal)
+pence-number true n r = refl
+pence-number false n r = refl
+
+range-number : (a : Bool) (n : ℕ) (r : Pence) → (cond a r (refusedPence n)) .refusal ≡ refuseIf (not a) n (r .refusal)
+range-number true n r = refl
+range-number false n r = refl
+
+figure-tests : (d : ℕ) (v : Unpacked) → Tests ((8, NoPence d v) ∷ []) ((figureOf d v) .refusal)
+figure-tests d (zeroOf s) = test false ((λ t. t), λ t. t) none
+figure-tests d (finite s k m) = rw (range-number (ltb (penceOf d k m) (2 ^ 63)) 8 _) (test (not (ltb (penceOf d k m) (2 ^ 63))) (forth, back) none)
+  where
+    forth : T (not (ltb (penceOf d k m) (2 ^ 63))) → NoPence d (finite s k m)
+    forth t = omega (arith, nltb→le (penceOf d k m) (2 ^ 63) t)
+
+    back : NoPence d (finite s k m) → T (not (ltb (penceOf d k m) (2 ^ 63)))
+    back h = not-T (ltb (penceOf d k m) (2 ^ 63)) (λ t. omega (arith, h, ltb→lt (penceOf d k m) (2 ^ 63) t))
+figure-tests d (infinity s) = test true ((λ t. t), λ t. t) none
+figure-tests d (nan s g m) = test true ((λ t. t), λ t. t) none
+
+pub pence-refused-exactly : Pence-refused-exactly
+unfolding penceAnswer
+pence-refused-exactly f b n =
+    rw (pence-number (not (validFormat f)) 3 _, pence-number (stray f b) 7 _)
+    (exactly (test (not (validFormat f)) (format-fails f)
+    (test (stray f b) (leb→le (2 ^ (f .W)) b, le→leb (2 ^ (f .W)) b)
+    (figure-tests (depth f) (decode f b)))) n)

@@ -1,0 +1,107 @@
+-- The conditions of the refusals (document 01, "What a caller receives"), as statements about numbers, and the first of them that holds. The
+-- definitions of the answers work with tests, which find just these (`Promises.antt`).
+use mathlib.Core.Path.{_≡_}
+use mathlib.Core.Logic.{_≢_, _⊎_}
+use mathlib.Core.List.{List, [], _∷_}
+use Prim.Native.Nat.{ℕ, _+_, _%_, _^_, _≤_, _<_}
+use lib.ListN.{length, getD}
+use Rattle.totals_spec.specs.Format.{Format, digits, depth}
+use Rattle.totals_spec.specs.Settings.{Settings}
+use Rattle.totals_spec.specs.Decode.{Unpacked, zeroOf, finite, infinity, nan, decode}
+use Rattle.totals_spec.specs.Totals.{limit}
+use Rattle.totals_spec.specs.Pence.{penceOf}
+
+-- ---- 1 and 2: a length in bytes that is no multiple of 8, an answer buffer under 24 bytes
+
+abbrev pub Uneven : List ℕ → Type 0
+Uneven bytes = length bytes % 8 ≢ 0
+
+abbrev pub Short : List ℕ → Type 0
+Short old = length old < 24
+
+-- ---- 3: a kind above 3, E outside 2..28, W outside E + 2..64
+
+abbrev pub BadFormat : Format → Type 0
+BadFormat f =
+    (3 < f .kind)
+    ⊎ (f .E < 2)
+    ⊎ (28 < f .E)
+    ⊎ (f .W < f .E + 2)
+    ⊎ (64 < f .W)
+
+-- ---- 4: a setting outside its range, or a summand above 2
+
+abbrev pub BadSettings : Format → Settings → Type 0
+BadSettings f c =
+    (7 < c .rounding)
+    ⊎ (1 < c .tininess)
+    ⊎ (3 < c .nanPropagation)
+    ⊎ (1 < c .defaultNanSign)
+    ⊎ (1 < c .flushToZero)
+    ⊎ (1 < c .denormalsAreZero)
+    ⊎ (1 < c .saturate)
+    ⊎ (digits f < c .precision)
+
+abbrev pub BadSummand : ℕ → Type 0
+BadSummand u = 2 < u
+
+-- ---- 5 and 6: two lists of different lengths, more elements than the limit
+
+abbrev pub Unequal : List ℕ → List ℕ → Type 0
+Unequal xs ys = length xs ≢ length ys
+
+abbrev pub TooMany : List ℕ → Type 0
+TooMany l = limit < length l
+
+-- ---- 7: a set bit at position W or above, of a number and of some element of a list
+
+abbrev pub StrayBit : Format → ℕ → Type 0
+StrayBit f b = 2 ^ (f .W) ≤ b
+
+abbrev pub Stray : Format → List ℕ → Type 0
+Stray f l = (i : ℕ) × (i < length l) × StrayBit f (getD l i 0)
+
+-- ---- 8: a NaN, an infinity, or a pence figure beyond 2^63 − 1
+
+abbrev pub NoPence : ℕ → Unpacked → Type 0
+NoPence d (zeroOf s) = ⊥
+NoPence d (finite s k m) = 2 ^ 63 ≤ penceOf d k m
+NoPence d (infinity s) = Unit {0}
+NoPence d (nan s g m) = Unit {0}
+
+-- ---- the first that holds
+
+-- a number and its condition
+abbrev pub Condition : Type 1
+Condition = ℕ × Type 0
+
+-- n is the number of the first condition in the list that holds, and 0 where none does
+abbrev pub First : List Condition → ℕ → Type 0
+First [] n = n ≡ 0
+First (c ∷ l) n = (c .1 × (n ≡ c .0)) ⊎ ((¬ c .1) × First l n)
+
+-- ---- the conditions of a call, in the order in which they are tried
+
+abbrev pub sumConditions : Format → Settings → ℕ → List ℕ → List Condition
+sumConditions f c u l =
+    (3, BadFormat f)
+    ∷ (4, BadSettings f c ⊎ BadSummand u)
+    ∷ (6, TooMany l)
+    ∷ (7, Stray f l)
+    ∷ []
+
+abbrev pub dotConditions : Format → Settings → List ℕ → List ℕ → List Condition
+dotConditions f c xs ys =
+    (3, BadFormat f)
+    ∷ (4, BadSettings f c)
+    ∷ (5, Unequal xs ys)
+    ∷ (6, TooMany xs)
+    ∷ (7, Stray f xs ⊎ Stray f ys)
+    ∷ []
+
+-- a byte entry's own conditions, and then those of the values in its bytes
+abbrev pub entryConditions : Type 0 → List ℕ → List Condition → List Condition
+entryConditions uneven old values = (1, uneven) ∷ (2, Short old) ∷ values
+
+abbrev pub penceConditions : Format → ℕ → List Condition
+penceConditions f b = (3, BadFormat f) ∷ (7, StrayBit f b) ∷ (8, NoPence (depth f) (decode f b)) ∷ []
