@@ -1,86 +1,18 @@
--- What is decoded can be encoded, and so can the choice among NaNs.
-use mathlib.Core.Path.{_≡_, ap}
-use mathlib.Core.Bool.{Bool, true, false, _&&_, cond}
-use Prim.Native.Nat.{ℕ, zero, suc, _-_, _/_, _%_, _^_, _≤_, _<_}
-use native.Mathlib.Nat.{mod-lt, pow-suc}
-use native.Mathlib.Omega.{arith}
-use lib.Dec.{eqb, ltb}
-use lib.Pow.{pow-pos, pow-mono}
-use Rattle.totals_spec.specs.Bounds.{FormatBounds}
-use Rattle.totals_spec.specs.Format.{Format, Kind, ieee, noInf, fnuz, finiteOnly, kindOf, fractionBits, digits}
+-- The NaN that the rule selects can be encoded.
+use Rattle.totals_spec.specs.Format.{Format}
 use Rattle.totals_spec.specs.Settings.{Settings, Propagation, signalingFirst, firstOperand, largerSignificand, defaultNan, propagationOf}
-use Rattle.totals_spec.specs.Decode.{Unpacked, zeroOf, finite, infinity, nan, number, topField, ones, decodeFields, decode, signBit, fieldOf, fractionOf}
-use Rattle.totals_spec.specs.Nan.{staysNan, choose, quiet, defaultNanOf}
+use Rattle.totals_spec.specs.Decode.{Unpacked}
+use Rattle.totals_spec.proofs.Encodable.{quiet-encodes, default-encodes}
 use Rattle.format.specs.Fits.{Encodes}
 use Rattle.binary.specs.Joined.{selectedBy, selectedOf}
+pub use Rattle.totals_spec.proofs.Encodable.{decode-encodes, choose-encodes}
 
-module _ (f : Format) where
-  encodes-cond : (b : Bool) (x y : Unpacked) → Encodes f x → Encodes f y → Encodes f (cond b x y)
-  encodes-cond true x y h k = h
-  encodes-cond false x y h k = k
-
-  module _ (b : FormatBounds f) where
-    encodes-number : (s : Bool) (x m : ℕ) → x < 2 ^ (f .E) → m < 2 ^ fractionBits f → Encodes f (number (fractionBits f) s x m)
-    encodes-number s x m hx hm = go x m hx hm
-      where
-        whole : 2 ^ digits f ≡ 2 ^ suc (fractionBits f)
-        whole = ap (λ (n : ℕ). 2 ^ n) (omega (arith, b .w-ge))
-
-        four : 2 ^ 2 ≤ 2 ^ f .E
-        four = pow-mono (b .e-ge)
-
-        go : (x m : ℕ) → x < 2 ^ (f .E) → m < 2 ^ fractionBits f → Encodes f (number (fractionBits f) s x m)
-        go zero zero hx hm = tt
-        go zero (suc m) hx hm = (omega (arith, four), omega (arith, whole, pow-suc 2 (fractionBits f)))
-        go (suc x) m hx hm = (omega arith, omega (arith, whole, pow-suc 2 (fractionBits f)))
-
-    encodes-fields : (k : Kind) (s : Bool) (x m : ℕ) → x < 2 ^ (f .E) → m < 2 ^ fractionBits f → Encodes f (decodeFields k f s x m)
-    encodes-fields ieee s x m hx hm =
-        encodes-cond (topField f x)
-        (cond (eqb m 0) (infinity s) (nan s (ltb m (2 ^ (fractionBits f - 1))) (m % 2 ^ (fractionBits f - 1))))
-        (number (fractionBits f) s x m)
-        (encodes-cond (eqb m 0) (infinity s) (nan s (ltb m (2 ^ (fractionBits f - 1))) (m % 2 ^ (fractionBits f - 1))) tt
-        (mod-lt m (pow-pos (fractionBits f - 1))))
-        (encodes-number s x m hx hm)
-    encodes-fields noInf s x m hx hm =
-        encodes-cond (topField f x && ones f m) (nan s false 0) (number (fractionBits f) s x m) (pow-pos (fractionBits f - 1)) (encodes-number s x m hx hm)
-    encodes-fields fnuz s x m hx hm =
-        encodes-cond (s && eqb x 0 && eqb m 0) (nan s false 0) (number (fractionBits f) s x m) (pow-pos (fractionBits f - 1)) (encodes-number s x m hx hm)
-    encodes-fields finiteOnly s x m hx hm = encodes-number s x m hx hm
-
-    pub decode-encodes : (n : ℕ) → Encodes f (decode f n)
-    unfolding decode
-    decode-encodes n =
-        encodes-fields (kindOf (f .kind)) (signBit f n) (fieldOf f n) (fractionOf f n) (mod-lt (n / 2 ^ fractionBits f) (pow-pos (f .E)))
-        (mod-lt n (pow-pos (fractionBits f)))
-
-  -- ---- the choice among NaNs
-
-  pub choose-encodes : (r : Propagation) (x y : Unpacked) → Encodes f x → Encodes f y → Encodes f (choose r x y)
-  choose-encodes r (nan s g m) (nan t h n) a b = encodes-cond (staysNan r s g m t h n) (nan s g m) (nan t h n) a b
-  choose-encodes r (nan s g m) (zeroOf t) a b = a
-  choose-encodes r (nan s g m) (finite t k n) a b = a
-  choose-encodes r (nan s g m) (infinity t) a b = a
-  choose-encodes r (zeroOf s) y a b = b
-  choose-encodes r (finite s k m) y a b = b
-  choose-encodes r (infinity s) y a b = b
-
-  pub quiet-encodes : (x : Unpacked) → Encodes f x → Encodes f (quiet x)
-  quiet-encodes (nan s g m) h = h
-  quiet-encodes (zeroOf s) h = h
-  quiet-encodes (finite s k m) h = h
-  quiet-encodes (infinity s) h = h
-
-  pub default-encodes : (c : Settings) → Encodes f (defaultNanOf c)
-  unfolding defaultNanOf
-  default-encodes c = pow-pos (fractionBits f - 1)
-
-  pub selected-encodes : (c : Settings) (v : Unpacked) → Encodes f v → Encodes f (selectedOf c v)
-  unfolding selectedOf
-  selected-encodes c v h = go (propagationOf (c .nanPropagation))
-    where
-      go : (r : Propagation) → Encodes f (selectedBy r c v)
-      go signalingFirst = quiet-encodes v h
-      go firstOperand = quiet-encodes v h
-      go largerSignificand = quiet-encodes v h
-      go defaultNan = default-encodes c
+pub selected-encodes : (f : Format) (c : Settings) (v : Unpacked) → Encodes f v → Encodes f (selectedOf c v)
+unfolding selectedOf
+selected-encodes f c v h = go (propagationOf (c .nanPropagation))
+  where
+    go : (r : Propagation) → Encodes f (selectedBy r c v)
+    go signalingFirst = quiet-encodes f v h
+    go firstOperand = quiet-encodes f v h
+    go largerSignificand = quiet-encodes f v h
+    go defaultNan = default-encodes f c

@@ -1,10 +1,2 @@
--- What can be encoded: a value whose fields fit the format's.
-use Prim.Native.Nat.{_+_, _-_, _^_, _<_}
-use Rattle.totals_spec.specs.Format as spec
-use Rattle.totals_spec.specs.Decode.{Unpacked, zeroOf, finite, infinity, nan}
-
-abbrev pub Encodes : spec.Format → Unpacked → Type 0
-Encodes f (zeroOf s) = Unit
-Encodes f (finite s k m) = (k + 1 < 2 ^ (f .E)) × (m < 2 ^ spec.digits f)
-Encodes f (infinity s) = Unit
-Encodes f (nan s g m) = m < 2 ^ (spec.fractionBits f - 1)
+-- What can be encoded.
+pub use Rattle.totals_spec.specs.Fits.{Encodes}

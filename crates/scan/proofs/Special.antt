@@ -2,10 +2,8 @@
 use mathlib.Core.Path.{_≡_, refl, sym, ap, _∙_, subst}
 use mathlib.Core.Bool.{Bool, true, false, not, _&&_, _||_, cond}
 use mathlib.Core.List.{List, [], _∷_}
-use Prim.Native.Nat.{_-_}
 use native.Mathlib.Nat.{pos-of-ne-zero}
 use lib.Dec.{T}
-use lib.Pow.{pow-pos}
 use Rattle.totals_spec.specs.Basics.{any}
 use Rattle.totals_spec.specs.Format as spec
 use Rattle.totals_spec.specs.Settings as env
@@ -14,6 +12,7 @@ use Rattle.totals_spec.specs.Nan as nans
 use Rattle.totals_spec.specs.Terms as terms
 use Rattle.totals_spec.specs.Totals as totals
 use Rattle.totals_spec.specs.Alone.{hasNan, Alone}
+use Rattle.totals_spec.proofs.Encodable.{quiet-encodes, default-encodes}
 use Rattle.totals_spec.proofs.Alone.{nan-found, invalid-found, infinity-found, infinity-nan}
 use Rattle.format.specs.Joined.{unpackedOf}
 use Rattle.format.specs.declared.unpacked.Unpacked.{Unpacked}
@@ -39,21 +38,11 @@ and-left true b e = refl
 and-left false b e = e
 
 module _ (f : spec.Format) where
-  quiet-encodes : (v : dec.Unpacked) → Encodes f v → Encodes f (nans.quiet v)
-  quiet-encodes (dec.zeroOf s) h = h
-  quiet-encodes (dec.finite s k m) h = h
-  quiet-encodes (dec.infinity s) h = h
-  quiet-encodes (dec.nan s g m) h = h
-
-  default-encodes : (c : env.Settings) → Encodes f (nans.defaultNanOf c)
-  unfolding nans.defaultNanOf
-  default-encodes c = pow-pos (spec.fractionBits f - 1)
-
   selected-encodes : (r : env.Propagation) (c : env.Settings) (v : dec.Unpacked) → Encodes f v → Encodes f (selectedBy r c v)
-  selected-encodes env.signalingFirst c v h = quiet-encodes v h
-  selected-encodes env.firstOperand c v h = quiet-encodes v h
-  selected-encodes env.largerSignificand c v h = quiet-encodes v h
-  selected-encodes env.defaultNan c v h = default-encodes c
+  selected-encodes env.signalingFirst c v h = quiet-encodes f v h
+  selected-encodes env.firstOperand c v h = quiet-encodes f v h
+  selected-encodes env.largerSignificand c v h = quiet-encodes f v h
+  selected-encodes env.defaultNan c v h = default-encodes f c
 
 some-term : (ts : List terms.Term) → (terms.topOf ts ≡ 0 → ⊥) → any (λ t. true) ts ≡ true
 unfolding terms.topOf

@@ -40,6 +40,7 @@ pub mod Finite
 pub mod Sides
 pub mod Alone
 pub mod Zeros
+pub mod Encodable
 pub mod Fields
 -- The promises: what `specs/Promises.antt` states. Read this one first.
 pub mod Promises
