@@ -65,6 +65,14 @@ module _ (f : Format) (b : RangeBounds f) (s : Bool) (x m : ℕ) (hx : x < 2 ^ (
   unfolding decode
   fields-back = λ i. decodeFields (kindOf (f .kind)) f (sign-back i) (field-back i) (fraction-back i)
 
+  -- they have W bits
+  pub fields-fit : assembled f s x m < 2 ^ (f .W)
+  fields-fit = omega (arith, body, one-sign s, sign-le s, pow-next (f .W) (omega (arith, b .w-ge)))
+    where
+      sign-le : (t : Bool) → flag (2 ^ (f .W - 1)) t ≤ 2 ^ (f .W - 1)
+      sign-le true = omega arith
+      sign-le false = omega arith
+
 -- ---- numbers m × 2^k of at most p digits that the format holds
 
 pub record Storable (f : Format) (k m : ℕ) : Type 0 where
@@ -159,6 +167,14 @@ module _ (f : Format) (b : RangeBounds f) where
   topped s x true = refl
   topped s x false = refl
 
+  -- a payload below the quiet bit
+  pub quiet-fits : (g : Bool) (m : ℕ) → m < 2 ^ (fractionBits f - 1) → flag (2 ^ (fractionBits f - 1)) (not g) + m < 2 ^ fractionBits f
+  quiet-fits g m small = omega (arith, bit (not g), small, pow-next (fractionBits f) (omega (arith, b .w-ge)))
+    where
+      bit : (t : Bool) → flag (2 ^ (fractionBits f - 1)) t ≤ 2 ^ (fractionBits f - 1)
+      bit true = omega arith
+      bit false = omega arith
+
   pub back-nan : (s g : Bool) (m : ℕ) → T (hasNan (kindOf (f .kind))) → m < 2 ^ (fractionBits f - 1) → isNumber (decode f (encode f (nan s g m))) ≡ false
   unfolding encode
   back-nan s g m h small = go (kindOf (f .kind)) refl h
@@ -169,17 +185,10 @@ module _ (f : Format) (b : RangeBounds f) where
       is-top : eqb (2 ^ (f .E) - 1) (2 ^ (f .E) - 1) ≡ true
       is-top = eq-eqb (2 ^ (f .E) - 1) (2 ^ (f .E) - 1) refl
 
-      quieted : (t : Bool) → flag (2 ^ (fractionBits f - 1)) t ≤ 2 ^ (fractionBits f - 1)
-      quieted true = omega arith
-      quieted false = omega arith
-
-      fits : flag (2 ^ (fractionBits f - 1)) (not g) + m < 2 ^ fractionBits f
-      fits = omega (arith, quieted (not g), small, pow-next (fractionBits f) (omega (arith, b .w-ge)))
-
       go : (k : Kind) → kindOf (f .kind) ≡ k → T (hasNan k) → isNumber (decode f (nanBits k f s g m)) ≡ false
       go ieee e t =
           let x = flag (2 ^ (fractionBits f - 1)) (not g) + m in
-          ap isNumber (fields-back f b s (2 ^ (f .E) - 1) x top fits) ∙ rw (e, is-top) (topped s x (eqb x 0))
+          ap isNumber (fields-back f b s (2 ^ (f .E) - 1) x top (quiet-fits g m small)) ∙ rw (e, is-top) (topped s x (eqb x 0))
       go noInf e t =
           ap isNumber (fields-back f b s (2 ^ (f .E) - 1) (2 ^ fractionBits f - 1) top (omega (arith, pow-pos (fractionBits f))))
           ∙ rw (e, is-top, eq-eqb (2 ^ fractionBits f - 1) (2 ^ fractionBits f - 1) refl)

@@ -210,11 +210,14 @@ sum-refused-exactly f c u l n = rw (sum-refusal f c u l) (exactly (sum-tests f c
 pub dot-refused-exactly : Dot-refused-exactly
 dot-refused-exactly f c xs ys n = rw (dot-refusal f c xs ys) (exactly (dot-tests f c xs ys) n)
 
--- ---- byte entries: the lowest byte of the number returned
+-- ---- byte entries
 
-entry-number : (a b : Bool) (r : Answer) (old : List ℕ) → r .refusal < 256
-    → (cond {A = Entry} a (record { code = 1; buffer = old }) (cond b (record { code = 2; buffer = old }) (entered r old))) .code % 256
-    ≡ refuseIf a 1 (refuseIf b 2 (r .refusal))
+-- by the two tests of its own and the record
+abbrev pub tested : (a b : Bool) → Answer → List ℕ → Entry
+tested a b r old = cond a (record { code = 1; buffer = old }) (cond b (record { code = 2; buffer = old }) (entered r old))
+
+-- the lowest byte of the number returned
+entry-number : (a b : Bool) (r : Answer) (old : List ℕ) → r .refusal < 256 → (tested a b r old) .code % 256 ≡ refuseIf a 1 (refuseIf b 2 (r .refusal))
 unfolding entered
 entry-number true b r old h = refl
 entry-number false true r old h = refl

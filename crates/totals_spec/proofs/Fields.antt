@@ -94,7 +94,7 @@ module _ (f : Format) (c : Settings) (sub products : Bool) (l : List Item) where
   unfolding reported
   by-passes x r h few = record { flags = omega (arith, flag-less 128 sub, few); side = side-less (grid f products) (decode f (encode f (r .value))) x }
 
-  accepted-fields : (infinityFirst signaling : Bool) (v : Unpacked) → Fields (accepted f c sub products infinityFirst signaling v l)
+  pub accepted-fields : (infinityFirst signaling : Bool) (v : Unpacked) → Fields (accepted f c sub products infinityFirst signaling v l)
   accepted-fields = accepted-has Fields f c sub products l without (by-passes _ _ _ (few-sum f c (grid f products) _ _))
 
 answered-fields : (n at : ℕ) (a : Answer) → Fields a → Fields (answered n at a)
@@ -116,6 +116,12 @@ dot-fields f c xs ys = answered-fields (dotRefusal f c xs ys) (dotPlace f xs ys)
 
 -- ---- n bytes of x and then k bytes of y
 
+pub next-bytes : (n x : ℕ) → x < 256 ^ suc n → x / 256 < 256 ^ n
+next-bytes n x h = div-lt-iff-lt-mul some .1 (subst (λ (z : ℕ). x < z) (pow-succ' 256 n ∙ mul-comm 256 (256 ^ n)) h)
+  where
+    some : 0 < 256
+    some = omega arith
+
 pub two-numbers : (n k x y : ℕ) → x < 256 ^ n → toBytes (n + k) (x + 256 ^ n * y) ≡ toBytes n x ++ toBytes k y
 two-numbers zero k x y h = ap₂ toBytes (zero-add k) none
   where
@@ -124,13 +130,11 @@ two-numbers zero k x y h = ap₂ toBytes (zero-add k) none
 two-numbers (suc n) k x y h =
     ap (λ (m : ℕ). toBytes m (x + 256 ^ suc n * y)) (suc-add n k)
     ∙ ap₂ _∷_ (ap (λ (z : ℕ). z % 256) split ∙ add-mul-mod-self-left x 256 (256 ^ n * y))
-    (ap (λ (z : ℕ). toBytes (n + k) (z / 256)) split ∙ ap (toBytes (n + k)) (add-mul-div-left x (256 ^ n * y) some) ∙ two-numbers n k (x / 256) y less)
+    (ap (λ (z : ℕ). toBytes (n + k) (z / 256)) split ∙ ap (toBytes (n + k)) (add-mul-div-left x (256 ^ n * y) some)
+    ∙ two-numbers n k (x / 256) y (next-bytes n x h))
   where
     some : 0 < 256
     some = omega arith
 
     split : x + 256 ^ suc n * y ≡ x + 256 * (256 ^ n * y)
     split = ap (λ (z : ℕ). x + z) (ap (λ (z : ℕ). z * y) (pow-succ' 256 n) ∙ mul-assoc 256 (256 ^ n) y)
-
-    less : x / 256 < 256 ^ n
-    less = div-lt-iff-lt-mul some .1 (subst (λ (z : ℕ). x < z) (pow-succ' 256 n ∙ mul-comm 256 (256 ^ n)) h)

@@ -143,7 +143,7 @@ module _ (f : Format) (b : RangeBounds f) (c : Settings) (g : ℕ) (s : Bool) (x
       number-back f b g q s (kept f c g q s x) (place f g q x) q0 qp (kept-few f b c g q s x q0 qp) (place-grid f b c g q s x q0 qp) below
       (λ (v w : Unpacked). sideOf g w X ≡ roundedSide v (flagsOf f c g q s x t))
       (λ e z. lean-zero z s x x0 ∙ sym (told ∙ by-beside (near f b c g q s x q0 qp) .0 (none e)))
-      (λ k m e. ap (λ (n : ℕ). leansOf (record { neg = s; mag = n }) X) e ∙ by-beside (near f b c g q s x q0 qp) .1 ∙ sym told)
+      (λ k m h e. ap (λ (n : ℕ). leansOf (record { neg = s; mag = n }) X) e ∙ by-beside (near f b c g q s x q0 qp) .1 ∙ sym told)
     where
       none : kept f c g q s x ≡ 0 → y ≡ 0
       none e = ap (λ (n : ℕ). n * 2 ^ place f g q x) e ∙ zero-mul (2 ^ place f g q x)

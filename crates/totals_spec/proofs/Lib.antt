@@ -34,6 +34,7 @@ pub mod Powers
 pub mod Stored
 pub mod Largest
 pub mod Cases
+pub mod Held
 pub mod Lean
 pub mod ByChain
 pub mod Finite
@@ -42,6 +43,8 @@ pub mod Alone
 pub mod Zeros
 pub mod Encodable
 pub mod Fields
+pub mod Fits
+pub mod ReadBack
 -- The promises: what `specs/Promises.antt` states. Read this one first.
 pub mod Promises
 -- More of a pass: how near S is to the exact sum, and that a boundary need not be taken off.

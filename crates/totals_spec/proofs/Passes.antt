@@ -34,7 +34,7 @@ special-passes : (k : ℕ) (f : Format) (sub : Bool) (v : Unpacked) (b : Bool) �
 unfolding special
 special-passes k f sub v b = zero-le
 
-accepted-passes : (f : Format) (c : Settings) (sub products : Bool) (l : List Item) → digits f ≤ 64 → AllGood (terms l)
+pub accepted-passes : (f : Format) (c : Settings) (sub products : Bool) (l : List Item) → digits f ≤ 64 → AllGood (terms l)
     → (infinityFirst signaling : Bool) (v : Unpacked) → (accepted f c sub products infinityFirst signaling v l) .passes ≤ mostPasses f (terms l)
 unfolding mostPasses reported
 accepted-passes f c sub products l hp g =

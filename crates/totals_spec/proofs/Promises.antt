@@ -12,6 +12,7 @@ use Rattle.totals_spec.specs.Promises.{Dot-side, Sum-no-side, Dot-no-sid
 use Rattle.totals_spec.specs.Promises.{Dot-entry-order, Sum-limit, Dot-limit, Binary64-sum-limit, Binary64-square-limit, Binary64-dot-limit, Sum-ends}
 use Rattle.totals_spec.specs.Promises.{Dot-ends, Sum-edges, Dot-edges, Low-bit, Sides-agree}
 use Rattle.totals_spec.specs.Promises.{Sum-zeros, Dot-zeros, Sum-refused-exactly, Dot-refused-exactly, Entry-refused-exactly, Pence-refused-exactly}
+use Rattle.totals_spec.specs.Promises.{Sum-fits, Dot-fits, Entry-read-back}
 use Rattle.totals_spec.proofs.Bits.{low-divides, low-set}
 use Rattle.totals_spec.proofs.Good.{good-terms, good-pairs}
 use Rattle.totals_spec.proofs.Valid.{digits-le}
@@ -21,6 +22,8 @@ use Rattle.totals_spec.specs.Careers as tests
 use Rattle.totals_spec.proofs.Careers as careers
 use Rattle.totals_spec.proofs.Refused as refusals
 use Rattle.totals_spec.proofs.Exactly as exactly
+use Rattle.totals_spec.proofs.Fits as fits
+use Rattle.totals_spec.proofs.ReadBack as reading
 use Rattle.totals_spec.proofs.Finite as finite
 use Rattle.totals_spec.proofs.Zeros as zeros
 use Rattle.totals_spec.proofs.Sides as sides
@@ -88,6 +91,17 @@ entry-refused-exactly = exactly.entry-refused-exactly
 
 pub pence-refused-exactly : Pence-refused-exactly
 pence-refused-exactly = exactly.pence-refused-exactly
+
+-- ==== promise 1: the answer in its places (Fits, ReadBack)
+
+pub sum-fits : Sum-fits
+sum-fits = fits.sum-fits
+
+pub dot-fits : Dot-fits
+dot-fits = fits.dot-fits
+
+pub entry-read-back : Entry-read-back
+entry-read-back = reading.entry-read-back
 
 -- ==== promise 2: the exact sum, rounded once (Finite)
 

@@ -210,14 +210,14 @@ pub number-back : (f : Format) (b : RangeBounds f) (g q : ℕ) (s : Bool) (K u :
     → overflows f q g (K * 2 ^ u) ≡ false
     → (P : (given back : Unpacked) → Type 0)
     → (K ≡ 0 → (t : Bool) → P (zeroOf s) (zeroOf t))
-    → ((k m : ℕ) → m * 2 ^ (k + g) ≡ K * 2 ^ u → P (finite s k m) (finite s k m))
+    → ((k m : ℕ) → Storable f k m → m * 2 ^ (k + g) ≡ K * 2 ^ u → P (finite s k m) (finite s k m))
     → P (numberOf f g s (K * 2 ^ u)) (decode f (encode f (numberOf f g s (K * 2 ^ u))))
 unfolding numberOf
 number-back f b g q s zero u q0 qp few hg below P at-zero at-number =
     rw (eq-eqb (0 * 2 ^ u) 0 (zero-mul (2 ^ u))) (back-zero f b (λ (v : Unpacked). P (zeroOf s) v) (at-zero refl) s)
 number-back f b g q s (suc K) u q0 qp few hg below P at-zero at-number =
-    rw (ne-eqb (suc K * 2 ^ u) 0 some, grid-kept f b g q (suc K) u q0 qp K0 few hg, back-finite f b s k m (storable f b g q (suc K) u q0 qp K0 few hg below))
-    (at-number k m (stored-is f b g q (suc K) u q0 qp K0 few hg))
+    rw (ne-eqb (suc K * 2 ^ u) 0 some, grid-kept f b g q (suc K) u q0 qp K0 few hg, back-finite f b s k m holds)
+    (at-number k m holds (stored-is f b g q (suc K) u q0 qp K0 few hg))
   where
     K0 : 0 < suc K
     K0 = omega arith
@@ -227,6 +227,9 @@ number-back f b g q s (suc K) u q0 qp few hg below P at-zero at-number =
 
     m : ℕ
     m = digits-of f b g q (suc K) u q0 qp K0 few hg
+
+    holds : Storable f k m
+    holds = storable f b g q (suc K) u q0 qp K0 few hg below
 
     pos : 1 * 2 ^ u ≤ suc K * 2 ^ u
     pos = mul-le-mul-right (2 ^ u) K0

@@ -5,7 +5,7 @@ use mathlib.Core.Logic.{_≢_, _↔_, _⊎_}
 use mathlib.Core.Bool.{Bool, true, false, _||_}
 use mathlib.Core.List.{List, [], _∷_, map}
 use Prim.Native.Nat.{ℕ, _+_, _-_, _/_, _%_, _^_, _≤_, _<_, max}
-use lib.ListN.{length, replicate}
+use lib.ListN.{length, replicate, take, drop, getD}
 use lib.IntN.{pos}
 use lib.Dec.{T, eqb}
 use Rattle.totals_spec.specs.Basics.{any, flag}
@@ -17,7 +17,7 @@ use Rattle.totals_spec.specs.Terms.{Item, Term, item, pairItem, isZero, 
 use Rattle.totals_spec.specs.Chain.{Outcome, zeroSum, exactly, nearly, beside, unfinished, lookAt, chain}
 use Rattle.totals_spec.specs.Totals.{Answer, refused, sumRounded, reported, towardsNegative, zeroSign, finiteTotal, isSquare, pairs}
 use Rattle.totals_spec.specs.Totals.{sumRefusal, sumTerms, sumAnswer, dotRefusal, dotTerms, dotAnswer}
-use Rattle.totals_spec.specs.Bytes.{valuesIn, uneven, sumEntry, dotEntry}
+use Rattle.totals_spec.specs.Bytes.{fromBytes, valuesIn, uneven, sumEntry, dotEntry}
 use Rattle.totals_spec.specs.Rearranged.{AsOften, samePair, holdsNan}
 use Rattle.totals_spec.specs.Limit.{lowBit, mostPasses}
 use Rattle.totals_spec.specs.Side.{sideOf}
@@ -107,6 +107,42 @@ Sum-entry-refused = (f : Format) (c : Settings) (u : ℕ) (bytes old : List ℕ)
 abbrev pub Dot-entry-refused : Type 0
 Dot-entry-refused = (f : Format) (c : Settings) (left right old : List ℕ) → (dotEntry f c left right old) .code ≢ 0
     → (dotEntry f c left right old) .buffer ≡ old
+
+-- ==== PROMISE 1: the answer in its places
+
+-- the result has W bits, the flags 8, the side 2 and the passes 64
+pub record FieldsFit (f : Format) (a : Answer) : Type 0 where
+  pub result : a .result < 2 ^ (f .W)
+  pub flags : a .flags < 256
+  pub side : a .side < 4
+  pub passes : a .passes < 2 ^ 64
+
+-- of every call, refused ones too
+abbrev pub Sum-fits : Type 0
+Sum-fits = (f : Format) (c : Settings) (u : ℕ) (l : List ℕ) → FieldsFit f (sumAnswer f c u l)
+
+abbrev pub Dot-fits : Type 0
+Dot-fits = (f : Format) (c : Settings) (xs ys : List ℕ) → FieldsFit f (dotAnswer f c xs ys)
+
+-- what a caller reads from the answer buffer: bytes 0 to 7 are the result and 16 to 23 the passes, little end first; byte 8 is the flags, byte 10 the
+-- side; 9 and 11 to 15 are 0; from 24 on it is as it was
+pub record ReadsBack (a : Answer) (old new : List ℕ) : Type 0 where
+  pub result : fromBytes (take 8 new) ≡ a .result
+  pub flags : getD new 8 0 ≡ a .flags
+  pub nine : getD new 9 0 ≡ 0
+  pub side : getD new 10 0 ≡ a .side
+  pub zeros : (i : ℕ) → 11 ≤ i → i ≤ 15 → getD new i 0 ≡ 0
+  pub passes : fromBytes (take 8 (drop 16 new)) ≡ a .passes
+  pub rest : drop 24 new ≡ drop 24 old
+  pub long : length new ≡ length old
+
+-- where a byte entry returns 0, the buffer afterwards holds the record of the values in its bytes
+abbrev pub Entry-read-back : Type 0
+Entry-read-back =
+    ((f : Format) (c : Settings) (u : ℕ) (bytes old : List ℕ) → (sumEntry f c u bytes old) .code ≡ 0
+    → ReadsBack (sumAnswer f c u (valuesIn bytes)) old ((sumEntry f c u bytes old) .buffer))
+    × ((f : Format) (c : Settings) (left right old : List ℕ) → (dotEntry f c left right old) .code ≡ 0
+    → ReadsBack (dotAnswer f c (valuesIn left) (valuesIn right)) old ((dotEntry f c left right old) .buffer))
 
 -- ==== PROMISE 2: the exact sum, rounded once
 
