@@ -43,6 +43,12 @@ size-pos n h = go (size n) refl
 pub size-top : (n z : ℕ) → size n ≡ suc z → 2 ^ z ≤ n
 size-top n z e = size-reaches n z (rw e (le-refl (suc z)))
 
+pub size-none : size 0 ≡ 0
+size-none = omega (arith, size-le 0 0 (omega arith))
+
+pub size-one-less : (n : ℕ) → 0 < n → 2 ^ (size n - 1) ≤ n
+size-one-less n h = size-reaches n (size n - 1) (omega (arith, size-pos n h))
+
 -- ---- the lowest set bit
 
 whole : (n : ℕ) → n / 1 * 1 ≡ n

@@ -3,6 +3,8 @@
 use mathlib.Core.Path.{sym, ap, _∙_}
 use Prim.Native.Nat.{ℕ, _%_, _^_}
 use native.Mathlib.Nat.{mul-mod-left}
+use native.Mathlib.Omega.{arith}
+use lib.Ieee.Digits.{size-lt}
 use Rattle.totals_spec.specs.Settings.{summandOf}
 use Rattle.totals_spec.specs.Totals.{pairs}
 use Rattle.totals_spec.specs.Limit.{lowBit}
@@ -12,8 +14,8 @@ use Rattle.totals_spec.specs.Promises.{Dot-side, Sum-no-side, Dot-no-sid
 use Rattle.totals_spec.specs.Promises.{Dot-entry-order, Sum-limit, Dot-limit, Binary64-sum-limit, Binary64-square-limit, Binary64-dot-limit, Sum-ends}
 use Rattle.totals_spec.specs.Promises.{Dot-ends, Sum-edges, Dot-edges, Low-bit, Sides-agree}
 use Rattle.totals_spec.specs.Promises.{Sum-zeros, Dot-zeros, Sum-refused-exactly, Dot-refused-exactly, Entry-refused-exactly, Pence-refused-exactly}
-use Rattle.totals_spec.specs.Promises.{Sum-fits, Dot-fits, Entry-read-back}
-use Rattle.totals_spec.proofs.Bits.{low-divides, low-set}
+use Rattle.totals_spec.specs.Promises.{Sum-fits, Dot-fits, Entry-read-back, Size-is-length}
+use Rattle.totals_spec.proofs.Bits.{low-divides, low-set, size-none, size-one-less}
 use Rattle.totals_spec.proofs.Good.{good-terms, good-pairs}
 use Rattle.totals_spec.proofs.Valid.{digits-le}
 use Rattle.totals_spec.proofs.Limit.{chain-ends}
@@ -190,3 +192,6 @@ dot-edges f c xs ys = edges-true _ (good-pairs f c (pairs xs ys))
 
 pub low-bit : Low-bit
 low-bit m h = (ap (λ (x : ℕ). x % 2 ^ lowBit m) (sym (low-divides m)) ∙ mul-mod-left _ (2 ^ lowBit m), low-set m h)
+
+pub size-is-length : Size-is-length
+size-is-length = ((λ m h. (omega (arith, size-one-less m h), omega (arith, size-lt m))), size-none)

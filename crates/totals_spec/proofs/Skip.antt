@@ -12,10 +12,10 @@ use lib.Dec.{T, ltb, eqb, ltb→lt, nltb→le, eqb→eq}
 use lib.ListN.{length}
 use lib.Pow.{pow-pos, pow-mono}
 use lib.Ieee.{size}
-use lib.Ieee.Digits.{size-lt, size-le}
+use lib.Ieee.Digits.{size-lt}
 use Rattle.totals_spec.specs.Basics.{Signed, difference, total, greatest}
 use borrow.Author.Tests.{lt-ltb, le-ltb, lt-leb}
-use Rattle.totals_spec.proofs.Bits.{pow-split, multiple-mod}
+use Rattle.totals_spec.proofs.Bits.{size-none, pow-split, multiple-mod}
 use Rattle.totals_spec.specs.Format.{room}
 use Rattle.totals_spec.specs.Terms.{Term, plusSum, minusSum}
 use Rattle.totals_spec.proofs.Good.{AllGood}
@@ -125,7 +125,7 @@ unfolding difference
 no-difference a c e = omega arith
 
 size-zero : (n : ℕ) → n ≡ 0 → size n ≡ 0
-size-zero n e = let h : size n ≤ 0 = size-le n 0 (subst (λ (x : ℕ). x < 2 ^ 0) (sym e) (pow-pos 0)) in omega arith
+size-zero n e = ap size e ∙ size-none
 
 -- S is 0 at the edge w, and the lost bit plus one is `lost`
 pub record Empty (ts : List Term) (b : Boundary) (w lost : ℕ) : Type 0 where

@@ -8,6 +8,7 @@ use Prim.Native.Nat.{ℕ, _+_, _-_, _/_, _%_, _^_, _≤_, _<_, max}
 use lib.ListN.{length, replicate, take, drop, getD}
 use lib.IntN.{pos}
 use lib.Dec.{T, eqb}
+use lib.Ieee.{size}
 use Rattle.totals_spec.specs.Basics.{any, flag}
 use Rattle.totals_spec.specs.Format.{Format, validFormat, digits, grid}
 use Rattle.totals_spec.specs.Settings.{Settings, summandOf}
@@ -303,3 +304,7 @@ Dot-edges = (f : Format) (c : Settings) (xs ys : List ℕ) → EdgesTrue (dotTer
 -- `lowBit` is the lowest set bit: the bits below it are 0, and it is 1
 abbrev pub Low-bit : Type 0
 Low-bit = (m : ℕ) → 0 < m → (m % 2 ^ lowBit m ≡ 0) × (m / 2 ^ lowBit m % 2 ≡ 1)
+
+-- `size` is the bit length: a number m above 0 lies from 2^(size m − 1) up to below 2^(size m), and 0 has none
+abbrev pub Size-is-length : Type 0
+Size-is-length = ((m : ℕ) → 0 < m → (2 ^ (size m - 1) ≤ m) × (m < 2 ^ size m)) × (size 0 ≡ 0)
