@@ -14,7 +14,7 @@ use Rattle.totals_spec.specs.Format.{Format, Kind, ieee, noInf, fnuz, fi
 use Rattle.totals_spec.specs.Decode.{Unpacked, zeroOf, finite, infinity, nan, signBit, fieldOf, fractionOf, number, decodeFields, decode}
 use Rattle.totals_spec.specs.Encode.{assembled, zeroBits, nanBits, encode}
 use Rattle.totals_spec.specs.Alone.{hasNan}
-use Rattle.totals_spec.specs.Promises.{isNumber}
+use Rattle.totals_spec.specs.Promises.{isNumber, keptAs}
 use Rattle.totals_spec.proofs.Powers.{pow-next}
 use Rattle.totals_spec.proofs.Range.{four-fields}
 
@@ -141,21 +141,31 @@ module _ (f : Format) (b : RangeBounds f) where
           (λ e z y. h .other e z (omega (arith, whole, y, n, pow-pos (fractionBits f))))
           ∙ ap (finite s k) r
 
-  pub back-zero : (P : Unpacked → Type 0) → ((t : Bool) → P (zeroOf t)) → (s : Bool) → P (decode f (encode f (zeroOf s)))
+  pub zero-back : (s : Bool) → decode f (encode f (zeroOf s)) ≡ keptAs (kindOf (f .kind)) (zeroOf s)
   unfolding encode
-  back-zero P h s = go (kindOf (f .kind)) refl
+  zero-back s = go (kindOf (f .kind)) refl
     where
       first : 0 ≡ 2 ^ (f .E) - 1 → ⊥
       first z = omega (arith, z, four-fields f b)
 
-      at : (t : Bool) → decodeFields (kindOf (f .kind)) f t 0 0 ≡ zeroOf t → P (decode f (assembled f t 0 0))
-      at t e = subst P (sym (fields-back f b t 0 0 (pow-pos (f .E)) (pow-pos (fractionBits f)) ∙ e)) (h t)
+      at : (t : Bool) → decode f (assembled f t 0 0) ≡ decodeFields (kindOf (f .kind)) f t 0 0
+      at t = fields-back f b t 0 0 (pow-pos (f .E)) (pow-pos (fractionBits f))
 
-      go : (k : Kind) → kindOf (f .kind) ≡ k → P (decode f (zeroBits k f s))
-      go ieee e = at s (rw (e, ne-eqb 0 (2 ^ (f .E) - 1) first))
-      go noInf e = at s (rw (e, ne-eqb 0 (2 ^ (f .E) - 1) first))
-      go fnuz e = at false (rw e)
-      go finiteOnly e = at s (rw e)
+      go : (k : Kind) → kindOf (f .kind) ≡ k → decode f (zeroBits k f s) ≡ keptAs k (zeroOf s)
+      go ieee e = at s ∙ rw (e, ne-eqb 0 (2 ^ (f .E) - 1) first)
+      go noInf e = at s ∙ rw (e, ne-eqb 0 (2 ^ (f .E) - 1) first)
+      go fnuz e = at false ∙ rw e
+      go finiteOnly e = at s ∙ rw e
+
+  -- a zero of some sign
+  pub back-zero : (P : Unpacked → Type 0) → ((t : Bool) → P (zeroOf t)) → (s : Bool) → P (decode f (encode f (zeroOf s)))
+  back-zero P h s = subst P (sym (zero-back s)) (go (kindOf (f .kind)))
+    where
+      go : (k : Kind) → P (keptAs k (zeroOf s))
+      go ieee = h s
+      go noInf = h s
+      go fnuz = h false
+      go finiteOnly = h s
 
   pub back-infinity : (s : Bool) → kindOf (f .kind) ≡ ieee → decode f (encode f (infinity s)) ≡ infinity s
   unfolding encode

@@ -11,7 +11,7 @@ use Rattle.totals_spec.specs.Bounds.{RangeBounds}
 use Rattle.totals_spec.specs.Format.{Format, Kind, ieee, noInf, fnuz, finiteOnly, kindOf, digits, fractionBits}
 use Rattle.totals_spec.specs.Settings.{Settings, roundingOf, precisionOf}
 use Rattle.totals_spec.specs.Decode.{Unpacked, zeroOf, finite, infinity, nan}
-use Rattle.totals_spec.specs.Alone.{hasInfinity, hasNan}
+use Rattle.totals_spec.specs.Alone.{hasNan}
 use Rattle.totals_spec.specs.Fits.{Encodes}
 use Rattle.totals_spec.specs.Round.{overflows, toInfinity, largest, beyond, overflow, Rounded, numberOf, roundTo, round}
 use Rattle.totals_spec.specs.Totals.{sumRounded}
@@ -23,7 +23,7 @@ use Rattle.totals_spec.proofs.Cases.{place, kept, place-grid, kept-few,
 abbrev pub Held : Format → Unpacked → Type 0
 Held f (zeroOf s) = Unit {0}
 Held f (finite s k m) = Storable f k m
-Held f (infinity s) = T (hasInfinity (kindOf (f .kind)))
+Held f (infinity s) = kindOf (f .kind) ≡ ieee
 Held f (nan s g m) = T (hasNan (kindOf (f .kind))) × (g ≡ false) × (m ≡ 0)
 
 module _ (f : Format) (b : RangeBounds f) (c : Settings) (g q : ℕ) (s : Bool) (x : ℕ) (q0 : 1 ≤ q) (qp : q ≤ digits f) where
@@ -31,7 +31,7 @@ module _ (f : Format) (b : RangeBounds f) (c : Settings) (g q : ℕ) (s : Bool) 
   most-held = subst (Held f) (sym (largest-is f b q q0 qp s)) (largest-stored f b q q0 qp)
 
   beyond-held : (k : Kind) → kindOf (f .kind) ≡ k → Held f (beyond k (largest f q s) s .value)
-  beyond-held ieee e = subst (λ (k : Kind). T (hasInfinity k)) (sym e) tt
+  beyond-held ieee e = e
   beyond-held noInf e = (subst (λ (k : Kind). T (hasNan k)) (sym e) tt, refl, refl)
   beyond-held fnuz e = (subst (λ (k : Kind). T (hasNan k)) (sym e) tt, refl, refl)
   beyond-held finiteOnly e = most-held

@@ -35,6 +35,7 @@ pub mod Stored
 pub mod Largest
 pub mod Cases
 pub mod Held
+pub mod RoundedBack
 pub mod Lean
 pub mod ByChain
 pub mod Finite

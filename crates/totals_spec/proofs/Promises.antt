@@ -14,7 +14,7 @@ use Rattle.totals_spec.specs.Promises.{Dot-side, Sum-no-side, Dot-no-sid
 use Rattle.totals_spec.specs.Promises.{Dot-entry-order, Sum-limit, Dot-limit, Binary64-sum-limit, Binary64-square-limit, Binary64-dot-limit, Sum-ends}
 use Rattle.totals_spec.specs.Promises.{Dot-ends, Sum-edges, Dot-edges, Low-bit, Sides-agree}
 use Rattle.totals_spec.specs.Promises.{Sum-zeros, Dot-zeros, Sum-refused-exactly, Dot-refused-exactly, Entry-refused-exactly, Pence-refused-exactly}
-use Rattle.totals_spec.specs.Promises.{Sum-fits, Dot-fits, Entry-read-back, Size-is-length}
+use Rattle.totals_spec.specs.Promises.{Sum-fits, Dot-fits, Entry-read-back, Size-is-length, Rounded-back}
 use Rattle.totals_spec.proofs.Bits.{low-divides, low-set, size-none, size-one-less}
 use Rattle.totals_spec.proofs.Good.{good-terms, good-pairs}
 use Rattle.totals_spec.proofs.Valid.{digits-le}
@@ -29,6 +29,7 @@ use Rattle.totals_spec.proofs.ReadBack as reading
 use Rattle.totals_spec.proofs.Finite as finite
 use Rattle.totals_spec.proofs.Zeros as zeros
 use Rattle.totals_spec.proofs.Sides as sides
+use Rattle.totals_spec.proofs.RoundedBack as back
 use Rattle.totals_spec.proofs.ByChain as chains
 use Rattle.totals_spec.proofs.Order as order
 use Rattle.totals_spec.proofs.Passes as passes
@@ -134,6 +135,11 @@ sum-no-side = sides.sum-no-side
 
 pub dot-no-side : Dot-no-side
 dot-no-side = sides.dot-no-side
+
+-- ==== promise 2: what a rounding gives, encoded and decoded again (RoundedBack)
+
+pub rounded-back : Rounded-back
+rounded-back = back.rounded-back
 
 -- ==== promise 2: what a chain ends with, rounded, is the exact sum rounded (ByChain)
 

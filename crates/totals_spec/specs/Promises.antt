@@ -10,12 +10,13 @@ use lib.IntN.{pos}
 use lib.Dec.{T, eqb}
 use lib.Ieee.{size}
 use Rattle.totals_spec.specs.Basics.{any, flag}
-use Rattle.totals_spec.specs.Format.{Format, validFormat, digits, grid}
-use Rattle.totals_spec.specs.Settings.{Settings, summandOf}
+use Rattle.totals_spec.specs.Format.{Format, Kind, ieee, noInf, fnuz, finiteOnly, kindOf, validFormat, digits, grid}
+use Rattle.totals_spec.specs.Settings.{Settings, validSettings, summandOf}
 use Rattle.totals_spec.specs.Decode.{Unpacked, zeroOf, finite, infinity, nan, decode, isSubnormal}
 use Rattle.totals_spec.specs.Encode.{encode}
 use Rattle.totals_spec.specs.Terms.{Item, Term, item, pairItem, isZero, exactSum, topOf}
 use Rattle.totals_spec.specs.Chain.{Outcome, zeroSum, exactly, nearly, beside, unfinished, lookAt, chain}
+use Rattle.totals_spec.specs.Round.{round}
 use Rattle.totals_spec.specs.Totals.{Answer, refused, sumRounded, reported, towardsNegative, zeroSign, finiteTotal, isSquare, pairs}
 use Rattle.totals_spec.specs.Totals.{sumRefusal, sumTerms, sumAnswer, dotRefusal, dotTerms, dotAnswer}
 use Rattle.totals_spec.specs.Bytes.{fromBytes, valuesIn, uneven, sumEntry, dotEntry}
@@ -218,6 +219,21 @@ Sum-no-side = (f : Format) (c : Settings) (u : ℕ) (l : List ℕ) → sumRefusa
 abbrev pub Dot-no-side : Type 0
 Dot-no-side = (f : Format) (c : Settings) (xs ys : List ℕ) → dotRefusal f c xs ys ≡ 0 → isNumber (decode f ((dotAnswer f c xs ys) .result)) ≡ false
     → (dotAnswer f c xs ys) .side ≡ 3
+
+-- a value as a format of its kind keeps it: Fnuz has one zero, which is positive, and one NaN, which is negative
+abbrev pub keptAs : Kind → Unpacked → Unpacked
+keptAs ieee v = v
+keptAs noInf v = v
+keptAs fnuz (zeroOf s) = zeroOf false
+keptAs fnuz (finite s k m) = finite s k m
+keptAs fnuz (infinity s) = infinity s
+keptAs fnuz (nan s g m) = nan true g m
+keptAs finiteOnly v = v
+
+-- what a rounding gives, encoded and decoded again, is itself, but for those two signs: wherever the grid is, of every sign and magnitude
+abbrev pub Rounded-back : Type 0
+Rounded-back = (f : Format) (c : Settings) (g : ℕ) (s : Bool) (m : ℕ) → T (validFormat f) → T (validSettings f c)
+    → decode f (encode f (round f c g s m .value)) ≡ keptAs (kindOf (f .kind)) (round f c g s m .value)
 
 -- what a chain ends with, rounded once, is the exact sum rounded once: near a tie too, for every format, setting and precision. (For every place
 -- of the grid: `products` and the sign of a zero do not matter)
