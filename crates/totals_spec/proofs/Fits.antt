@@ -119,7 +119,7 @@ answered-fit f n at a h = go (eqb n 0) (eqb→eq n 0)
   where
     go : (z : Bool) → (T z → n ≡ 0) → FieldsFit f (cond z a (refused n (cond (eqb n 7) at 0)))
     go true e = h (e tt)
-    go false e = record { result = pow-pos (f .W); flags = omega arith; side = omega arith; passes = omega arith }
+    go false e = record { result = omega (arith, pow-pos (f .W)); flags = omega arith; side = omega arith; passes = omega arith }
 
 pub sum-fits : Sum-fits
 unfolding sumAnswer

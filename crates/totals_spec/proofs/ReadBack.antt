@@ -3,7 +3,7 @@ use mathlib.Core.Path.{_≡_, refl, sym, ap, _∙_}
 use mathlib.Core.Bool.{Bool, true, false, _||_, cond}
 use mathlib.Core.List.{List, _++_}
 use Prim.Native.Nat.{ℕ, zero, suc, _+_, _-_, _*_, _/_, _^_, _≤_, _<_}
-use native.Mathlib.Nat.{lt-of-lt-of-le, suc-ne-zero}
+use native.Mathlib.Nat.{suc-ne-zero}
 use native.Mathlib.Omega.{arith}
 use lib.Dec.{eqb}
 use lib.ListN.{length, drop, getD, length-drop, List·getD-append}
@@ -90,7 +90,8 @@ entry-read-back = (
     -- a result of W bits has at most 64
     fits : (f : Format) (a : Answer) (old : List ℕ) → f .W ≤ 64 → FieldsFit f a → short old ≡ false → ReadsBack a old (written a old)
     fits f a old w h s =
-        written-back a old (lt-of-lt-of-le (h .result) (pow-mono {i = f .W} {j = 64} w)) (h .flags) (h .side) (h .passes) (ltb-false (length old) 24 s)
+        written-back a old (omega (arith, h .result, pow-mono {i = f .W} {j = 64} w)) (omega (arith, h .flags)) (omega (arith, h .side))
+        (omega (arith, h .passes)) (ltb-false (length old) 24 s)
 
     sum-back : (f : Format) (c : Settings) (u : ℕ) (l old : List ℕ) → short old ≡ false → (sumAnswer f c u l) .refusal ≡ 0
         → ReadsBack (sumAnswer f c u l) old (written (sumAnswer f c u l) old)

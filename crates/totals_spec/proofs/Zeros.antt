@@ -4,6 +4,7 @@ use mathlib.Core.Bool.{Bool, true, false}
 use mathlib.Core.List.{List, [], _∷_}
 use Prim.Native.Nat.{_+_}
 use native.Mathlib.Nat.{suc-ne-zero}
+use native.Mathlib.Omega.{arith}
 use lib.ListN.{length}
 use lib.IntN.{pos}
 use Rattle.totals_spec.specs.Basics.{flag}
@@ -44,7 +45,7 @@ no-term f c sub products minus [] b e = zero-record f sub minus b
 no-term f c sub products minus (t ∷ ts) b e = absurd (suc-ne-zero (length ts) e)
 
 pub sum-zeros : Sum-zeros
-sum-zeros f c u l r h e = sum-finite f c u l r h ∙ no-term f c _ _ _ (sumTerms f c (summandOf u) l) (sum-accepts f c u l r .format .range) e
+sum-zeros f c u l r h e = sum-finite f c u l r h ∙ no-term f c _ _ _ (sumTerms f c (summandOf u) l) (sum-accepts f c u l r .format .range) (omega (arith, e))
 
 pub dot-zeros : Dot-zeros
-dot-zeros f c xs ys r h k e = dot-finite f c xs ys r h k ∙ no-term f c _ _ _ (dotTerms f c xs ys) (dot-accepts f c xs ys r .format .range) e
+dot-zeros f c xs ys r h k e = dot-finite f c xs ys r h k ∙ no-term f c _ _ _ (dotTerms f c xs ys) (dot-accepts f c xs ys r .format .range) (omega (arith, e))
