@@ -177,7 +177,7 @@ Dot-exact = (f : Format) (c : Settings) (xs ys : List ℕ) → dotRefusal f c xs
     (sumRounded f c (grid f true) (towardsNegative c) (exactSum (dotTerms f c xs ys)))
     (chain (digits f) (dotTerms f c xs ys))
 
--- the sign of the zero of a list without a term: zeros of one sign keep it; of both signs it is +, and − only toward negative; no zero at all gives +
+-- whether the zero of a list without a term is negative: by the listed zeros and the mode
 abbrev pub zeroFor : Settings → List Item → Bool
 zeroFor c l = zeroSign (any (isZero false) l) (any (isZero true) l) (towardsNegative c)
 
@@ -258,7 +258,7 @@ Dot-order = (f : Format) (c : Settings) (xs ys xs′ ys′ : List ℕ) → lengt
     → dotRefusal f c xs ys ≡ 0 → holdsNan f xs ≡ false → holdsNan f ys ≡ false
     → (dotRefusal f c xs′ ys′ ≡ 0) × (dotAnswer f c xs ys ≡ dotAnswer f c xs′ ys′)
 
--- through a byte entry the list is the values in its bytes: the number returned and the buffer are alike
+-- a byte entry's list is what `valuesIn` reads: the number returned and the buffer are alike
 abbrev pub Sum-entry-order : Type 0
 Sum-entry-order = (f : Format) (c : Settings) (u : ℕ) (b₁ b₂ old : List ℕ) → uneven b₁ ≡ false → uneven b₂ ≡ false
     → AsOften eqb (valuesIn b₁) (valuesIn b₂) → sumRefusal f c u (valuesIn b₁) ≡ 0 → holdsNan f (valuesIn b₁) ≡ false
@@ -306,7 +306,7 @@ abbrev pub Dot-ends : Type 0
 Dot-ends = (f : Format) (c : Settings) (xs ys : List ℕ) → T (validFormat f) → Finished (chain (digits f) (dotTerms f c xs ys) .outcome)
 
 -- no edge lies below the unit from which positions are counted, so each `-` in an edge's definition is a true difference: in T − 702, and after a
--- pass that has lost something in w − 701, and in 766 below the larger of w + n and the lost bit plus 65
+-- pass that has lost something in w − 701, and in max(w + n, lost + 64) − 766
 abbrev pub EdgesTrue : List Term → Type 0
 EdgesTrue ts = (0 < length ts → 702 ≤ topOf ts)
     × ((w n : ℕ) → 0 < lookAt ts w .lost → (701 ≤ w) × (766 ≤ max (w + n) (lookAt ts w .lost + 64)))
