@@ -1,17 +1,27 @@
 -- One turn of a pass: the window and the lost bit of the first i elements, with the part of one more.
 use mathlib.Core.Path.{_≡_, refl, sym, ap, ap₂, _∙_, subst}
-use mathlib.Core.Bool.{Bool, true, false, cond}
+use mathlib.Core.Bool.{Bool, true, false, not, cond}
 use mathlib.Core.List.{List, [], _∷_, _++_}
-use Prim.Native.Nat.{ℕ, _+_, _-_, _/_, _%_, _^_, _<_, max}
+use Prim.Native.Nat.{ℕ, _+_, _-_, _/_, _%_, _^_, _<_, _≤_, max, zero-le}
 use native.Mathlib.Nat.{add-zero, zero-add, add-assoc, add-comm, mod-eq-of-lt, zero-div, max-zero}
-use native.Mathlib.Numerals.{add-one}
+use native.Mathlib.Numerals.{add-one, add-one-le}
 use native.Mathlib.Omega.{arith}
-use lib.ListN.{length, take, getD}
+use borrow.Author.Tests.{not-true}
+use lib.Dec.{ltb}
+use lib.ListN.{length, take, getD, set}
 use lib.Seq.{take-suc, take-length}
 use lib.Pow.{pow-pos}
+use denote.Shadow.{shadow}
+use denote.Struct.Declared.{row}
+use denote.Struct.Laws.{val}
+use Rattle.limbs.specs.declared.word.Sum.{Sum}
 use Rattle.limbs.specs.Value.{Words, value, moved, term}
 use Rattle.limbs.proofs.Words.{alike, value-lt}
-use Rattle.limbs_term.proofs.Stored.{past-moved}
+use Rattle.limbs.proofs.word.Sum.{the-type}
+use Rattle.limbs.proofs.word.Sum.Laws.{the-laws}
+use Rattle.limbs_term.specs.declared.Placed.{Placed}
+use Rattle.limbs_term.specs.Placed.{flip, Settles}
+use Rattle.limbs_term.proofs.Stored.{Adds, past-moved, two-stored, two-moved, three-stored, three-moved}
 use Rattle.totals_spec.specs.Basics.{total, greatest, keep}
 use Rattle.totals_spec.specs.Format as spec
 use Rattle.totals_spec.specs.Settings as env
@@ -25,7 +35,7 @@ use Rattle.binary.proofs.Plain.{plainly}
 use Rattle.window.specs.declared.Part.{Part}
 use Rattle.window.specs.declared.Pass.{Pass}
 use Rattle.arithmetic.specs.Joined.{magnitude, StandsFor, plainNumber, plainProduct, bothPlain}
-use Rattle.arithmetic.proofs.Elements.{plain-item}
+use Rattle.arithmetic.proofs.Elements.{no-magnitude, plain-item}
 use Rattle.arithmetic.proofs.Pairs.{both-plainly, plain-pair}
 use Rattle.window.specs.Joined.{PartAt, Passed}
 use Rattle.window.proofs.Numbers.{window}
@@ -150,30 +160,47 @@ pub pair-stands : (f : spec.Format) (c : env.Settings) (x y : ℕ) (t : Term) �
     → StandsFor t (terms.term (plainProduct f x y)) → StandsFor t (terms.pairItem f c (x, y))
 pair-stands f c x y t e s = subst (λ (i : terms.Item). StandsFor t i) (plain-pair f c x y (both-plainly f x y e)) s
 
--- ---- a pass over a list of items: after i of them, and one turn
+-- ---- a pass over a list of n items: after i of them
 
-pub record Running (l : List terms.Item) (w i : ℕ) (total : List ℕ) (lost : ℕ) : Type 0 where
+pub record Running (l : List terms.Item) (n w i : ℕ) (total : List ℕ) (lost : ℕ) : Type 0 where
+  pub all : length l ≡ n
+  pub within : i ≤ n
   pub words : Words 12 total
   pub held : Held (terms.terms (take i l)) w (value total) lost
 
-pub running-start : (l : List terms.Item) (w : ℕ) {total : List ℕ} → total ≡ middle → Running l w 0 total 0
-running-start l w e = record {
+pub running-start : {l : List terms.Item} {n w : ℕ} {total : List ℕ} → length l ≡ n → total ≡ middle → Running l n w 0 total 0
+running-start {w = w} a e = record {
+  all = a;
+  within = zero-le;
   words = subst (Words 12) (sym e) middle-words;
   held = subst (λ (r : List ℕ). Held [] w (value r) 0) (sym e) (held-none w);
 }
 
-pub running-end : (l : List terms.Item) (w i : ℕ) (total : List ℕ) (lost : ℕ) (q : Pass) → i ≡ length l → Running l w i total lost
+pub running-end : {l : List terms.Item} {n w i : ℕ} {total : List ℕ} {lost : ℕ} {q : Pass} → Running l n w i total lost → n ≤ i
     → (value (q .total) ≡ moved true (value total) (value middle)) × (q .lost ≡ lost) → Passed (terms.terms l) w q
-running-end l w i total lost q e h = passed (terms.terms l) w _ lost q (rw (e, take-length l) at (h .held))
+running-end {l} {w = w} {i = i} {lost = lost} {q = q} h e =
+    let whole : i ≡ length l = omega (arith, h .all) in
+    passed (terms.terms l) w _ lost q (rw (whole, take-length l) at (h .held))
 
--- t stands for the item i, p is its part at the edge, and `lost` is that of all i + 1
-pub record Turn (l : List terms.Item) (w i : ℕ) (total : List ℕ) (t : Term) (p : Part) (lost : ℕ) : Type 0 where
-  pub inside : i < length l
-  pub before : ℕ
-  pub so-far : Running l w i total before
-  pub stands : StandsFor t (getD l i terms.nanItem)
-  pub part : PartAt w t p
-  pub larger : lost ≡ max before (p .lost)
+-- ---- what a call of `add_word` gives: a `Sum`, whose word fits, and what the contract says of it
+
+abbrev Owned : Sum → Type 0
+Owned r = shadow (row the-type .own r (val the-type the-laws r ∷ []))
+
+fits : (r : Sum) → Owned r → r .word < 2 ^ 64
+fits r h = omega arith
+
+abbrev pub Added : ℕ → ℕ → ℕ → Sum → Type 0
+Added a b c r = Owned r × Adds a b c r
+
+-- ---- one turn: t stands for the item i, p is its part at the edge, and `lost` is that of all i + 1
+
+module _ {l : List terms.Item} {n w i : ℕ} {total : List ℕ} {before : ℕ} (so-far : Running l n w i total before) where
+  pub record Turn (t : Term) (p : Part) (lost : ℕ) : Type 0 where
+    pub inside : i < n
+    pub stands : StandsFor t (getD l i terms.nanItem)
+    pub part : PartAt w t p
+    pub larger : lost ≡ max before (p .lost)
 
 -- the terms of one item more
 terms-next : (l : List terms.Item) (i : ℕ) → i < length l
@@ -182,23 +209,87 @@ terms-next l i h =
     ap (λ n. terms.terms (take n l)) (add-one i) ∙ ap terms.terms (take-suc l i terms.nanItem h)
     ∙ picked-append terms.termOf (take i l) (getD l i terms.nanItem ∷ [])
 
-module _ {l : List terms.Item} {w i : ℕ} {total : List ℕ} {t : Term} {p : Part} {lost : ℕ} (k : Turn l w i total t p lost) where
+module _ {l : List terms.Item} {n w i : ℕ} {total : List ℕ} {before : ℕ} {so-far : Running l n w i total before} {t : Term} {p : Part} {lost : ℕ}
+    (k : Turn so-far t p lost) where
   abbrev part : ℕ
   part = term (p .low) (p .high) (p .up)
 
+  pub turn-less : n - (i + 1) < n - i
+  turn-less = omega (arith, k .inside)
+
   -- with the part moved into the window
-  pub turn-moved : {r : List ℕ} → Words 12 r → value r ≡ moved (t .negative) (value total) part → Running l w (i + 1) r lost
+  pub turn-moved : {r : List ℕ} → Words 12 r → value r ≡ moved (t .negative) (value total) part → Running l n w (i + 1) r lost
   turn-moved f e = record {
+    all = so-far .all;
+    within = add-one-le (k .inside);
     words = f;
     held =
-        rw (terms-next l i (k .inside))
-        (held-more (terms.terms (take i l)) w (value total) (k .before) _ lost t (getD l i terms.nanItem) (k .stands) (k .so-far .held)
-        (e ∙ ap (moved (t .negative) (value total)) (k .part .exact)) (k .larger ∙ ap (max (k .before)) (k .part .lost-is)));
+        rw (terms-next l i (rw (so-far .all) (k .inside)))
+        (held-more (terms.terms (take i l)) w (value total) before _ lost t (getD l i terms.nanItem) (k .stands) (so-far .held)
+        (e ∙ ap (moved (t .negative) (value total)) (k .part .exact)) (k .larger ∙ ap (max before) (k .part .lost-is)));
   }
 
   -- where there is no part within the window
-  pub turn-past : part % 2 ^ 768 ≡ 0 → Running l w (i + 1) total lost
-  turn-past e = turn-moved (k .so-far .words) (past-moved (t .negative) part (k .so-far .words) e)
+  past : part % 2 ^ 768 ≡ 0 → Running l n w (i + 1) total lost
+  past e = turn-moved (so-far .words) (past-moved (t .negative) part (so-far .words) e)
 
-  pub turn-none : p .some ≡ false → Running l w (i + 1) total lost
-  turn-none e = turn-past (ap (λ (n : ℕ). n % 2 ^ 768) (k .part .none e))
+  pub turn-none : not (p .some) ≡ true → Running l n w (i + 1) total lost
+  turn-none e = past (ap (λ (n : ℕ). n % 2 ^ 768) (k .part .none (not-true _ e)))
+
+  -- with its words settled: none of them lies within the window
+  module _ {end last : ℕ} {q : Placed} where
+    pub turn-past : Settles end last (t .negative) part q → not (q .inside) ≡ true → Running l n w (i + 1) total lost
+    turn-past s e = past (s .past (not-true _ e))
+
+    -- a term of one word has a part of one word
+    pub one-word : t .high ≡ 0 → Settles end last (t .negative) (term (p .low) 0 (p .up)) q → Settles end last (t .negative) part q
+    one-word e s = rw (k .part .one-word e) s
+
+  -- they are added to two words of the window, or to three, and no carry goes on
+  module _ {q : Placed} {x y : Sum} (ax : Added (getD total (q .at) 0) (q .w0) (q .carry) x) (ay : Added (getD total (q .at + 1) 0) (q .w1) (x .carry) y)
+      {goes : Bool} where
+    pub turn-two : t .high ≡ 0 → Settles 10 (q .w1) (t .negative) (term (p .low) 0 (p .up)) q × (q .w2 ≡ flip (t .negative) 0)
+        → goes ≡ ltb (flip (t .negative) (y .word)) (flip (t .negative) (getD total (q .at + 1) 0)) → goes ≡ false
+        → Running l n w (i + 1) (set (set total (q .at) (x .word)) (q .at + 1) (y .word)) lost
+    turn-two h s g e =
+        let v = so-far .words in
+        let r = one-word h (s .0) in
+        let fx = fits x (ax .0) in
+        let fy = fits y (ay .0) in
+        turn-moved (two-stored v r (s .1) fx fy (ax .1) (ay .1) (sym g ∙ e)) (two-moved v r (s .1) fx fy (ax .1) (ay .1) (sym g ∙ e))
+
+    pub turn-three : {z : Sum} → Added (getD total (q .at + 2) 0) (q .w2) (y .carry) z → Settles 9 (q .w2) (t .negative) part q
+        → goes ≡ ltb (flip (t .negative) (z .word)) (flip (t .negative) (getD total (q .at + 2) 0)) → goes ≡ false
+        → Running l n w (i + 1) (set (set (set total (q .at) (x .word)) (q .at + 1) (y .word)) (q .at + 2) (z .word)) lost
+    turn-three {z} az s g e =
+        let v = so-far .words in
+        let fx = fits x (ax .0) in
+        let fy = fits y (ay .0) in
+        let fz = fits z (az .0) in
+        turn-moved (three-stored v s fx fy fz (ax .1) (ay .1) (az .1) (sym g ∙ e)) (three-moved v s fx fy fz (ax .1) (ay .1) (az .1) (sym g ∙ e))
+
+-- ---- a turn without a term, of an item that is none
+
+abbrev pub nothing : Term
+nothing = record { negative = false; low = 0; high = 0; shift = 0 }
+
+pub nothing-is : magnitude nothing ≡ 0
+nothing-is = no-magnitude nothing refl refl
+
+no-part : Part
+no-part = record { low = 0; high = 0; up = 0; some = false; lost = 0 }
+
+part-of-nothing : (w : ℕ) → PartAt w nothing no-part
+unfolding no-part
+part-of-nothing w = record {
+  exact = sym (ap (λ (m : ℕ). m / 2 ^ w) nothing-is ∙ zero-div (2 ^ w));
+  lost-is = sym (ap (lostEnd w) nothing-is ∙ lost-of-zero w);
+  none = λ _. refl;
+  one-word = λ _. refl;
+}
+
+pub turn-over : {l : List terms.Item} {n w i : ℕ} {total : List ℕ} {lost : ℕ} → Running l n w i total lost → i < n
+    → StandsFor nothing (getD l i terms.nanItem) → Running l n w (i + 1) total lost
+unfolding no-part
+turn-over {w = w} {lost = lost} so-far h s =
+    turn-none {so-far = so-far} (record { inside = h; stands = s; part = part-of-nothing w; larger = sym (max-zero lost) }) refl

@@ -11,6 +11,7 @@ use lib.ListN.{length, getD, length-map}
 use Rattle.totals_spec.specs.Format.{Format, kindOf, digits}
 use Rattle.totals_spec.specs.Settings.{Settings, Summand, summandOf}
 use Rattle.totals_spec.specs.Bounds.{FormatBounds, SettingsBounds}
+use Rattle.totals_spec.specs.Decode.{operand}
 use Rattle.totals_spec.specs.Nan.{selectAll}
 use Rattle.totals_spec.specs.Terms.{nanItem, item, pairItem, terms, topOf}
 use Rattle.totals_spec.specs.Totals.{limit, pairs, isValue, isSquare, accepted, finiteTotal, sumAccepted, dotAccepted}
@@ -22,37 +23,25 @@ use Rattle.totals_spec.proofs.Alone.{list-gives, pairs-give}
 use Rattle.totals_spec.proofs.ByChain.{sum-by-chain, dot-by-chain}
 use Rattle.arithmetic.specs.declared.Term.{Term}
 use Rattle.arithmetic.specs.Joined.{StandsFor}
+use Rattle.arithmetic.proofs.Elements.{none-stands}
 use Rattle.arithmetic.proofs.Pairs.{pairs-at}
-use Rattle.values.specs.declared.Walk.{Walk}
+use Rattle.binary.specs.Joined.{isBlank}
+use Rattle.binary.proofs.Blank.{operand-blank}
+use Rattle.values.specs.declared.Source.{Source}
 use Rattle.values.specs.Sources.{elements}
-use Rattle.values.specs.Walks.{isDot, itemsOf, items}
+use Rattle.values.specs.Walks.{itemsOf}
 use Rattle.values.proofs.Sources.{elements-length}
 use Rattle.scan.specs.Walked.{subnormalIn, signalingIn, operandsIn}
 use Rattle.reduction.specs.Answered.{productsIn, firstIn, Accepted, answerIn}
 use Rattle.reduction.proofs.Loop.{Base, sum-base, dot-base}
+use Rattle.reduction.proofs.Gather.{nothing, nothing-is}
 
 mapped : {A B : Type 0} (g : A → B) (l : List A) (i : ℕ) (d : A) (e : B) → i < length l → getD (map g l) i e ≡ g (getD l i d)
 mapped g [] i d e h = absurd (not-suc-le-zero h)
 mapped g (x ∷ l) zero d e h = refl
 mapped g (x ∷ l) (suc i) d e h = mapped g l i d e (le-of-suc-le-suc h)
 
--- the term of the element i, or of the pair i, stands for the item i
-module _ (f : Format) (c : Settings) (x : List ℕ) (t : Term) (i : ℕ) (h : i < length x) where
-  pub element-stands : (u : Summand) (s : ℕ) → s ≡ getD x i 0 → StandsFor t (item f c u s) → StandsFor t (getD (map (item f c u) x) i nanItem)
-  element-stands u s e = subst (StandsFor t) (ap (item f c u) e ∙ sym (mapped (item f c u) x i 0 nanItem h))
-
-  pub pair-stands-at : (y : List ℕ) (s r : ℕ) → length y ≡ length x → s ≡ getD x i 0 → r ≡ getD y i 0 → StandsFor t (pairItem f c (s, r))
-      → StandsFor t (getD (map (pairItem f c) (pairs x y)) i nanItem)
-  pair-stands-at y s r n e g =
-      subst (StandsFor t)
-      (ap (pairItem f c) (ap₂ (λ a b. (a, b)) e g ∙ sym (pairs-at x y i n h))
-      ∙ sym (mapped (pairItem f c) (pairs x y) i (0, 0) nanItem (rw (pairs-length x y (sym n)) h)))
-
 module _ (f : Format) (c : Settings) (u : Summand) (x y : List ℕ) where
-  pub items-length : (b : Bool) → length y ≡ length x → length (itemsOf b f c u x y) ≡ length x
-  items-length true e = length-map (pairs x y) (pairItem f c) ∙ pairs-length x y (sym e)
-  items-length false e = length-map x (item f c u)
-
   pub items-base : (b : Bool) → FormatBounds f → length y ≡ length x → length x ≤ limit → 0 < topOf (terms (itemsOf b f c u x y))
       → Base (digits f) (terms (itemsOf b f c u x y))
   items-base true h e n g = dot-base f c x y h e n g
@@ -63,13 +52,44 @@ module _ (f : Format) (c : Settings) (u : Summand) (x y : List ℕ) where
   items-give true = pairs-give f c (pairs x y)
   items-give false = list-gives f c u x
 
--- the lists of a walk have as many elements as its source, and it has as many items
-module _ (k : Walk) (lw lb rw′ rb : List ℕ) where
-  pub lists-alike : length (elements (k .source) rw′ rb) ≡ length (elements (k .source) lw lb)
-  lists-alike = elements-length (k .source) rw′ rb ∙ sym (elements-length (k .source) lw lb)
+-- ---- the items of a source, of its elements or of the pairs of two lists that it gives
 
-  pub walk-length : (f : Format) (c : Settings) → length (items f c k lw lb rw′ rb) ≡ k .source .count
-  walk-length f c = items-length f c (summandOf (k .summand)) _ (elements (k .source) rw′ rb) (isDot k) lists-alike ∙ elements-length (k .source) lw lb
+pub lists-alike : (s : Source) (lw lb rw′ rb : List ℕ) → length (elements s rw′ rb) ≡ length (elements s lw lb)
+lists-alike s lw lb rw′ rb = elements-length s rw′ rb ∙ sym (elements-length s lw lb)
+
+module _ (f : Format) (c : Settings) (s : Source) (lw lb : List ℕ) where
+  -- there are as many as elements
+  pub element-items : (u : Summand) → length (map (item f c u) (elements s lw lb)) ≡ s .count
+  element-items u = length-map (elements s lw lb) (item f c u) ∙ elements-length s lw lb
+
+  pub pair-items : (rw′ rb : List ℕ) → length (map (pairItem f c) (pairs (elements s lw lb) (elements s rw′ rb))) ≡ s .count
+  pair-items rw′ rb =
+      let l = elements s lw lb in
+      let r = elements s rw′ rb in
+      length-map (pairs l r) (pairItem f c) ∙ pairs-length l r (sym (lists-alike s lw lb rw′ rb)) ∙ elements-length s lw lb
+
+  -- the term of the element i, or of the pair i, stands for the item i
+  module _ {i x : ℕ} (h : i < s .count) (e : x ≡ getD (elements s lw lb) i 0) where
+    inside : i < length (elements s lw lb)
+    inside = rw (elements-length s lw lb) h
+
+    pub element-stands : (t : Term) (u : Summand) → StandsFor t (item f c u x) → StandsFor t (getD (map (item f c u) (elements s lw lb)) i nanItem)
+    element-stands t u = subst (StandsFor t) (ap (item f c u) e ∙ sym (mapped (item f c u) (elements s lw lb) i 0 nanItem inside))
+
+    -- nothing stands for a blank one
+    pub blank-stands : (u : Summand) {b : Bool} → b ≡ isBlank f x → b ≡ true → StandsFor nothing (getD (map (item f c u) (elements s lw lb)) i nanItem)
+    unfolding item
+    blank-stands u a b = element-stands nothing u (none-stands u (operand f c x) nothing (operand-blank f c x (sym a ∙ b)) nothing-is refl)
+
+    pub pair-stands-at : (t : Term) (rw′ rb : List ℕ) {y : ℕ} → y ≡ getD (elements s rw′ rb) i 0 → StandsFor t (pairItem f c (x, y))
+        → StandsFor t (getD (map (pairItem f c) (pairs (elements s lw lb) (elements s rw′ rb))) i nanItem)
+    pair-stands-at t rw′ rb g =
+        let l = elements s lw lb in
+        let r = elements s rw′ rb in
+        let n = lists-alike s lw lb rw′ rb in
+        subst (StandsFor t)
+        (ap (pairItem f c) (ap₂ (λ a b. (a, b)) e g ∙ sym (pairs-at l r i n inside))
+        ∙ sym (mapped (pairItem f c) (pairs l r) i (0, 0) nanItem (rw (pairs-length l r (sym n)) inside)))
 
 -- ---- a walk that is accepted
 

@@ -6,6 +6,8 @@ use crate::pass::start as middle;
 use crate::total::Answer;
 use crate::total::finish;
 use crate::total::special;
+use binary::is_blank;
+use binary::is_plain;
 use format::Format;
 use format::digits;
 use format::env::Settings;
@@ -42,7 +44,7 @@ ghost use Rattle.reduction.specs.Held.{Sums};
 ghost use Rattle.reduction.specs.Answered.{answerOf, productsIn, firstIn, Accepted, answerIn};
 
 // One pass at the edge w over the values or magnitudes of a list: terms of one word, which reach two words of the window. Only these are stored, unless a
-// carry goes on.
+// carry goes on. A zero, as of a missing month, ends its turn at once: where it is told, here and for squares, is what was measured to be fastest.
 fn pass_singles(
     f: Format,
     c: Settings,
@@ -59,8 +61,12 @@ fn pass_singles(
     let mut lost: u64 = 0;
     let mut i: usize = 0;
     while i < source.count {
-        let t = element_term(f, c, u, element(source, words, bytes, i));
+        let b = element(source, words, bytes, i);
+        let t = element_term(f, c, u, b);
         i += 1;
+        if is_blank(f, b) {
+            continue;
+        }
         let p = window_part(t, w);
         lost = larger(lost, p.lost);
         if !p.some {
@@ -93,7 +99,14 @@ fn pass_squares(f: Format, c: Settings, source: Source, words: &[u64], bytes: &[
     let mut lost: u64 = 0;
     let mut i: usize = 0;
     while i < source.count {
-        let t = element_term(f, c, 2, element(source, words, bytes, i));
+        let b = element(source, words, bytes, i);
+        if !is_plain(f, b) {
+            if is_blank(f, b) {
+                i += 1;
+                continue;
+            }
+        }
+        let t = element_term(f, c, 2, b);
         i += 1;
         let p = window_part(t, w);
         lost = larger(lost, p.lost);

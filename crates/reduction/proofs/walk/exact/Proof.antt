@@ -36,7 +36,7 @@ base s =
     let h = s .pre in
     items-base (formatOf (a .f)) (settingsOf (a .c)) (summandOf (a .k .summand)) (elements (a .k .source) (a .left-words .now) (a .left-bytes .now))
     (elements (a .k .source) (a .right-words .now) (a .right-bytes .now)) (isDot (a .k)) (h .0 .0)
-    (lists-alike (a .k) (a .left-words .now) (a .left-bytes .now) (a .right-words .now) (a .right-bytes .now))
+    (lists-alike (a .k .source) (a .left-words .now) (a .left-bytes .now) (a .right-words .now) (a .right-bytes .now))
     (rw (elements-length (a .k .source) (a .left-words .now) (a .left-bytes .now)) (h .0 .3)) (rw (h .1 .0) at (h .1 .1))
 
 abbrev entry : tie.After-digits Inv-loop μ-loop → Entry
