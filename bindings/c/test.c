@@ -253,6 +253,11 @@ static void floats(void)
     has_memory = 1;
 }
 
+/* A format by its three numbers alone, as before a bias could be named. Some compilers warn of the fields that are left out. */
+#ifdef __GNUC__
+#pragma GCC diagnostic push
+#pragma GCC diagnostic ignored "-Wmissing-field-initializers"
+#endif
 static void words(void)
 {
     const totals_format half = {TOTALS_BINARY16}, none = {TOTALS_IEEE, 11, 12};
@@ -274,6 +279,184 @@ static void words(void)
     CHECK(REFUSED(totals_sum_words(none, 3, list, 2, NULL), TOTALS_NO_SUCH_FORMAT, 0));
     CHECK(REFUSED(totals_dot_words(none, list, 2, list, 1, NULL), TOTALS_NO_SUCH_FORMAT, 0));
     CHECK(REFUSED(totals_sum_words(half, TOTALS_VALUE, NULL, 2, NULL), TOTALS_NO_LIST, 0));
+    CHECK(half.bias_named == 0 && half.bias == 0);
+}
+#ifdef __GNUC__
+#pragma GCC diagnostic pop
+#endif
+
+static uint64_t sum_biased(int64_t bias, uint64_t rounding, uint64_t summand, const uint64_t *list, size_t n)
+{
+    clear();
+    return totals_sum_biased(TOTALS_BINARY16, bias, rounding, 0, 0, 0, 0, 0, 0, 0, summand,
+                             (const uint8_t *)list, n * sizeof *list, answer, sizeof answer);
+}
+
+static uint64_t dot_biased(int64_t bias, const uint64_t *left, size_t n, const uint64_t *right, size_t m)
+{
+    clear();
+    return totals_dot_biased(TOTALS_BINARY16, bias, TOTALS_DEFAULTS, (const uint8_t *)left, n * sizeof *left,
+                             (const uint8_t *)right, m * sizeof *right, answer, sizeof answer);
+}
+
+#define EVEN TOTALS_TIES_TO_EVEN
+#define LOST (TOTALS_UNDERFLOW + TOTALS_INEXACT + TOTALS_TINY)
+#define TOO_LARGE (TOTALS_OVERFLOW + TOTALS_INEXACT + TOTALS_ROUNDED_UP)
+
+/* Rows of the definitions' own table (theorem biases-agree), and at the end a product in Fnuz, through the entries and through the records. */
+static void biases(void)
+{
+    const int64_t far[5] = {0, 15, -40, TOTALS_FARTHEST_BIAS, -TOTALS_FARTHEST_BIAS};
+    const uint64_t ones[2] = {0x3c00, 0x3c00}, normal[1] = {0x0400}, least[1] = {1}, small[2] = {1, 3}, largest[1] = {0x7f}, one[1] = {0x58};
+    const totals_format minus = {TOTALS_BINARY16, TOTALS_BIAS(-40)}, plus = {TOTALS_BINARY16, TOTALS_BIAS(40)};
+    const totals_format short_float = {TOTALS_FINITE, 2, 4, TOTALS_BIAS(-3)}, fnuz = {TOTALS_E4M3_FNUZ, TOTALS_BIAS(11)};
+    totals_record record;
+    size_t i;
+
+    for (i = 0; i < 5; i++) {
+        const totals_format format = {TOTALS_BINARY16, TOTALS_BIAS(far[i])};
+        CHECK(sum_biased(far[i], EVEN, TOTALS_VALUE, ones, 2) == 0 && holds(0x4000, 0, 1, TOTALS_EQUAL));
+        record = totals_sum_words(format, TOTALS_VALUE, ones, 2, NULL);
+        CHECK(record.refusal == TOTALS_ACCEPTED && record.result == 0x4000 && record.flags == 0 && record.passes == 1);
+        CHECK(dot_biased(far[i], ones, 0, ones, 0) == 0 && holds(0, 0, 0, TOTALS_EQUAL));
+        CHECK(totals_dot_words(format, NULL, 0, NULL, 0, NULL).refusal == TOTALS_ACCEPTED);
+    }
+
+    /* the square of the least normal number: far below the least number, and above the largest */
+    CHECK(LOST == 0x38 && TOO_LARGE == 0x54);
+    CHECK(sum_biased(40, EVEN, TOTALS_SQUARE, normal, 1) == 0 && holds(0, LOST, 1, TOTALS_BELOW));
+    CHECK(dot_biased(40, normal, 1, normal, 1) == 0 && holds(0, LOST, 1, TOTALS_BELOW));
+    CHECK(sum_biased(-40, EVEN, TOTALS_SQUARE, normal, 1) == 0 && holds(0x7c00, TOO_LARGE, 1, TOTALS_NO_COMPARISON));
+    CHECK(dot_biased(-40, normal, 1, normal, 1) == 0 && holds(0x7c00, TOO_LARGE, 1, TOTALS_NO_COMPARISON));
+    record = totals_sum_words(plus, TOTALS_SQUARE, normal, 1, NULL);
+    CHECK(record.result == 0 && record.flags == LOST && record.side == TOTALS_BELOW && record.refusal == TOTALS_ACCEPTED);
+    record = totals_dot_words(minus, normal, 1, normal, 1, NULL);
+    CHECK(record.result == 0x7c00 && record.flags == TOO_LARGE && record.side == TOTALS_NO_COMPARISON && record.refusal == TOTALS_ACCEPTED);
+    CHECK(sum_biased(-2000, EVEN, TOTALS_SQUARE, least, 1) == 0
+          && holds(0x7c00, TOO_LARGE + TOTALS_SUBNORMAL_INPUT, 1, TOTALS_NO_COMPARISON));
+    CHECK(sum_biased(-2000, TOTALS_TOWARD_ZERO, TOTALS_SQUARE, least, 1) == 0
+          && holds(0x7bff, TOTALS_OVERFLOW + TOTALS_INEXACT + TOTALS_SUBNORMAL_INPUT, 1, TOTALS_BELOW));
+
+    /* 8 and 24 are 32, where 1 is no number of the format */
+    record = totals_sum_words(short_float, TOTALS_VALUE, small, 2, NULL);
+    CHECK(record.result == 4 && record.flags == TOTALS_SUBNORMAL_INPUT && record.passes == 1 && record.side == TOTALS_EQUAL);
+    clear();
+    CHECK(totals_sum_biased(TOTALS_FINITE, 2, 4, -3, TOTALS_DEFAULTS, TOTALS_VALUE, (const uint8_t *)small, sizeof small, answer, ROOM) == 0);
+    CHECK(holds(4, 0x80, 1, TOTALS_EQUAL));
+
+    /* 30 times 1 is 30: in Fnuz the named bias takes the place of 2^(E - 1) */
+    CHECK(totals_dot_words(fnuz, largest, 1, one, 1, NULL).result == 0x7f);
+}
+
+/* A bias that may not be named, with its number and the order of the numbers. Nothing is written. */
+static void biases_refused(void)
+{
+    const int64_t beyond[4] = {TOTALS_FARTHEST_BIAS + 1, -TOTALS_FARTHEST_BIAS - 1, INT64_MAX, INT64_MIN};
+    const uint64_t list[2] = {0x3c00, 0x10000};
+    const uint8_t *bytes = (const uint8_t *)list;
+    const totals_format not_named = {TOTALS_BINARY16, 0, 40}, neither = {TOTALS_BINARY16, 2, 15}, half = {TOTALS_BINARY16, TOTALS_BIAS(40)};
+    const totals_format none = {TOTALS_IEEE, 11, 12, TOTALS_BIAS(0)};
+    size_t i;
+
+    for (i = 0; i < 4; i++) {
+        const int64_t b = beyond[i];
+        const totals_format format = {TOTALS_BINARY16, TOTALS_BIAS(b)};
+        CHECK(sum_biased(b, EVEN, TOTALS_VALUE, list, 1) == TOTALS_NO_SUCH_FORMAT && untouched_from(0));
+        CHECK(sum_biased(b, EVEN, TOTALS_VALUE, list, 0) == TOTALS_NO_SUCH_FORMAT && untouched_from(0));
+        CHECK(dot_biased(b, list, 1, list, 1) == TOTALS_NO_SUCH_FORMAT && untouched_from(0));
+        /* before a setting, two lengths and a stray bit; after the lengths in bytes */
+        CHECK(sum_biased(b, 8, 3, list, 2) == TOTALS_NO_SUCH_FORMAT && untouched_from(0));
+        CHECK(dot_biased(b, list, 2, list, 1) == TOTALS_NO_SUCH_FORMAT && untouched_from(0));
+        CHECK(totals_sum_biased(TOTALS_BINARY16, b, TOTALS_DEFAULTS, 3, bytes, 7, answer, 23) == TOTALS_UNEVEN_LENGTH);
+        CHECK(totals_sum_biased(TOTALS_BINARY16, b, TOTALS_DEFAULTS, 3, bytes, 8, answer, 23) == TOTALS_SHORT_BUFFER);
+        CHECK(totals_dot_biased(TOTALS_BINARY16, b, TOTALS_DEFAULTS, bytes, 8, bytes, 9, answer, 23) == TOTALS_UNEVEN_LENGTH);
+        CHECK(totals_dot_biased(TOTALS_BINARY16, b, TOTALS_DEFAULTS, bytes, 8, bytes, 16, answer, 23) == TOTALS_SHORT_BUFFER);
+        CHECK(untouched_from(0));
+        CHECK(REFUSED(totals_sum_words(format, 3, list, 2, NULL), TOTALS_NO_SUCH_FORMAT, 0));
+        CHECK(REFUSED(totals_dot_words(format, list, 2, list, 1, NULL), TOTALS_NO_SUCH_FORMAT, 0));
+        CHECK(REFUSED(totals_sum_words(format, TOTALS_VALUE, NULL, SIZE_MAX, NULL), TOTALS_NO_SUCH_FORMAT, 0));
+    }
+    /* every other refusal comes through the entries with a bias too */
+    CHECK(sum_biased(40, 8, TOTALS_VALUE, list, 2) == TOTALS_SETTING_OUT_OF_RANGE && untouched_from(0));
+    CHECK(sum_biased(40, EVEN, TOTALS_VALUE, list, 2) == TOTALS_STRAY_BIT + 256 && untouched_from(0));
+    CHECK(dot_biased(40, list, 2, list, 1) == TOTALS_DIFFERENT_LENGTHS && untouched_from(0));
+    CHECK(REFUSED(totals_sum_words(half, TOTALS_VALUE, list, 2, NULL), TOTALS_STRAY_BIT, 1));
+    CHECK(REFUSED(totals_sum_words(half, TOTALS_VALUE, list, TOTALS_MOST_ELEMENTS + 1, NULL), TOTALS_TOO_MANY_ELEMENTS, 0));
+    CHECK(REFUSED(totals_dot_words(half, list, 1, NULL, 1, NULL), TOTALS_NO_LIST, 0));
+    CHECK(REFUSED(totals_sum_words(none, TOTALS_VALUE, list, 1, NULL), TOTALS_NO_SUCH_FORMAT, 0));
+    /* fields of a format that do not fit each other */
+    CHECK(REFUSED(totals_sum_words(not_named, TOTALS_VALUE, list, 1, NULL), TOTALS_NO_SUCH_FORMAT, 0));
+    CHECK(REFUSED(totals_dot_words(neither, list, 1, list, 1, NULL), TOTALS_NO_SUCH_FORMAT, 0));
+}
+
+/* A sum, or a dot of the list with itself, in the format f[0], f[1], f[2]; with the bias f[3] where it is named. */
+static uint64_t call(int pairs, int named, const int64_t f[4], const uint64_t c[8], uint64_t summand, const uint64_t list[3])
+{
+#define NUMBERS (uint64_t)f[0], (uint64_t)f[1], (uint64_t)f[2]
+#define SETTINGS c[0], c[1], c[2], c[3], c[4], c[5], c[6], c[7]
+#define LIST (const uint8_t *)list, 3 * sizeof *list
+#define ANSWER answer, sizeof answer
+    clear();
+    if (named) {
+        return pairs ? totals_dot_biased(NUMBERS, f[3], SETTINGS, LIST, LIST, ANSWER) : totals_sum_biased(NUMBERS, f[3], SETTINGS, summand, LIST, ANSWER);
+    }
+    return pairs ? totals_dot(NUMBERS, SETTINGS, LIST, LIST, ANSWER) : totals_sum(NUMBERS, SETTINGS, summand, LIST, ANSWER);
+}
+
+static int alike(totals_record x, totals_record y)
+{
+    return x.result == y.result && x.passes == y.passes && x.place == y.place && x.flags == y.flags && x.refusal == y.refusal && x.side == y.side;
+}
+
+/* The same through the records. */
+static int own_record_is_alike(int pairs, const int64_t f[4], const uint64_t c[8], uint64_t summand, const uint64_t list[3])
+{
+    const totals_format named = {NUMBERS, TOTALS_BIAS(f[3])}, plain = {NUMBERS, TOTALS_OWN_BIAS};
+    const totals_settings settings = {SETTINGS};
+    return pairs ? alike(totals_dot_words(named, list, 3, list, 3, &settings), totals_dot_words(plain, list, 3, list, 3, &settings))
+                 : alike(totals_sum_words(named, summand, list, 3, &settings), totals_sum_words(plain, summand, list, 3, &settings));
+}
+
+/* Naming the kind's own bias is the same as naming none: the number returned and every byte of the buffer, of refused calls too. */
+static void own_biases(void)
+{
+    static const int64_t formats[14][4] = {
+        {TOTALS_BINARY64, 1023}, {TOTALS_BINARY32, 127}, {TOTALS_BINARY16, 15}, {TOTALS_BFLOAT16, 127}, {TOTALS_TF32, 127},
+        {TOTALS_E5M2, 15}, {TOTALS_E4M3, 7}, {TOTALS_E5M2_FNUZ, 16}, {TOTALS_E4M3_FNUZ, 8}, {TOTALS_E3M2, 3}, {TOTALS_E2M3, 1},
+        {TOTALS_E2M1, 1}, {TOTALS_FNUZ, 28, 64, 134217728}, {TOTALS_IEEE, 11, 12, 1023}
+    };
+    /* cut to the width of the format, but for the last */
+    uint64_t lists[6][3] = {
+        {0, 0, 0}, {1, 2, 3}, {0x7c, 0x81, 0x17}, {0x7bff, 0x8001, 0x7c01}, {0, 0, 0}, {1, 0xfff0000000000000, 2}
+    };
+    uint8_t before[ROOM];
+    size_t i, j, k, m, accepted_calls = 0;
+
+    for (i = 0; i < 14; i++) {
+        const uint64_t cut = UINT64_MAX >> (64 - formats[i][2]);
+        /* 1, whose square is 1 with no other bias, and the next number */
+        lists[4][0] = lists[4][1] = (uint64_t)formats[i][3] << (formats[i][2] - formats[i][1] - 1);
+        lists[4][2] = lists[4][0] + 1;
+        for (j = 0; j < 6; j++) {
+            uint64_t list[3];
+            for (k = 0; k < 3; k++) {
+                list[k] = j < 5 ? lists[j][k] & cut : lists[j][k];
+            }
+            /* every value of each setting, and some that are out of range */
+            for (k = 0; k < 144; k++) {
+                const uint64_t c[8] = {k % 9, k / 9 % 3, k % 4, k / 2 % 2, k / 4 % 2, k / 8 % 2, k / 16 % 2, k % 5};
+                for (m = 0; m < 4; m++) {
+                    const uint64_t code = call(m == 3, 0, formats[i], c, m, list);
+                    memcpy(before, answer, sizeof before);
+                    CHECK(call(m == 3, 1, formats[i], c, m, list) == code && memcmp(answer, before, sizeof before) == 0);
+                    CHECK(own_record_is_alike(m == 3, formats[i], c, m, list));
+                    accepted_calls += code == TOTALS_ACCEPTED;
+                }
+            }
+        }
+    }
+    /* and enough of them are totals */
+    CHECK(accepted_calls > 14 * 6 * 144 * 4 / 3);
 }
 
 /* Each refusal that a list of double or float can meet, and the lowest of two. */
@@ -374,7 +557,7 @@ static void version(void)
 {
     char text[32];
     sprintf(text, "%d.%d.%d", TOTALS_VERSION_MAJOR, TOTALS_VERSION_MINOR, TOTALS_VERSION_PATCH);
-    CHECK(strcmp(text, TOTALS_VERSION) == 0 && TOTALS_VERSION_NUMBER == 100);
+    CHECK(strcmp(text, TOTALS_VERSION) == 0 && TOTALS_VERSION_NUMBER == 200);
 }
 
 int main(void)
@@ -385,6 +568,9 @@ int main(void)
     doubles();
     floats();
     words();
+    biases();
+    biases_refused();
+    own_biases();
     refused_records();
     lists_are_only_read();
     refusals_in_words();

@@ -7,10 +7,11 @@
  *   totals_sum_float   totals_magnitude_sum_float   totals_square_sum_float   totals_dot_float
  *   totals_sum_words   totals_dot_words     encodings of any format
  *   totals_strerror                         a refusal in words
- *   totals_sum         totals_dot           the two functions of the library, over bytes
+ *   totals_sum         totals_dot           the functions of the library, over bytes
+ *   totals_sum_biased  totals_dot_biased    the same in a format that names its bias
  *
  * The first ten count elements, and answer with a record. They are inline, plain C, and call the
- * last two, which are proved. docs/LINKING.md has each with its special cases and an example.
+ * last four, which are proved. docs/LINKING.md has each with its special cases and an example.
  * What is claimed of the library stands in docs/PROMISES.md, the exact meaning of each number below
  * in docs/SPECIFICATION.md. No function keeps a state, and all may be called from several threads.
  */
@@ -24,9 +25,9 @@
 
 /* The version of this header and of the archive that it was written for. */
 #define TOTALS_VERSION_MAJOR 0
-#define TOTALS_VERSION_MINOR 1
+#define TOTALS_VERSION_MINOR 2
 #define TOTALS_VERSION_PATCH 0
-#define TOTALS_VERSION "0.1.0"
+#define TOTALS_VERSION "0.2.0"
 #define TOTALS_VERSION_NUMBER (TOTALS_VERSION_MAJOR * 10000 + TOTALS_VERSION_MINOR * 100 + TOTALS_VERSION_PATCH)
 
 #ifdef __cplusplus
@@ -43,7 +44,7 @@ enum {
 
 /*
  * A format: the first three arguments of a call, as in totals_sum(TOTALS_BINARY64, ...), or what a
- * totals_format starts with, as in totals_format half = {TOTALS_BINARY16};
+ * totals_format starts with, as in totals_format half = {TOTALS_BINARY16, TOTALS_OWN_BIAS};
  */
 #define TOTALS_BINARY64 TOTALS_IEEE, 11, 64
 #define TOTALS_BINARY32 TOTALS_IEEE, 8, 32
@@ -58,10 +59,26 @@ enum {
 #define TOTALS_E2M3 TOTALS_FINITE, 2, 6
 #define TOTALS_E2M1 TOTALS_FINITE, 2, 4
 
+/* A named bias lies at most so far from 0, on either side. */
+#define TOTALS_FARTHEST_BIAS 268435456
+
+/*
+ * What a totals_format ends with: the kind's own bias, which it also has where nothing follows the width, or one that it names.
+ * Naming the kind's own, 2^(exponent_bits - 1) - 1 and for TOTALS_FNUZ one more, gives the same answers as naming none.
+ *
+ *   totals_format half = {TOTALS_BINARY16, TOTALS_OWN_BIAS};    0x3c00 is 1; {TOTALS_BINARY16} is the same format
+ *   totals_format rates = {TOTALS_BINARY16, TOTALS_BIAS(25)};   0x3c00 is 2^-10
+ */
+#define TOTALS_OWN_BIAS 0, 0
+#define TOTALS_BIAS(bias) 1, (bias)
+
+/* Set it up as a whole, by an initializer: a field that is left out is then 0, and later versions add fields at the end. */
 typedef struct totals_format {
     uint64_t kind;
     uint64_t exponent_bits;
     uint64_t width;
+    uint64_t bias_named; /* 1 where the next field is the bias; else both are 0 */
+    int64_t bias;
 } totals_format;
 
 /* Rounding: how the exact sum is rounded. */
@@ -146,7 +163,8 @@ enum {
     TOTALS_ACCEPTED = 0,
     TOTALS_UNEVEN_LENGTH = 1,        /* a length that is not a multiple of 8 */
     TOTALS_SHORT_BUFFER = 2,         /* an answer buffer under 24 bytes */
-    TOTALS_NO_SUCH_FORMAT = 3,       /* kind above 3, exponent bits outside 2..28, width below these + 2 or above 64 */
+    TOTALS_NO_SUCH_FORMAT = 3,       /* kind above 3, exponent bits outside 2..28, width below these + 2 or above 64,
+                                        or a named bias outside -268,435,456..268,435,456 */
     TOTALS_SETTING_OUT_OF_RANGE = 4, /* a setting or the summand out of its range */
     TOTALS_DIFFERENT_LENGTHS = 5,    /* dot: the lists differ in length */
     TOTALS_TOO_MANY_ELEMENTS = 6,    /* over 1,048,576 elements (of a dot: pairs) */
@@ -193,6 +211,24 @@ uint64_t totals_dot(uint64_t kind, uint64_t exponent_bits, uint64_t width,
                     uint8_t *answer, size_t answer_len);
 
 /*
+ * The same two in a format that names its bias, from -TOTALS_FARTHEST_BIAS to TOTALS_FARTHEST_BIAS; one outside is
+ * TOTALS_NO_SUCH_FORMAT. All else, what they return and what they write, is as in totals_sum and totals_dot.
+ */
+uint64_t totals_sum_biased(uint64_t kind, uint64_t exponent_bits, uint64_t width, int64_t bias,
+                           uint64_t rounding, uint64_t tininess, uint64_t nan_propagation, uint64_t default_nan_negative,
+                           uint64_t flush_to_zero, uint64_t denormals_are_zero, uint64_t saturate, uint64_t precision,
+                           uint64_t summand,
+                           const uint8_t *values, size_t values_len,
+                           uint8_t *answer, size_t answer_len);
+
+uint64_t totals_dot_biased(uint64_t kind, uint64_t exponent_bits, uint64_t width, int64_t bias,
+                           uint64_t rounding, uint64_t tininess, uint64_t nan_propagation, uint64_t default_nan_negative,
+                           uint64_t flush_to_zero, uint64_t denormals_are_zero, uint64_t saturate, uint64_t precision,
+                           const uint8_t *left, size_t left_len,
+                           const uint8_t *right, size_t right_len,
+                           uint8_t *answer, size_t answer_len);
+
+/*
  * Records: what the inline functions answer. Where refusal is TOTALS_ACCEPTED, result, flags, passes and side hold the total. Else
  * refusal says why there is none, and every other field is 0 but for the place of a TOTALS_STRAY_BIT. Later versions add
  * fields at the end.
@@ -227,7 +263,7 @@ typedef struct totals_float_record {
 } totals_float_record;
 
 /*
- * A refusal in words. Takes the refusal of a record, or all that totals_sum or totals_dot returned.
+ * A refusal in words. Takes the refusal of a record, or all that a function of the library returned.
  * Never NULL; of a number that it does not know it says so.
  */
 static inline const char *totals_strerror(uint64_t refusal)
@@ -236,7 +272,7 @@ static inline const char *totals_strerror(uint64_t refusal)
     case TOTALS_ACCEPTED: return "accepted";
     case TOTALS_UNEVEN_LENGTH: return "the length in bytes is not a multiple of 8";
     case TOTALS_SHORT_BUFFER: return "the answer buffer has fewer than 24 bytes";
-    case TOTALS_NO_SUCH_FORMAT: return "there is no such format";
+    case TOTALS_NO_SUCH_FORMAT: return "there is no such format, or the bias that it names is out of its range";
     case TOTALS_SETTING_OUT_OF_RANGE: return "a setting or the summand is out of its range";
     case TOTALS_DIFFERENT_LENGTHS: return "the two lists differ in length";
     case TOTALS_TOO_MANY_ELEMENTS: return "there are more than 1,048,576 elements";
@@ -324,10 +360,26 @@ static inline int totals_is_missing_(totals_list_ list)
     return list.values == NULL && list.count != 0;
 }
 
-/* A sum of `left`, for which `right` is empty and `pairs` 0, or a dot. */
+/*
+ * A sum of `left`, for which `right` is empty and `pairs` 0, or a dot. A format whose last two fields do not fit each other was not
+ * set up as a whole, and a total in either reading would be a guess.
+ */
 static inline uint64_t totals_call_(totals_format f, const totals_settings *c, uint64_t summand, int pairs, const uint8_t *left,
                                     size_t left_count, const uint8_t *right, size_t right_count, uint8_t *answer)
 {
+    if (f.bias_named > 1 || (f.bias_named == 0 && f.bias != 0)) {
+        return TOTALS_NO_SUCH_FORMAT;
+    }
+    if (pairs && f.bias_named) {
+        return totals_dot_biased(f.kind, f.exponent_bits, f.width, f.bias, c->rounding, c->tininess, c->nan_propagation,
+                                 c->default_nan_negative, c->flush_to_zero, c->denormals_are_zero, c->saturate, c->precision, left,
+                                 8 * left_count, right, 8 * right_count, answer, TOTALS_ANSWER_BYTES);
+    }
+    if (f.bias_named) {
+        return totals_sum_biased(f.kind, f.exponent_bits, f.width, f.bias, c->rounding, c->tininess, c->nan_propagation,
+                                 c->default_nan_negative, c->flush_to_zero, c->denormals_are_zero, c->saturate, c->precision, summand,
+                                 left, 8 * left_count, answer, TOTALS_ANSWER_BYTES);
+    }
     if (pairs) {
         return totals_dot(f.kind, f.exponent_bits, f.width, c->rounding, c->tininess, c->nan_propagation, c->default_nan_negative,
                           c->flush_to_zero, c->denormals_are_zero, c->saturate, c->precision, left, 8 * left_count, right,
@@ -410,7 +462,7 @@ static inline totals_float_record totals_as_float_(totals_record record)
 static inline totals_double_record totals_of_doubles_(uint64_t summand, int pairs, const double *left, size_t left_count,
                                                       const double *right, size_t right_count, const totals_settings *settings)
 {
-    const totals_format f = {TOTALS_BINARY64};
+    const totals_format f = {TOTALS_BINARY64, TOTALS_OWN_BIAS};
     return totals_as_double_(totals_take_(f, settings, summand, pairs, totals_list_of_(left, left_count, sizeof *left),
                                           totals_list_of_(right, right_count, sizeof *right)));
 }
@@ -418,7 +470,7 @@ static inline totals_double_record totals_of_doubles_(uint64_t summand, int pair
 static inline totals_float_record totals_of_floats_(uint64_t summand, int pairs, const float *left, size_t left_count,
                                                     const float *right, size_t right_count, const totals_settings *settings)
 {
-    const totals_format f = {TOTALS_BINARY32};
+    const totals_format f = {TOTALS_BINARY32, TOTALS_OWN_BIAS};
     return totals_as_float_(totals_take_(f, settings, summand, pairs, totals_list_of_(left, left_count, sizeof *left),
                                          totals_list_of_(right, right_count, sizeof *right)));
 }

@@ -12,7 +12,8 @@ README.md says where the answers come from and how the oracle is asked.
 A section begins with a line of its name, filled with dots to 44 bytes, a
 letter for the length of its rows, and the number of its rows in four hex
 digits. A row has 283 bytes, the line end among them (letter r), or 487 where
-dots have more than six pairs (letter l). Every number is in hex:
+dots have more than six pairs (letter l), or 301 where it names a bias (letter
+b). Every number is in hex:
 
 column  0      s a sum, d a dot
         2      kind
@@ -40,6 +41,8 @@ column  0      s a sum, d a dot
                dot's left list from the first on, its right one from the
                seventh on. A long row has twenty-four, and there a dot's
                right list begins with the thirteenth
+      283      in a row that names one, which has twelve values: the bias, a
+               sign and 16 digits
 
 Behind the sections stand the rows of the pence of one encoding, their number first, four hex digits and a line end. Such a row has 49 bytes:
 
@@ -48,6 +51,10 @@ column  0      p
        10      the encoding, 16 digits
        27      the figure: a sign and 16 digits
        45      refusal and place
+
+Behind these stand the rows of pence that name a bias, their number first in the same way. Such a row has 67 bytes, the first 48 of them as above:
+
+column 49      the bias: a sign and 16 digits
 """
 
 import os
@@ -61,7 +68,7 @@ from model import *
 HERE = os.path.dirname(os.path.abspath(__file__))
 NAME = 44
 VALUES, LONG = 12, 24
-HEAD = 79
+HEAD, BIAS = 79, 283
 
 
 class Draw:
@@ -99,14 +106,19 @@ class Draw:
 
 # ---- a case
 
+def signed(n, digits):
+    """A sign, and hex digits."""
+    return '%s%0*x' % ('-' if n < 0 else '+', digits, abs(n))
+
+
 class Case:
     """A call, and what it answers. A right list makes it a dot."""
 
     def __init__(self, f, c, left, right=None, summand=VALUE, more=(0, 0), room=32):
-        self.kind, self.e, self.w = f if isinstance(f, tuple) else (f.kind, f.e, f.w)
+        self.kind, self.e, self.w, self.named = (*f, None)[:4] if isinstance(f, tuple) else (f.kind, f.e, f.w, f.named)
         self.c, self.left, self.right, self.summand = {**PLAIN, **c}, left, right, summand
         self.more, self.room = more, room
-        self.holds = conditions(self.kind, self.e, self.w, self.c, summand, left, right, more, room)
+        self.holds = conditions(self.kind, self.e, self.w, self.named, self.c, summand, left, right, more, room)
         self.refusal = min([n for n in self.holds if n > 2], default=0)
         self.place = 0
         if self.refusal == 7:
@@ -123,13 +135,12 @@ class Case:
         self.leans, self.end, self.side, self.below_zero = record.leans, record.end, record.side, record.negative
 
     def format(self):
-        return Format(self.kind, self.e, self.w)
+        return Format(self.kind, self.e, self.w, self.named)
 
     def answer(self):
         """The fields from the result on to the side."""
-        return '%016x %02x %06x %s%08x %x %x %03x %x' % (
-            self.result, self.flags, self.passes, '-' if self.edge < 0 else '+', abs(self.edge), self.refusal,
-            self.place, self.returned, self.leans)
+        return '%016x %02x %06x %s %x %x %03x %x' % (
+            self.result, self.flags, self.passes, signed(self.edge, 8), self.refusal, self.place, self.returned, self.leans)
 
     def row(self, most=VALUES):
         """A row of so many values."""
@@ -139,13 +150,17 @@ class Case:
         head = '%s %x %02x %02x %s %02x %x %x%x %x%x %02x' % (
             'd' if dot else 's', self.kind, self.e, self.w, ''.join('%x' % self.c[name] for name in SETTINGS[:7]),
             self.c['precision'], self.summand, len(self.left), len(self.right or []), *self.more, self.room)
-        text = ' '.join([head, self.answer()] + ['%016x' % v for v in values + [0] * (most - len(values))]) + '\n'
-        assert len(text) == HEAD + 17 * most
-        return text
+        text = ' '.join([head, self.answer()] + ['%016x' % v for v in values + [0] * (most - len(values))])
+        assert len(text) == HEAD + 17 * most - 1
+        if self.named is not None:
+            assert most == VALUES
+            text += ' ' + signed(self.named, 16)
+        return text + '\n'
 
     def line(self):
         """The case as the oracle reads it."""
-        head = ['sum' if self.right is None else 'dot', self.kind, self.e, self.w]
+        head = [('sum' if self.right is None else 'dot') + '_biased' * (self.named is not None), self.kind, self.e, self.w]
+        head += [] if self.named is None else [self.named]
         head += [self.c[name] for name in SETTINGS] + [self.summand, len(self.left)]
         return ' '.join([str(h) for h in head] + ['%x' % v for v in self.left + (self.right or [])])
 
@@ -156,15 +171,16 @@ class Case:
         return any(self.format().decode(v)[0] == 'nan' for v in self.left + (self.right or []))
 
 
-def case_of(row):
-    """The call of a row, with the model's answer."""
+def case_of(row, most, biased):
+    """The call of a row of so many values, with the model's answer."""
     number = lambda at, digits: int(row[at:at + digits], 16)
     c = {name: number(10 + i, 1) for i, name in enumerate(SETTINGS[:7])}
     c['precision'] = number(18, 2)
-    values = [number(at, 16) for at in range(HEAD, len(row), 17)]
-    n, m, half = number(23, 1), number(24, 1), len(values) // 2
+    values = [number(at, 16) for at in range(HEAD, HEAD + 17 * most, 17)]
+    n, m, half = number(23, 1), number(24, 1), most // 2
     right = values[half:half + m] if row[0] == 'd' else None
-    return Case((number(2, 1), number(4, 2), number(7, 2)), c, values[:n], right, number(21, 1), (number(26, 1), number(27, 1)), number(29, 2))
+    f = number(2, 1), number(4, 2), number(7, 2), number(BIAS, 17) if biased else None
+    return Case(f, c, values[:n], right, number(21, 1), (number(26, 1), number(27, 1)), number(29, 2))
 
 
 # ---- numbers and formats
@@ -762,10 +778,14 @@ def many_formats(draw, kind):
 
 
 def rearrangements(draw):
+    return in_five_orders(draw, 220, lambda n: Format(*draw.choice(WIDE)) if n % 20 < 10 else Format(draw.below(4), *draw.choice(PAIRS)))
+
+
+def in_five_orders(draw, most, format_of):
     """Lists and pairs in five orders: as drawn, backwards, by encoding, and shuffled twice. One record for each."""
     cases = []
-    while len(cases) < 220:
-        f = Format(*draw.choice(WIDE)) if len(cases) % 20 < 10 else Format(draw.below(4), *draw.choice(PAIRS))
+    while len(cases) < most:
+        f = format_of(len(cases))
         case = drawn(draw, f, (staircase, near_tie, cancelling, mixed))
         rows = list(zip(case.left, case.right)) if case.right is not None else [(v,) for v in case.left]
         if len(set(rows)) < 3 or any(f.decode(v)[0] == 'nan' for row in rows for v in row):
@@ -831,9 +851,9 @@ def each_refusal():
     return cases
 
 
-def spoiled(numbers, dot, turn):
-    """A call of which exactly the conditions of these numbers hold."""
-    f = ((4, 5, 16), (0, 1, 16), (1, 29, 40), (2, 11, 12))[turn % 4] if 3 in numbers else (turn % 4, 5, 16)
+def spoiled(numbers, dot, turn, bias=None):
+    """A call of which exactly the conditions of these numbers hold: 3 by the bias, where one is named."""
+    f = ((4, 5, 16), (0, 1, 16), (1, 29, 40), (2, 11, 12))[turn % 4] if 3 in numbers and bias is None else (turn % 4, 5, 16)
     c = ({'rounding': 8}, {'nan': 4}, {'saturate': 2}, {'tininess': 15})[turn // 2 % 4] if 4 in numbers else {}
     summand = 0
     if numbers.isdisjoint({1, 2, 3}) and turn % 3 == 2 and 4 in numbers:
@@ -850,7 +870,7 @@ def spoiled(numbers, dot, turn):
     more = (0, 0)
     if 1 in numbers:
         more = (1 + turn, 0) if not dot or turn % 2 else (0, 1 + turn)
-    case = Case(f, c, left, right, summand, more, (0, 23, 8, 22)[turn % 4] if 2 in numbers else 32)
+    case = Case((*f, bias), c, left, right, summand, more, (0, 23, 8, 22)[turn % 4] if 2 in numbers else 32)
     assert case.holds == set(numbers), (numbers, case.holds)
     assert case.returned % 256 == min(numbers)
     return case
@@ -875,6 +895,185 @@ def more_refusals():
             if 5 not in numbers:
                 cases.append(spoiled(set(numbers), False, len(cases) % 4))
             cases.append(spoiled(set(numbers), True, len(cases) % 4))
+    return cases
+
+
+# ---- named biases
+
+# E, W and a bias of formats whose products may be normal numbers: 23 of them, prime to the numbers of kinds, modes, signs and sides
+PRODUCTS = [(4, 8, 0), (5, 16, 0), (11, 64, 0), (4, 8, 1), (5, 16, 1), (11, 64, 1), (4, 8, -1), (5, 16, -1), (11, 64, -1), (4, 8, 11), (11, 64, 11),
+            (5, 16, 40), (8, 32, 40), (11, 64, 40), (8, 32, -40), (11, 64, -40), (11, 64, 2000), (15, 64, 2000), (11, 64, -2000), (15, 64, -2000),
+            (28, 64, -2 ** 27), (28, 64, 2 ** 28), (28, 64, -2 ** 28)]
+# of these, the thirteen whose products may be subnormal
+LOW_PRODUCTS = [f for f in PRODUCTS if f[2] >= 0 and f != (11, 64, 11)]
+# nine whose products may be the largest numbers
+HIGH_PRODUCTS = [(4, 8, 0), (5, 16, -1), (11, 64, 1), (8, 32, -40), (11, 64, -2000), (28, 64, -2 ** 27), (5, 16, 0), (4, 8, 1), (15, 64, 2000)]
+# formats of which no product is finite, or no product but 0 is
+VAST, VANISHING = [(5, 16, -2000), (4, 8, -2 ** 27), (11, 64, -2 ** 28), (4, 8, -40)], [(5, 16, 2000), (4, 8, 2 ** 27), (11, 64, 2 ** 28), (4, 8, 40)]
+
+
+def products(f, terms, turn):
+    """Lists of which the pairs' products are these terms, each a sign, m and x for m * 2^x: the one factor has the significand m, the other is a
+    power of two, and which of them is the greater depends on the turn."""
+    left, right = [], []
+    for negative, m, x in terms:
+        least, most = max(f.low, x + m.bit_length() - 1 - f.emax), min(f.emax, x - f.low)
+        assert least <= most
+        a = least + (most - least) * (turn % 3) // 2
+        left.append(f.number(negative, m, x - a))
+        right.append(f.number(0, 1, a))
+    return left, right
+
+
+def bias_examples():
+    """The largest number of E4M3B11FNUZ; 2^15 in binary16 with the bias 0, and 1 with its own; binary16 whose products are too small or too great;
+    and E2M1 whose least number is 8."""
+    rows = [
+        ((2, 4, 8, 11), VALUE, [0x7f], None, 0x7f, 0x00, 4 - 702),
+        ((2, 4, 8, 11), VALUE, [0x7f, 0x7f], None, 0x80, 0x14, 4 - 702),
+        ((0, 5, 16, 0), VALUE, [0x3c00, 0x3c00], None, 0x4000, 0x00, 15 - 702),
+        ((0, 5, 16, 15), VALUE, [0x3c00, 0x3c00], None, 0x4000, 0x00, 0 - 702),
+        ((0, 5, 16, 40), SQUARE, [0x0400], None, 0, 0x38, -77 - 702),
+        ((0, 5, 16, 40), VALUE, [0x0400], [0x0400], 0, 0x38, -77 - 702),
+        ((0, 5, 16, -40), SQUARE, [0x0400], None, 0x7c00, 0x54, 83 - 702),
+        ((0, 5, 16, -40), VALUE, [0x0400], [0x0400], 0x7c00, 0x54, 83 - 702),
+        ((0, 5, 16, -2000), SQUARE, [1], None, 0x7c00, 0xd4, 3983 - 702),
+        ((3, 2, 4, -3), VALUE, [1, 3], None, 4, 0x80, 4 - 702),
+        ((3, 2, 4, -3), VALUE, [1], [1], 6, 0x80, 7 - 702),
+        ((3, 2, 4, -3), SQUARE, [2], None, 7, 0x14, 9 - 702),
+    ]
+    cases = []
+    for f, summand, left, right, result, flags, edge in rows:
+        case = Case(f, {}, left, right, summand)
+        assert (case.result, case.flags, case.passes, case.edge) == (result, flags, 1, edge)
+        cases.append(case)
+    return cases
+
+
+def bias_roundings():
+    """In every kind, rounding and sign a sum of products that is a normal number and less than half a unit of its last place, half of it beside an
+    even or an odd number, or more than half."""
+    cases = []
+    for kind, mode, negative in product(range(4), range(8), range(2)):
+        i = len(cases)
+        side = ('below', 'on', 'on odd', 'above')[(kind + mode + negative) % 4]
+        f = Format(kind, *PRODUCTS[5 * i % 23])
+        # the place of the last digit: the lowest there is, the highest, or between them
+        least, most = max(2 * f.low + 4, f.low), min(f.emax, 2 * f.emax) - f.p + 1
+        unit = (least, (least + most) // 2, most)[i % 3]
+        m = (1 << f.fraction) + (i * 2654435761 % (1 << f.fraction) & ~1) + (side == 'on odd')
+        half = [(negative, 7, unit - 4)] if side == 'below' else [(negative, 1, unit - 1)]
+        more = [(negative, 1, unit - 3)] if side == 'above' else []
+        case = Case(f, {'rounding': mode, 'tininess': i % 2}, *products(f, [(negative, m, unit)] + half + more, i))
+        assert (case.side, case.below_zero) == (side, negative)
+        cases.append(case)
+    return cases
+
+
+def bias_overflows():
+    """In every kind and rounding: the product of two largest numbers; products of the least ones, where these are too great already; and the largest
+    number with half a unit of its last place."""
+    cases = []
+    for kind, mode in product(range(4), range(8)):
+        i = len(cases)
+        negative = (i + i // 8) % 2
+        c = {'rounding': mode, 'saturate': i // 3 % 2}
+        f = Format(kind, *HIGH_PRODUCTS[i % 9])
+        if i % 4 == 0:
+            big = f.largest(negative, f.p)
+            case = Case(f, c, [big], [f.largest(0, f.p)])
+        elif i % 4 == 1:
+            f = Format(kind, *VAST[i // 4 % 4])
+            case = Case(f, c, [1, f.sign + 1], None, SQUARE)
+        elif i % 4 == 2:
+            m, unit = (1 << f.p) - 1 - (kind == NOINF), f.emax - f.p + 1
+            case = Case(f, c, *products(f, [(negative, m, unit), (negative, 1, unit - 1)], i))
+        else:
+            f = Format(kind, *VAST[i // 4 % 4])
+            case = Case(f, c, [power(f, f.emin, negative, 1)], [1])
+        assert case.flags & OVERFLOW or i % 4 == 2
+        cases.append(case)
+    return cases
+
+
+def bias_tiny():
+    """In every kind and rounding: the product of two largest numbers, where it is too small; the least normal number less half or a quarter of the
+    least number; the least number and its half, or twice that and its half; and an exact sum of subnormal numbers."""
+    cases = []
+    for kind, mode in product(range(4), range(8)):
+        i = len(cases)
+        negative = (i + i // 8) % 2
+        c = {'rounding': mode, 'tininess': (i // 4 + kind) % 2, 'flush': int(i % 7 == 6)}
+        f = Format(kind, *LOW_PRODUCTS[i % 13])
+        if i % 4 == 0:
+            f = Format(kind, *VANISHING[i // 4 % 4])
+            case = Case(f, c, [f.largest(negative, f.p)], [f.largest(0, f.p)])
+        elif i % 4 == 1:
+            case = Case(f, c, *products(f, [(negative, 1, f.emin), (1 - negative, 1, f.low - 1 - i // 16)], i))
+        elif i % 4 == 2:
+            case = Case(f, c, *products(f, [(negative, 1 + i // 4 % 2, f.low), (negative, 1, f.low - 1)], i))
+        else:
+            f = Format(kind, *(PRODUCTS + VAST + VANISHING)[3 * i % 31])
+            case = Case(f, c, [f.number(negative, 1, f.low), f.number(negative, 1, f.low)])
+        assert case.flags & TINY or c['tininess']
+        cases.append(case)
+    return cases
+
+
+def bias_ends():
+    """The greatest bias and the least, in every kind: numbers and a tie, terms that cancel, subnormal numbers, squares, products."""
+    cases = []
+    for i, (kind, bias, pair) in enumerate(product(range(4), (2 ** 28, -2 ** 28), ((11, 64), (28, 64)))):
+        c = {'rounding': i % 8, 'tininess': i // 8, 'daz': int(i % 5 == 4)}
+        f = Format(kind, *pair, bias)
+        t = f.emin + i
+        cases.append(Case(f, c, [power(f, t + f.p, i % 2, 1), power(f, t, i % 2), 1]))
+        f = Format(kind, *((5, 16), (4, 8), (28, 30))[i % 3], bias)
+        big, some = f.largest(0, f.p), power(f, f.emin + 1)
+        # a sum and one of products, for each kind and bias
+        turn = '0213130203121203'[i]
+        if turn == '0':
+            cases.append(Case(f, c, [1, some, f.sign + some, f.sign + 2, 3]))
+        elif turn == '3':
+            cases.append(Case(f, c, [1, f.sign + big], [2, 1]))
+        else:
+            cases.append(Case(f, c, [some, f.sign + 1], None, int(turn)))
+    return cases
+
+
+def bias_own(draw):
+    """The bias that the kind has anyway: every answer as without it."""
+    cases = []
+    for kind, pair in product(range(4), ((4, 8), (5, 16), (11, 64), (28, 64))):
+        plain = drawn(draw, Format(kind, *pair), (mixed, near_tie, cancelling))
+        case = Case(Format(kind, *pair, own_bias(kind, pair[0])), plain.c, plain.left, plain.right, plain.summand)
+        assert case.answer() == plain.answer()
+        cases.append(case)
+    return cases
+
+
+def bias_orders(draw):
+    formats = (0, 11, 64, 40), (1, 11, 64, -2000), (2, 5, 16, -40), (3, 28, 64, 2 ** 28), (0, 8, 32, -40)
+    return in_five_orders(draw, 25, lambda n: Format(*formats[n // 5]))
+
+
+def bias_refusals():
+    """3 for the bias: off by one, far off, and right in its low bits alone. Other refusals at once with it, 1 and 2 before it; and by themselves,
+    beside a bias in its range. The biases at both ends are accepted."""
+    cases = []
+    far = 2 ** 28 + 1, 2 ** 63 - 1, 2 ** 32 + 15
+    for bias in (*far, *(-n for n in far)):
+        cases.append(Case((0, 5, 16, bias), {}, [ONE]))
+        cases.append(Case((3, 5, 16, bias), {}, [ONE], [ONE]))
+    for bias in (2 ** 28, -2 ** 28):
+        cases.append(Case((0, 5, 16, bias), {}, [ONE]))
+    for i, numbers in enumerate(({1, 3}, {2, 3}, {3, 4}, {3, 7}, {3, 5}, {1, 2, 3}, {3, 4, 5, 7}, {1, 2, 3, 4, 5, 7})):
+        bias = (far[i % 2], -far[i % 2])[i // 2 % 2]
+        cases.append(spoiled(numbers, 5 in numbers or i % 2 == 1, i % 4, bias))
+    for i, number in enumerate((1, 2, 4, 7, 5)):
+        cases.append(spoiled({number}, number == 5 or i % 2 == 1, i % 4, (-40, 0, 40, 2000, 2 ** 28)[i]))
+    for f in ((4, 5, 16, 15), (0, 1, 16, 0), (0, 29, 64, 2 ** 27), (1, 5, 6, 2 ** 28 + 1)):
+        cases.append(Case(f, {}, []))
     return cases
 
 
@@ -912,6 +1111,17 @@ def sections():
         ('two refusals at once', two_refusals()),
         ('more refusals at once', more_refusals()),
     ]
+    draw = Draw(28)
+    made += [
+        ('a named bias: examples', bias_examples()),
+        ('a named bias: roundings of products', bias_roundings()),
+        ('a named bias: overflow', bias_overflows()),
+        ('a named bias: tiny results', bias_tiny()),
+        ('a named bias: the greatest and the least', bias_ends()),
+        ("a named bias: the kind's own", bias_own(draw)),
+        ('a named bias: the same list in five orders', bias_orders(draw)),
+        ('a named bias: refusals', bias_refusals()),
+    ]
     # every eighth accepted call gets a buffer of another length
     accepted = [case for _, cases in made for case in cases if not case.holds]
     for i, case in enumerate(accepted):
@@ -925,15 +1135,18 @@ def texts(made):
     agreed = lambda name, n: '%s words %d, bytes %d, entries %d of %d agree\n' % (dots(name), n, n, n, n)
     stdin = '%02x\n' % len(made)
     for name, cases in made:
+        biased = cases[0].named is not None
+        assert all((case.named is not None) == biased for case in cases)
         most = LONG if any(len(case.right or []) > VALUES // 2 for case in cases) else VALUES
-        stdin += '%s %s %04x\n' % (dots(name), 'l' if most == LONG else 'r', len(cases)) + ''.join(case.row(most) for case in cases)
+        letter = 'b' if biased else 'l' if most == LONG else 'r'
+        stdin += '%s %s %04x\n' % (dots(name), letter, len(cases)) + ''.join(case.row(most) for case in cases)
     stdout = ''.join(agreed(name, len(cases)) for name, cases in made)
     stdout += agreed('all of these', sum(len(cases) for _, cases in made))
     # asked by the program itself, which knows the twelve answers from the table of refusals
     stdout += dots('refusals by the number of elements') + ' 12 of 12 agree\n'
-    rows = pence_rows()
-    stdin += '%04x\n' % len(rows) + ''.join(rows)
-    stdout += dots('pence of one encoding') + ' %d of %d agree\n' % (len(rows), len(rows))
+    for name, rows in (('pence of one encoding', pence_rows()), ('pence of one encoding, a bias named', biased_pence_rows())):
+        stdin += '%04x\n' % len(rows) + ''.join(rows)
+        stdout += dots(name) + ' %d of %d agree\n' % (len(rows), len(rows))
     return stdin, stdout
 
 
@@ -971,20 +1184,24 @@ def check():
     wrong = rows = 0
     at = 1
     for _ in range(int(lines[0], 16)):
-        name, n = lines[at][:NAME].rstrip('. '), int(lines[at][NAME + 2:], 16)
+        name, letter, n = lines[at][:NAME].rstrip('. '), lines[at][NAME + 1], int(lines[at][NAME + 2:], 16)
+        most = LONG if letter == 'l' else VALUES
         for i, row in enumerate(lines[at + 1:at + 1 + n]):
             rows += 1
-            case = case_of(row)
-            if case.row((len(row) - HEAD) // 17) != row:
+            case = case_of(row, most, letter == 'b')
+            if case.row(most) != row:
                 wrong += 1
                 print('%s, row %d (line %d):\n  listed %s\n  model  %s' % (name, i + 1, at + 2 + i, row[32:78], case.answer()))
         at += 1 + n
-    assert at + 1 + int(lines[at], 16) == len(lines)
-    for i, (row, made) in enumerate(zip(lines[at + 1:], pence_rows(), strict=True)):
-        rows += 1
-        if row != made:
-            wrong += 1
-            print('pence, row %d (line %d):\n  listed %s  model  %s' % (i + 1, at + 2 + i, row, made), end='')
+    for made in (pence_rows(), biased_pence_rows()):
+        n = int(lines[at], 16)
+        for i, (row, other) in enumerate(zip(lines[at + 1:at + 1 + n], made, strict=True)):
+            rows += 1
+            if row != other:
+                wrong += 1
+                print('pence, row %d (line %d):\n  listed %s  model  %s' % (i + 1, at + 2 + i, row, other), end='')
+        at += 1 + n
+    assert at == len(lines)
     print(rows - wrong, 'of', rows, 'rows agree with the model')
     with open(os.path.join(HERE, 'stdout')) as file:
         same = texts(sections()) == (''.join(lines), file.read())
@@ -1018,7 +1235,12 @@ def fewest(label, cases, keys, *sides):
 
 
 def cover():
-    every = [case for _, cases in sections() for case in cases]
+    rows = [case for _, cases in sections() for case in cases]
+    cover_plain([case for case in rows if case.named is None])
+    cover_biased([case for case in rows if case.named is not None])
+
+
+def cover_plain(every):
     accepted = [case for case in every if case.refusal == 0]
     where = lambda test: [case for case in accepted if test(case)]
     modes, two, kinds = range(8), range(2), range(4)
@@ -1055,28 +1277,60 @@ def cover():
            list(combinations((1, 2, 3, 4, 5, 7), 2)))
 
 
+def one_in(f):
+    """Where 1 lies among the numbers of a format."""
+    return 'below' if f.low > 0 else 'above' if f.emax < 0 else 'subnormal' if f.emin > 0 else 'normal'
+
+
+def cover_biased(every):
+    accepted = [case for case in every if case.refusal == 0]
+    where = lambda test: [case for case in accepted if test(case)]
+    modes, two, kinds, places = range(8), range(2), range(4), ('below', 'subnormal', 'normal', 'above')
+    print('%5d  rows that name a bias, %d of them accepted' % (len(every), len(accepted)))
+    fewest('kind and rounding', accepted, lambda c: (c.kind, c.c['rounding']), kinds, modes)
+    fewest('sum, magnitudes, squares, dot', accepted, lambda c: ((c.right is not None) * 3 or c.summand,), range(4))
+    fewest('1 below all numbers, subnormal, normal, above all numbers; by kind', accepted, lambda c: (one_in(c.format()), c.kind), places, kinds)
+    fewest('products of which the least lies above the least number; square and dot', where(lambda c: c.is_product() and c.format().low > 0),
+           lambda c: (c.right is not None,), (False, True))
+    fewest('products by rounding, side of a tie (below, on even, on odd, above)', where(Case.is_product), lambda c: (c.c['rounding'], c.side),
+           modes, ('below', 'on', 'on odd', 'above'))
+    fewest('overflow by kind, saturation', where(lambda c: c.flags & OVERFLOW), lambda c: (c.kind, c.c['saturate']), kinds, two)
+    fewest('tiny by kind, tininess', where(lambda c: c.flags & TINY), lambda c: (c.kind, c.c['tininess']), kinds, two)
+    fewest('tiny and flushed, by tininess', where(lambda c: c.flags & TINY and c.c['flush']), lambda c: (c.c['tininess'],), two)
+    fewest('lists with a subnormal operand, by denormals-are-zero', where(lambda c: c.flags & SUBNORMAL), lambda c: (c.c['daz'],), two)
+    fewest('the greatest bias and the least, by kind, sum or product', accepted, lambda c: (c.named, c.kind, c.is_product()),
+           (2 ** 28, -2 ** 28), kinds, (False, True))
+    fewest("the kind's own, by kind", where(lambda c: c.named == own_bias(c.kind, c.e)), lambda c: (c.kind,), kinds)
+    fewest('3 for the bias, alone and beside 1, 2, 4, 5 and 7', [c for c in every if abs(c.named) > LARGEST_BIAS],
+           lambda c: (tuple(sorted(c.holds - {3})),), [(), (1,), (2,), (4,), (5,), (7,), (1, 2), (4, 5, 7), (1, 2, 4, 5, 7)])
+    fewest('1, 2, 3, 4, 5 and 7 beside a bias in its range', [c for c in every if abs(c.named) <= LARGEST_BIAS],
+           lambda c: tuple(c.holds), (1, 2, 3, 4, 5, 7))
+
+
 # ---- pence
 
+def pence_row(f, b):
+    """An encoding with its figure in pence, refusal and place."""
+    kind, e, w, bias = (*f, None)[:4] if isinstance(f, tuple) else (f.kind, f.e, f.w, f.named)
+    figure, refusal, place = pence(kind, e, w, b, bias)
+    text = 'p %x %02x %02x %016x %s %x %x' % (kind, e, w, b, signed(figure, 16), refusal, place)
+    assert len(text) == 48
+    return text + ('\n' if bias is None else ' %s\n' % signed(bias, 16))
+
+
+def pence_beside(f, m, x):
+    """m * 2^x and its negative, and the encodings beside them."""
+    b = f.number(0, m, x)
+    return [pence_row(f, near + sign) for near in (b, b - 1, b + 1) for sign in (0, f.sign)]
+
+
 def pence_rows():
-    """Encodings, each with its figure in pence, refusal and place."""
     rows = []
-
-    def add(f, b):
-        kind, e, w = f if isinstance(f, tuple) else (f.kind, f.e, f.w)
-        figure, refusal, place = pence(kind, e, w, b)
-        rows.append('p %x %02x %02x %016x %s%016x %x %x\n' % (kind, e, w, b, '-' if figure < 0 else '+', abs(figure), refusal, place))
-        assert len(rows[-1]) == 49
-        return figure, refusal
-
-    def both(f, m, x):
-        """m * 2^x and its negative, and the encodings beside it."""
-        b = f.number(0, m, x)
-        for near in (b, b - 1, b + 1):
-            for sign in (0, f.sign):
-                add(f, near + sign)
-
-    assert add(DOUBLE, 0x3fc0000000000000) == (13, 0)
-    assert add(DOUBLE, 0xbfc0000000000000) == (-13, 0)
+    add = lambda f, b: rows.append(pence_row(f, b))
+    both = lambda f, m, x: rows.extend(pence_beside(f, m, x))
+    add(DOUBLE, 0x3fc0000000000000)
+    add(DOUBLE, 0xbfc0000000000000)
+    assert pence(0, 11, 64, 0x3fc0000000000000) == (13, 0, 0)
     # ties: odd multiples of 1/8
     for m in (1, 3, 5, 7, 9, 1001, 2 ** 40 + 1):
         both(DOUBLE, m, -3)
@@ -1112,6 +1366,46 @@ def pence_rows():
         e = 2 + i // 4
         f = Format(i % 4, e, draw.choice(widths(e)))
         add(f, draw.bits(f.w))
+    return rows
+
+
+def biased_pence_rows():
+    """The same with a named bias."""
+    rows = []
+    add = lambda f, b: rows.append(pence_row(f, b))
+    # 30 in E4M3B11FNUZ, and 32 in E2M1
+    for f, b, figure in (((2, 4, 8, 11), 0x7f, 3000), ((2, 4, 8, 11), 0xff, -3000), ((3, 2, 4, -3), 4, 3200), ((3, 2, 4, -3), 12, -3200)):
+        assert pence(*f[:3], b, f[3]) == (figure, 0, 0)
+        add(f, b)
+    # the greatest bias and the least: less than half a penny, or too much; with E 28 the greatest leaves numbers just below 1
+    for kind, bias in product(range(4), (2 ** 28, -2 ** 28)):
+        f = Format(kind, *((11, 64), (5, 16), (4, 8))[kind % 3], bias)
+        for b in (1, f.largest(1, f.p)):
+            add(f, b)
+        f = Format(kind, 28, (64, 30)[kind % 2], bias)
+        for b in (f.largest(0, f.p), f.sign + 1):
+            add(f, b)
+    # infinities and NaNs
+    for f, b in (((0, 5, 16, 0), 0x7c00), ((0, 5, 16, -2 ** 28), 0xfe00), ((1, 4, 8, 40), 0x7f), ((2, 4, 8, -40), 0x80)):
+        add(f, b)
+    # the kind's own
+    for kind in range(4):
+        f = Format(kind, 11, 64, own_bias(kind, 11))
+        b = power(f, 6, kind % 2, 0x123456789abcd)
+        assert pence(kind, 11, 64, b, f.named) == pence(kind, 11, 64, b)
+        add(f, b)
+    # ties, odd multiples of 1/8; and the largest figures
+    for f, m in (((0, 5, 16, 0), 1), ((1, 4, 8, 1), 1), ((2, 11, 64, -40), 3), ((3, 11, 64, 2000), 1001)):
+        rows += pence_beside(Format(*f), m, -3)
+    for f in ((0, 11, 64, 40), (3, 7, 64, 20)):
+        f, m = Format(*f), LARGEST_PENCE // 100
+        drop = max(0, m.bit_length() - f.p)
+        rows += pence_beside(f, m >> drop, drop)
+    # refusals 3 and 7, and 3 before 7 before 8
+    for f, b in (((0, 5, 16, 2 ** 28 + 1), ONE), ((0, 5, 16, -2 ** 28 - 1), ONE), ((2, 4, 8, 2 ** 63 - 1), 0x7f), ((2, 4, 8, 1 - 2 ** 63), 0x180),
+                 ((1, 4, 8, 2 ** 32 + 7), 0x17f), ((4, 11, 64, 0), 1), ((0, 5, 6, -40), STRAY), ((0, 5, 16, 40), STRAY), ((0, 5, 16, -40), 0x17e00),
+                 ((3, 2, 4, -3), 16)):
+        add(f, b)
     return rows
 
 

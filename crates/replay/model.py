@@ -1,4 +1,4 @@
-"""What document 01 says of a total, and which way its result leans, in whole numbers of any length.
+"""What document 01 says of a total, and document 02 of which way its result leans and of a named bias, in whole numbers of any length.
 
 Written from the text of document 01, and from the Rust's where document 01
 names a function of it (the choice among NaNs, overflow, the largest number).
@@ -16,16 +16,19 @@ RANGES = (8, 2, 4, 2, 2, 2, 2)
 PLAIN = dict.fromkeys(SETTINGS, 0)
 LIMIT = 1048576
 LARGEST_PENCE = 9223372036854775807
+LARGEST_BIAS = 268435456
 
 
 # ---- formats
 
 class Format:
-    def __init__(self, kind, e, w):
-        self.kind, self.e, self.w = kind, e, w
+    """A format. It may name a bias, else it has that of its kind."""
+
+    def __init__(self, kind, e, w, bias=None):
+        self.kind, self.e, self.w, self.named = kind, e, w, bias
         self.fraction = w - e - 1
         self.p = w - e
-        self.bias = 2 ** (e - 1) - (0 if kind == FNUZ else 1)
+        self.bias = own_bias(kind, e) if bias is None else bias
         self.emin = 1 - self.bias
         self.emax = 2 ** e - (2 if kind == IEEE else 1) - self.bias
         self.ones = 2 ** e - 1
@@ -87,8 +90,12 @@ class Format:
         return self.number(negative, m, self.emax - q + 1)
 
 
-def valid_format(kind, e, w):
-    return kind <= 3 and 2 <= e <= 28 and e + 2 <= w <= 64
+def own_bias(kind, e):
+    return 2 ** (e - 1) - (0 if kind == FNUZ else 1)
+
+
+def valid_format(kind, e, w, bias=None):
+    return kind <= 3 and 2 <= e <= 28 and e + 2 <= w <= 64 and abs(bias or 0) <= LARGEST_BIAS
 
 
 # ---- one rounding
@@ -330,7 +337,7 @@ def stray(w, values):
     return [i for i, v in enumerate(values) if v >> w]
 
 
-def conditions(kind, e, w, c, summand, left, right, more, room):
+def conditions(kind, e, w, bias, c, summand, left, right, more, room):
     """The numbers of the table whose conditions hold. A right list makes it a
     dot; more is the number of bytes behind the values of either list, and
     room the length of the answer buffer of a byte entry."""
@@ -339,7 +346,7 @@ def conditions(kind, e, w, c, summand, left, right, more, room):
         holds.add(1)
     if room < 24:
         holds.add(2)
-    if not valid_format(kind, e, w):
+    if not valid_format(kind, e, w, bias):
         holds.add(3)
     if any(c[name] >= most for name, most in zip(SETTINGS, RANGES)) or c['precision'] > max(w - e, 0):
         holds.add(4)
@@ -356,13 +363,13 @@ def conditions(kind, e, w, c, summand, left, right, more, room):
 
 # ---- pence
 
-def pence(kind, e, w, b):
+def pence(kind, e, w, b, bias=None):
     """The figure, the refusal and the place."""
-    if not valid_format(kind, e, w):
+    if not valid_format(kind, e, w, bias):
         return 0, 3, 0
     if b >> w:
         return 0, 7, 0
-    v = Format(kind, e, w).decode(b)
+    v = Format(kind, e, w, bias).decode(b)
     if v[0] in ('nan', 'infinity'):
         return 0, 8, 0
     if v[0] == 'zero':

@@ -4,12 +4,12 @@
 
 use std::process::ExitCode;
 
-use cases::{Answer, Case, Operation, Options, Oracle};
+use cases::{Answer, Case, Format, Operation, Options, Oracle};
 use floaty::oracle::{self, Table};
 
 /// The original's total of an accepted case.
 fn total(table: &Table, case: &Case) -> Answer {
-    let total = table.get(case.format).expect("cases are drawn from the compiled formats");
+    let total = table.get(case.format.numbers, case.format.bias).expect("cases are drawn from the compiled formats");
     let operation = match case.operation {
         Operation::Sum(summand) => oracle::Operation::Sum(summand),
         Operation::Dot => oracle::Operation::Dot,
@@ -42,6 +42,7 @@ fn main() -> ExitCode {
     formats_finite::fill(&mut table);
     // a panic of the original is caught and reported as a difference
     std::panic::set_hook(Box::new(|_| {}));
-    let oracle = Oracle { formats: table.formats(), total: &|case| total(&table, case) };
+    let formats = table.formats().into_iter().map(|(numbers, bias)| Format { numbers, bias }).collect();
+    let oracle = Oracle { formats, total: &|case| total(&table, case) };
     if cases::run(&options, &oracle) { ExitCode::SUCCESS } else { ExitCode::FAILURE }
 }

@@ -1,4 +1,4 @@
-//! The two byte entries of `libtotals.a`, as they are.
+//! The four byte entries of `libtotals.a`, as they are.
 //!
 //! The numbers and the layout of the answer are those of the repository's `docs/SPECIFICATION.md`.
 //! For most callers [`Totals`](crate::Totals) is the better way in.
@@ -38,6 +38,45 @@ mod entry {
             kind: u64,
             exponent_bits: u64,
             width: u64,
+            rounding: u64,
+            tininess: u64,
+            nan_propagation: u64,
+            default_nan_negative: u64,
+            flush_to_zero: u64,
+            denormals_are_zero: u64,
+            saturate: u64,
+            precision: u64,
+            left: *const u8,
+            left_len: usize,
+            right: *const u8,
+            right_len: usize,
+            answer: *mut u8,
+            answer_len: usize,
+        ) -> u64;
+        pub fn totals_sum_biased(
+            kind: u64,
+            exponent_bits: u64,
+            width: u64,
+            bias: i64,
+            rounding: u64,
+            tininess: u64,
+            nan_propagation: u64,
+            default_nan_negative: u64,
+            flush_to_zero: u64,
+            denormals_are_zero: u64,
+            saturate: u64,
+            precision: u64,
+            summand: u64,
+            values: *const u8,
+            values_len: usize,
+            answer: *mut u8,
+            answer_len: usize,
+        ) -> u64;
+        pub fn totals_dot_biased(
+            kind: u64,
+            exponent_bits: u64,
+            width: u64,
+            bias: i64,
             rounding: u64,
             tininess: u64,
             nan_propagation: u64,
@@ -117,6 +156,105 @@ pub fn dot(f: Format, c: Settings, left: &[u8], right: &[u8], answer: &mut [u8])
             f[0],
             f[1],
             f[2],
+            c[0],
+            c[1],
+            c[2],
+            c[3],
+            c[4],
+            c[5],
+            c[6],
+            c[7],
+            left.as_ptr(),
+            left.len(),
+            right.as_ptr(),
+            right.len(),
+            answer.as_mut_ptr(),
+            answer.len(),
+        )
+    }
+}
+
+/// [`sum`] in a format that names its bias, from −268,435,456 to 268,435,456. One outside is
+/// refused with 3.
+///
+/// Proved: the contract of `totals_sum_biased` in `crates/totals/src/entry.rt`; `named-own` in
+/// `crates/totals_spec/proofs/Promises.antt`: naming the kind's own bias is the same as naming none.
+///
+/// ```
+/// use fermuzhai::raw;
+///
+/// // the square of 2^(1 − bias), in binary16
+/// let least_normal = raw::bytes(&[0x0400]);
+/// let mut answer = [0; 24];
+/// assert_eq!(raw::sum_biased([0, 5, 16], -40, [0; 8], 2, &least_normal, &mut answer), 0);
+/// assert_eq!(answer[..2], [0x00, 0x7c]); // 2^82 is too large, and becomes an infinity
+/// assert_eq!(raw::sum_biased([0, 5, 16], 1, [0; 8], 2, &least_normal, &mut answer), 0);
+/// assert_eq!(answer[..2], [0x00, 0x04]); // 1
+/// assert_eq!(raw::sum_biased([0, 5, 16], 268_435_457, [0; 8], 2, &least_normal, &mut answer), 3);
+/// ```
+#[must_use = "the answer is written only where 0 is returned"]
+pub fn sum_biased(
+    f: Format,
+    bias: i64,
+    c: Settings,
+    summand: u64,
+    values: &[u8],
+    answer: &mut [u8],
+) -> u64 {
+    // SAFETY: as in `sum`.
+    unsafe {
+        entry::totals_sum_biased(
+            f[0],
+            f[1],
+            f[2],
+            bias,
+            c[0],
+            c[1],
+            c[2],
+            c[3],
+            c[4],
+            c[5],
+            c[6],
+            c[7],
+            summand,
+            values.as_ptr(),
+            values.len(),
+            answer.as_mut_ptr(),
+            answer.len(),
+        )
+    }
+}
+
+/// [`dot`] in a format that names its bias, as in [`sum_biased`].
+///
+/// Proved: the contract of `totals_dot_biased` in `crates/totals/src/entry.rt`; `named-own` in
+/// `crates/totals_spec/proofs/Promises.antt`.
+///
+/// ```
+/// use fermuzhai::raw;
+///
+/// // 0x70 is a half with a bias of 15, in eight bits with four of exponent; 0x68 is a quarter
+/// let halves = raw::bytes(&[0x70]);
+/// let mut answer = [0; 24];
+/// assert_eq!(raw::dot_biased([3, 4, 8], 15, [0; 8], &halves, &halves, &mut answer), 0);
+/// assert_eq!(answer[0], 0x68);
+/// ```
+#[must_use = "the answer is written only where 0 is returned"]
+pub fn dot_biased(
+    f: Format,
+    bias: i64,
+    c: Settings,
+    left: &[u8],
+    right: &[u8],
+    answer: &mut [u8],
+) -> u64 {
+    // SAFETY: as in `dot`.
+    unsafe {
+        entry::totals_dot_biased(
+            f[0],
+            f[1],
+            f[2],
+            bias,
             c[0],
             c[1],
             c[2],

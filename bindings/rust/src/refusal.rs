@@ -46,7 +46,8 @@ pub enum Refusal {
     },
     /// 2: an answer buffer under 24 bytes; only through [`raw`](crate::raw).
     ShortBuffer,
-    /// 3: the library has no such format.
+    /// 3: the library has no such format, or the format names a bias outside −268,435,456 to
+    /// 268,435,456.
     NoSuchFormat,
     /// 4: a precision above the format's digits.
     PrecisionOutOfRange {
@@ -118,7 +119,9 @@ impl Display for Refusal {
                 )
             }
             Self::ShortBuffer => out.write_str("the answer buffer has fewer than 24 bytes"),
-            Self::NoSuchFormat => out.write_str("there is no such format"),
+            Self::NoSuchFormat => out.write_str(
+                "there is no such format, or the bias that it names is out of its range",
+            ),
             Self::PrecisionOutOfRange { precision, digits } => {
                 write!(
                     out,
@@ -184,6 +187,10 @@ mod tests {
                     list: Some(List::Right),
                 },
                 "the length of the right list in bytes is not a multiple of 8",
+            ),
+            (
+                Refusal::NoSuchFormat,
+                "there is no such format, or the bias that it names is out of its range",
             ),
             (
                 Refusal::PrecisionOutOfRange {

@@ -81,7 +81,8 @@ impl<T: Value> Totals<T> {
     ///
     /// The first of these that holds:
     ///
-    /// - [`Refusal::NoSuchFormat`], of encodings of a format that the library does not have
+    /// - [`Refusal::NoSuchFormat`], of encodings of a format that the library does not have, or that
+    ///   names a bias out of its range
     /// - [`Refusal::PrecisionOutOfRange`]
     /// - [`Refusal::TooManyElements`], of more than 1,048,576 values
     /// - [`Refusal::StrayBit`], of an encoding that is wider than the format
@@ -156,8 +157,12 @@ impl<T: Value> Totals<T> {
     /// # Ok::<(), fermuzhai::Refusal>(())
     /// ```
     pub fn sum_bytes(&self, summand: Summand, values: &[u8]) -> Result<Record<T>, Refusal> {
-        self.answer(|f, c, answer| raw::sum(f, c, summand as u64, values, answer))
-            .map_err(|refusal| self.with_setting(refusal))
+        let summand = summand as u64;
+        self.answer(|f, c, answer| match self.format.named_bias {
+            None => raw::sum(f, c, summand, values, answer),
+            Some(bias) => raw::sum_biased(f, bias, c, summand, values, answer),
+        })
+        .map_err(|refusal| self.with_setting(refusal))
     }
 
     /// The dot product of values in bytes: eight a value, the least byte first.
@@ -169,8 +174,11 @@ impl<T: Value> Totals<T> {
     ///
     /// Proved: `dot-exact`, `dot-entry-order` in `crates/totals_spec/proofs/Promises.antt`.
     pub fn dot_bytes(&self, left: &[u8], right: &[u8]) -> Result<Record<T>, Refusal> {
-        self.answer(|f, c, answer| raw::dot(f, c, left, right, answer))
-            .map_err(|refusal| self.with_list(self.with_setting(refusal), left))
+        self.answer(|f, c, answer| match self.format.named_bias {
+            None => raw::dot(f, c, left, right, answer),
+            Some(bias) => raw::dot_biased(f, bias, c, left, right, answer),
+        })
+        .map_err(|refusal| self.with_list(self.with_setting(refusal), left))
     }
 
     /// Lends an entry 24 bytes and reads what it leaves there.

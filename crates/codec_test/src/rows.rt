@@ -10,6 +10,7 @@ use binary::operand;
 use exact::Unrounded;
 use exact::round;
 use format::Format;
+use format::Named;
 use format::bias;
 use format::depth;
 use format::digits;
@@ -46,6 +47,7 @@ fn format_at(s: &[u8]) -> Format {
         kind: number(s, 0, 1),
         exponent_bits: number(s, 1, 1),
         width: number(s, 2, 1),
+        named: Named::Nothing,
     }
 }
 
@@ -310,6 +312,7 @@ pub fn format_row(s: &[u8]) -> u64
         kind: number(s, 0, 1),
         exponent_bits: number(s, 2, 2),
         width: number(s, 5, 2),
+        named: Named::Nothing,
     };
     if valid_format(f) { widths(f, s) } else { 0 }
 }
@@ -332,6 +335,7 @@ pub fn settings_row(s: &[u8]) -> u64
         kind: number(s, 0, 1),
         exponent_bits: number(s, 2, 2),
         width: number(s, 5, 2),
+        named: Named::Nothing,
     };
     let c = Settings {
         rounding: number(s, 8, 1),

@@ -3,3 +3,4 @@ mod Standing
 mod Beyond
 mod Once
 mod Plan
+pub mod Raised

@@ -54,6 +54,10 @@ StandsAt true m unit x = (m * unit < x) × (x < suc m * unit)
 abbrev pub Stands : Unrounded → ℕ → Type 0
 Stands v x = StandsAt (v .sticky) (value (v .significand)) (2 ^ (v .position)) x
 
+-- the same value, counted from a unit n positions lower
+abbrev pub raisedBy : ℕ → Unrounded → Unrounded
+raisedBy n v = record { negative = v .negative; sticky = v .sticky; position = v .position + n; significand = v .significand }
+
 -- the position just above a value's highest bit
 abbrev pub endOf : Unrounded → ℕ
 endOf v = v .position + bitLength (value (v .significand))
@@ -83,7 +87,7 @@ pub record Rounds (f : spec.Format) (c : env.Settings) (g : ℕ) (v : Unrounded)
   pub settings : SettingsBounds f c
   pub some : 0 < value (v .significand)
   pub high : 64 ≤ v .position
-  pub low : v .position < 2 ^ 62
+  pub low : v .position ≤ 2 ^ 62 + 2 ^ 28
   pub grid : g < 2 ^ 62
   pub long : v .sticky ≡ true → 2 ^ suc (spec.digits f) ≤ value (v .significand)
 

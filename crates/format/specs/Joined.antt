@@ -1,14 +1,22 @@
 -- The code's structs and enums as the records and data of totals_spec.
+use mathlib.Core.Option.{Option, none, some}
+use lib.IntN.{ℤ}
 use Rattle.totals_spec.specs.Format as spec
 use Rattle.totals_spec.specs.Settings as env
 use Rattle.totals_spec.specs.Decode as dec
 use Rattle.format.specs.declared.Format.{Format}
+use Rattle.format.specs.declared.Named.{Named}
+use Rattle.format.specs.declared.Named.the-variants.{Nothing, Bias}
 use Rattle.format.specs.declared.env.Settings.{Settings}
 use Rattle.format.specs.declared.unpacked.Unpacked.{Unpacked}
 use Rattle.format.specs.declared.unpacked.Unpacked.the-variants.{Zero, Finite, Infinity, Nan}
 
+abbrev pub namedOf : Named → Option ℤ
+namedOf Nothing = none
+namedOf (Bias b) = some b
+
 abbrev pub formatOf : Format → spec.Format
-formatOf f = record { kind = f .kind; E = f .«exponent_bits»; W = f .width }
+formatOf f = record { kind = f .kind; E = f .«exponent_bits»; W = f .width; named = namedOf (f .named) }
 
 abbrev pub settingsOf : Settings → env.Settings
 settingsOf c = record {

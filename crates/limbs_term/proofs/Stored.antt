@@ -30,7 +30,7 @@ whole-word : (c w : ℕ) → c ≡ 1 → w ≡ 18446744073709551615 → c + w �
 whole-word c w e f = omega arith
 
 -- what `add_word` says
-abbrev Adds : ℕ → ℕ → ℕ → Sum → Type 0
+abbrev pub Adds : ℕ → ℕ → ℕ → Sum → Type 0
 Adds a b c r = (r .word + r .carry * 2 ^ 64 ≡ a + b + c) × (r .carry ≤ 1)
 
 -- what `goes_on` says of a word that was `old`, where nothing goes on

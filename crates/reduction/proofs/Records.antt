@@ -40,10 +40,10 @@ minus-is a zero = ap pos (add-zero a) ∙ sym (ap (λ (t : Bool). cond t (negsuc
     back a = omega arith
 minus-is a (suc b) = refl
 
-pub positions : (a b : ℕ) → a < 2 ^ 62 → b < 2 ^ 62 → toZ w64 a -ℤ toZ w64 b ≡ subℕ a b
+pub positions : (a b : ℕ) → a < 2 ^ 63 → b < 2 ^ 63 → toZ w64 a -ℤ toZ w64 b ≡ subℕ a b
 positions a b h k = rw (lt-ltb a (2 ^ 63) (omega arith), lt-ltb b (2 ^ 63) (omega arith)) (minus-is a b)
 
-pub position-fits : (a b : ℕ) → a < 2 ^ 62 → b < 2 ^ 62 → mag (subℕ a b) < 2 ^ 63
+pub position-fits : (a b : ℕ) → a < 2 ^ 63 → b < 2 ^ 63 → mag (subℕ a b) < 2 ^ 63
 position-fits a b h k = go (ltb a b) (nltb→le a b) (ltb→lt a b)
   where
     go : (t : Bool) → (T (not t) → b ≤ a) → (T t → a < b) → mag (cond t (negsuc (b - suc a)) (pos (a - b))) < 2 ^ 63

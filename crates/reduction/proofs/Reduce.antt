@@ -24,8 +24,8 @@ use Rattle.window.specs.Joined.{runOf}
 -- the record of a run of the chain, its sum rounded
 abbrev told : spec.Format → env.Settings → Bool → Bool → chain.Run → totals.Answer
 told f c products sub r =
-    totals.reported f sub products (settled (r .outcome))
-    (totals.sumRounded f c (spec.grid f products) (totals.towardsNegative c) (settled (r .outcome))) r
+    totals.reported f sub products (totals.onGrid f products (settled (r .outcome)))
+    (totals.sumRounded f c (spec.grid f products) (totals.towardsNegative c) (totals.onGrid f products (settled (r .outcome)))) r
 
 module _ {f : spec.Format} {c : env.Settings} {sub sig : Bool} {ops : List dec.Unpacked} {l : List terms.Item} {s : Scan}
     (g : Gathered f c sub sig ops l s) (products first : Bool) (d : Early) (h : Decides d c first s) where

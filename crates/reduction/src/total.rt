@@ -11,8 +11,10 @@ use format::env::Settings;
 use format::env::flag;
 use format::env::has_flag;
 use format::env::zero_sum_is_negative;
+use format::fall;
 use format::grid;
 use format::origin;
+use format::rise;
 use format::unpacked::Unpacked;
 use window::ExactSum;
 use window::Outcome;
@@ -120,11 +122,13 @@ pub fn special(f: Format, subnormal: bool, v: Unpacked, invalid: bool) -> Answer
 // The exact sum, rounded once. Terms that cancel give a zero.
 fn round_sum(f: Format, c: Settings, products: bool, e: ExactSum) -> Rounded
     requires { ⌜ RangeBounds (formatOf f) × SettingsBounds (formatOf f) (settingsOf c) × Ended (spec.digits (formatOf f)) e ⌝ }
-    ensures { λ r. ⌜ RoundedSum (formatOf f) (settingsOf c) products (settled.settled (outcomeOf e)) r ⌝ }
+    ensures { λ r. ⌜ RoundedSum (formatOf f) (settingsOf c) products (totals.onGrid (formatOf f) products (settled.settled (outcomeOf e))) r ⌝ }
 {
     let o = e.outcome;
     let Outcome::Zero = o else {
-        return round(f, c, grid(f, products), near_boundary(e));
+        let mut v = near_boundary(e);
+        v.position += rise(f, products);
+        return round(f, c, grid(f, products), v);
     };
     Rounded {
         value: Unpacked::Zero(zero_sum_is_negative(c)),
@@ -132,9 +136,9 @@ fn round_sum(f: Format, c: Settings, products: bool, e: ExactSum) -> Rounded
     }
 }
 
-// A position counted from the unit, as a position counted from the bit worth 1.
+// A position counted from the unit, as one counted from the bit worth 1.
 fn position_of(at: u64, origin: u64) -> i64
-    requires { ⌜ (at < 2 ^ 62) × (origin < 2 ^ 62) ⌝ }
+    requires { ⌜ (at < 2 ^ 63) × (origin < 2 ^ 63) ⌝ }
     ensures { λ r. ⌜ r ≡ subℕ at origin ⌝ }
 {
     (at as i64) - (origin as i64)
@@ -143,7 +147,7 @@ fn position_of(at: u64, origin: u64) -> i64
 // The record of a chain of passes.
 pub fn finish(f: Format, c: Settings, products: bool, subnormal: bool, e: ExactSum) -> Answer
     requires { ⌜ FormatBounds (formatOf f) × SettingsBounds (formatOf f) (settingsOf c) × Ended (spec.digits (formatOf f)) e ⌝ }
-    ensures { λ r. ⌜ answerOf r ≡ totals.reported (formatOf f) subnormal products (settled.settled (outcomeOf e)) (totals.sumRounded (formatOf f) (settingsOf c) (spec.grid (formatOf f) products) (totals.towardsNegative (settingsOf c)) (settled.settled (outcomeOf e))) (runOf e) ⌝ }
+    ensures { λ r. ⌜ answerOf r ≡ totals.reported (formatOf f) subnormal products (totals.onGrid (formatOf f) products (settled.settled (outcomeOf e))) (totals.sumRounded (formatOf f) (settingsOf c) (spec.grid (formatOf f) products) (totals.towardsNegative (settingsOf c)) (totals.onGrid (formatOf f) products (settled.settled (outcomeOf e)))) (runOf e) ⌝ }
 {
     let h = e.chain;
     let r = round_sum(f, c, products, e);
@@ -152,7 +156,7 @@ pub fn finish(f: Format, c: Settings, products: bool, subnormal: bool, e: ExactS
         result: encode(f, v),
         flags: flag(DENORMAL_INPUT, subnormal) + r.flags,
         passes: h.passes,
-        last_edge: position_of(h.edge, origin(f, products)),
+        last_edge: position_of(h.edge + fall(f, products), origin(f, products)),
         refusal: 0,
         place: 0,
         side: side_of(v, r.flags),

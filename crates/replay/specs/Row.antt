@@ -4,9 +4,11 @@ use mathlib.Core.List.{List}
 use Prim.Native.Nat.{ℕ, _+_, _%_, _^_}
 use lib.Dec.{eqb}
 use lib.IntN.{ℤ, pos, negℤ}
-use lib.ListN.{getD}
+use lib.ListN.{length, getD}
 use Rattle.hex.specs.Digits.{numberAt}
 use Rattle.format.specs.declared.Format.{Format}
+use Rattle.format.specs.declared.Named.{Named}
+use Rattle.format.specs.declared.Named.the-variants.{Nothing, Bias}
 use Rattle.format.specs.declared.env.Settings.{Settings}
 use Rattle.reduction.specs.declared.total.Answer.{Answer}
 
@@ -17,9 +19,6 @@ wordAt s at n = numberAt s at n % 2 ^ 64
 -- the letter d
 abbrev pub isDot : List ℕ → Bool
 isDot s = eqb (getD s 0 48) 100
-
-abbrev pub formatIn : List ℕ → Format
-formatIn s = record { kind = wordAt s 2 1; «exponent_bits» = wordAt s 4 2; width = wordAt s 7 2 }
 
 abbrev pub settingsIn : List ℕ → Settings
 settingsIn s = record {
@@ -37,6 +36,13 @@ settingsIn s = record {
 abbrev pub signedAt : List ℕ → ℕ → ℕ → ℤ
 signedAt s at n =
     cond (eqb (getD s at 48) 45) (negℤ (pos (wordAt s (at + 1) n % 2 ^ 63))) (pos (wordAt s (at + 1) n % 2 ^ 63))
+
+-- a bias, in the longer rows that name one
+abbrev pub namedIn : List ℕ → Named
+namedIn s = cond (eqb (length s) 301) (Bias (signedAt s 283 16)) (cond (eqb (length s) 67) (Bias (signedAt s 49 16)) Nothing)
+
+abbrev pub formatIn : List ℕ → Format
+formatIn s = record { kind = wordAt s 2 1; «exponent_bits» = wordAt s 4 2; width = wordAt s 7 2; named = namedIn s }
 
 abbrev pub answerIn : List ℕ → Answer
 answerIn s = record {

@@ -1,6 +1,7 @@
 // Refusal 6, by the number of elements alone: a list of more than 1,048,576 does not fit a program's stack, so the refusals are asked with its
 // length. A caller of the archive hands over such lists (bindings/rust).
 use format::Format;
+use format::Named;
 use format::env::Settings;
 use totals::refusal::dot_refusal;
 use totals::refusal::sum_refusal;
@@ -12,6 +13,7 @@ fn double(kind: u64) -> Format {
         kind,
         exponent_bits: 11,
         width: 64,
+        named: Named::Nothing,
     }
 }
 

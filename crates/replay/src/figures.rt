@@ -1,4 +1,6 @@
 // Rows of the pence of one encoding.
+use crate::row::BIASED_PENCE;
+use crate::row::PENCE;
 use crate::row::format_at;
 use crate::row::signed_at;
 use hex::number;
@@ -22,28 +24,40 @@ fn agrees(row: &[u8]) -> u64
     1
 }
 
-fn next_row() -> u64
+// Works a row out, and prints it where the answer disagrees.
+fn told(row: &[u8]) -> u64
     ensures { λ r. ⌜ r ≤ 1 ⌝ }
 {
-    let mut row = [0u8; 49];
-    io::read_full(0, &mut row);
-    let a = agrees(&row);
+    let a = agrees(row);
     if a == 0 {
         io::write_all(1, b"disagrees: ");
-        io::write_all(1, &row);
+        io::write_all(1, row);
     }
     a
 }
 
-// Reads n rows, and tells how many agree.
-pub fn figures(n: u64) -> u64
+fn next_row(biased: bool) -> u64
+    ensures { λ r. ⌜ r ≤ 1 ⌝ }
+{
+    if biased {
+        let mut row = [0u8; BIASED_PENCE];
+        io::read_full(0, &mut row);
+        return told(&row);
+    }
+    let mut row = [0u8; PENCE];
+    io::read_full(0, &mut row);
+    told(&row)
+}
+
+// Reads n rows, which name a bias or do not, and tells how many agree.
+pub fn figures(n: u64, biased: bool) -> u64
     requires { ⌜ n < 65536 ⌝ }
     ensures { λ r. ⌜ r ≤ n ⌝ }
 {
     let mut agreed: u64 = 0;
     let mut i: u64 = 0;
     while i < n {
-        agreed += next_row();
+        agreed += next_row(biased);
         i += 1;
     }
     agreed

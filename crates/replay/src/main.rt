@@ -8,6 +8,7 @@ mod ways;
 use counts::counts;
 use figures::figures;
 use hex::number;
+use row::BIASED;
 use row::LONG;
 use row::ROW;
 use ways::by_bytes;
@@ -56,13 +57,18 @@ fn counted(a: Agreed, row: &[u8]) -> Agreed
     }
 }
 
-// The next row, of twelve values or, a long one, of twenty-four.
-fn next_row(a: Agreed, long: bool) -> Agreed
+// The next row: a long one, one that names a bias, or one of twelve values.
+fn next_row(a: Agreed, letter: u8) -> Agreed
     requires { ⌜ (a .rows < 65536) × (a .words ≤ a .rows) × (a .bytes ≤ a .rows) × (a .entries ≤ a .rows) ⌝ }
     ensures { λ r. ⌜ (r .rows ≡ a .rows + 1) × (r .words ≤ r .rows) × (r .bytes ≤ r .rows) × (r .entries ≤ r .rows) ⌝ }
 {
-    if long {
+    if letter == b'l' {
         let mut row = [0u8; LONG];
+        io::read_full(0, &mut row);
+        return counted(a, &row);
+    }
+    if letter == b'b' {
+        let mut row = [0u8; BIASED];
         io::read_full(0, &mut row);
         return counted(a, &row);
     }
@@ -71,13 +77,13 @@ fn next_row(a: Agreed, long: bool) -> Agreed
     counted(a, &row)
 }
 
-fn next_rows(n: u64, long: bool) -> Agreed
+fn next_rows(n: u64, letter: u8) -> Agreed
     requires { ⌜ n < 65536 ⌝ }
     ensures { λ r. ⌜ (r .rows < 65536) × (r .words ≤ r .rows) × (r .bytes ≤ r .rows) × (r .entries ≤ r .rows) ⌝ }
 {
     let mut a = none();
     while a.rows < n {
-        a = next_row(a, long);
+        a = next_row(a, letter);
     }
     a
 }
@@ -102,7 +108,7 @@ fn section() -> Agreed
     io::read_full(0, &mut name);
     let mut count = [0u8; 8];
     io::read_full(0, &mut count);
-    let a = next_rows(number(&count, 3, 4) % 65536, count[1] == b'l');
+    let a = next_rows(number(&count, 3, 4) % 65536, count[1]);
     io::write_all(1, &name);
     report(a);
     a
@@ -131,12 +137,12 @@ fn sections(n: u64) -> Agreed
 }
 
 // Reads the rows of pence, their number first, and prints how many agree.
-fn report_figures() {
+fn report_figures(name: &[u8], biased: bool) {
     let mut head = [0u8; 5];
     io::read_full(0, &mut head);
     let n = number(&head, 0, 4) % 65536;
-    let agreed = figures(n);
-    io::write_all(1, b"pence of one encoding ...................... ");
+    let agreed = figures(n, biased);
+    io::write_all(1, name);
     io::print_decimal(1, agreed);
     io::write_all(1, b" of ");
     io::print_decimal(1, n);
@@ -152,5 +158,6 @@ fn main() {
     io::write_all(1, b"refusals by the number of elements ......... ");
     io::print_decimal(1, counts());
     io::write_all(1, b" of 12 agree\n");
-    report_figures();
+    report_figures(b"pence of one encoding ...................... ", false);
+    report_figures(b"pence of one encoding, a bias named ........ ", true);
 }

@@ -1,5 +1,6 @@
 // The fields of a row.
 use format::Format;
+use format::Named;
 use format::env::Settings;
 use hex::number;
 use reduction::total::Answer;
@@ -7,14 +8,21 @@ use values::put_word;
 ghost use mathlib.Core.Path.{_≡_};
 ghost use Prim.Native.Nat.{_<_, _≤_};
 ghost use lib.ListN.{length, getD};
-ghost use Rattle.replay.specs.Row.{wordAt, isDot, formatIn, settingsIn, signedAt, answerIn};
+ghost use Rattle.replay.specs.Row.{wordAt, isDot, namedIn, formatIn, settingsIn, signedAt, answerIn};
 
-// Where the values begin; and the length of a row of twelve of them, and of a long one, of twenty-four.
+// Where the values begin; and the length of a row of twelve of them, of a long one, of twenty-four, and of one that names a bias behind its twelve.
 const VALUES: usize = 79;
 
 pub const ROW: usize = 283;
 
 pub const LONG: usize = 487;
+
+pub const BIASED: usize = 301;
+
+// The length of a row of pence, and of one that names a bias.
+pub const PENCE: usize = 49;
+
+pub const BIASED_PENCE: usize = 67;
 
 fn byte_at(s: &[u8], i: usize) -> u8
     ensures { λ r. ⌜ r ≡ getD (now (s .entry)) i 48 ⌝ }
@@ -28,13 +36,28 @@ pub fn is_dot(s: &[u8]) -> bool
     byte_at(s, 0) == b'd'
 }
 
+// The bias behind all else, in a row that names one.
+fn named_at(s: &[u8]) -> Named
+    ensures { λ r. ⌜ r ≡ namedIn (now (s .entry)) ⌝ }
+{
+    if s.len() == BIASED {
+        return Named::Bias(signed_at(s, 283, 16));
+    }
+    if s.len() == BIASED_PENCE {
+        return Named::Bias(signed_at(s, 49, 16));
+    }
+    Named::Nothing
+}
+
 pub fn format_at(s: &[u8]) -> Format
     ensures { λ r. ⌜ r ≡ formatIn (now (s .entry)) ⌝ }
 {
+    let named = named_at(s);
     Format {
         kind: number(s, 2, 1),
         exponent_bits: number(s, 4, 2),
         width: number(s, 7, 2),
+        named,
     }
 }
 

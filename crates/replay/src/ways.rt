@@ -11,13 +11,16 @@ use crate::row::settings_at;
 use crate::row::summand_at;
 use crate::row::words_at;
 use format::Format;
+use format::Named;
 use format::env::Settings;
 use hex::number;
 use reduction::total::Answer;
 use totals::dot;
 use totals::dot_bytes;
 use totals::entry::totals_dot;
+use totals::entry::totals_dot_biased;
 use totals::entry::totals_sum;
+use totals::entry::totals_sum_biased;
 use totals::sum;
 use totals::sum_bytes;
 use values::put_word;
@@ -86,9 +89,28 @@ pub fn by_bytes(s: &[u8]) -> u64
     agrees(same(total_bytes(s), answer_at(s)))
 }
 
-fn enter_sum(s: &[u8], f: Format, c: Settings, answer: &mut [u8]) -> u64 {
-    let values = bytes_at(s, 0);
-    let n = length_at(s, 23, 26);
+// Through the entry that names a bias, where the row does.
+fn enter_sum(f: Format, c: Settings, u: u64, values: &[u8], answer: &mut [u8]) -> u64 {
+    let n = f.named;
+    if let Named::Bias(bias) = n {
+        return totals_sum_biased(
+            f.kind,
+            f.exponent_bits,
+            f.width,
+            bias,
+            c.rounding,
+            c.tininess,
+            c.nan_propagation,
+            c.default_nan_negative,
+            c.flush_to_zero,
+            c.denormals_are_zero,
+            c.saturate,
+            c.precision,
+            u,
+            values,
+            answer,
+        );
+    }
     totals_sum(
         f.kind,
         f.exponent_bits,
@@ -101,17 +123,33 @@ fn enter_sum(s: &[u8], f: Format, c: Settings, answer: &mut [u8]) -> u64 {
         c.denormals_are_zero,
         c.saturate,
         c.precision,
-        summand_at(s),
-        &values[..n],
+        u,
+        values,
         answer,
     )
 }
 
-fn enter_dot(s: &[u8], f: Format, c: Settings, answer: &mut [u8]) -> u64 {
-    let left = bytes_at(s, 0);
-    let right = right_bytes(s);
-    let n = length_at(s, 23, 26);
-    let m = length_at(s, 24, 27);
+fn enter_dot(f: Format, c: Settings, left: &[u8], right: &[u8], answer: &mut [u8]) -> u64 {
+    let n = f.named;
+    if let Named::Bias(bias) = n {
+        return totals_dot_biased(
+            f.kind,
+            f.exponent_bits,
+            f.width,
+            bias,
+            c.rounding,
+            c.tininess,
+            c.nan_propagation,
+            c.default_nan_negative,
+            c.flush_to_zero,
+            c.denormals_are_zero,
+            c.saturate,
+            c.precision,
+            left,
+            right,
+            answer,
+        );
+    }
     totals_dot(
         f.kind,
         f.exponent_bits,
@@ -124,8 +162,8 @@ fn enter_dot(s: &[u8], f: Format, c: Settings, answer: &mut [u8]) -> u64 {
         c.denormals_are_zero,
         c.saturate,
         c.precision,
-        &left[..n],
-        &right[..m],
+        left,
+        right,
         answer,
     )
 }
@@ -133,10 +171,14 @@ fn enter_dot(s: &[u8], f: Format, c: Settings, answer: &mut [u8]) -> u64 {
 fn enter(s: &[u8], answer: &mut [u8]) -> u64 {
     let f = format_at(s);
     let c = settings_at(s);
+    let left = bytes_at(s, 0);
+    let n = length_at(s, 23, 26);
     if is_dot(s) {
-        return enter_dot(s, f, c, answer);
+        let right = right_bytes(s);
+        let m = length_at(s, 24, 27);
+        return enter_dot(f, c, &left[..n], &right[..m], answer);
     }
-    enter_sum(s, f, c, answer)
+    enter_sum(f, c, summand_at(s), &left[..n], answer)
 }
 
 // The entry with as much of the buffer as the row says.

@@ -15,7 +15,8 @@ use Rattle.text.specs.Holds.{Holds, Puts}
 use Rattle.text.specs.FourLines.{penceFrom, fourLines}
 use Rattle.text.proofs.Grown.{puts-same}
 use Rattle.text.proofs.Spelt.{hex-length, decimal-length}
-use Rattle.text.proofs.Figures.{read, pence-same, pence-length}
+use Rattle.limbs.proofs.Signs.{read}
+use Rattle.text.proofs.Figures.{pence-same, pence-length}
 
 pub after-hex : {t r : Text} (n x : ℕ) → Puts t (hexText n x) r → r .length ≡ t .length + n
 after-hex {t} n x p = p .longer ∙ ap (λ (k : ℕ). t .length + k) (hex-length n x)

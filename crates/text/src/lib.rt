@@ -8,6 +8,7 @@ use crate::write::Text;
 use crate::write::answer_lines;
 use crate::write::refused_line;
 use format::Format;
+use format::Named;
 use format::env::Settings;
 use totals::pence::pence_of;
 use totals::sum;
@@ -23,6 +24,7 @@ fn sum_text(values: &[u64]) -> Text
         kind: 0,
         exponent_bits: 11,
         width: 64,
+        named: Named::Nothing,
     };
     let c = Settings {
         rounding: 0,

@@ -1,8 +1,8 @@
 // What the program writes: a text of at most 64 bytes, put together by value.
+use limbs::word::magnitude;
 ghost use mathlib.Core.List.{[], _∷_, _++_};
 ghost use mathlib.Core.Path.{_≡_};
 ghost use Prim.Native.Nat.{_+_, _^_, _≤_, _<_};
-ghost use lib.IntN.{natAbs};
 ghost use lib.ListN.{length};
 ghost use Rattle.totals_spec.specs.Program.{hexText, decimalText, penceText, refusedText, lineEnd};
 ghost use Rattle.text.specs.Holds.{Holds, Puts};
@@ -66,17 +66,6 @@ fn put_decimal(t: Text, x: u64) -> Text
     let mut digits = [0u8; 20];
     let k = io::decimal(x, &mut digits);
     put_bytes(t, &digits[..k])
-}
-
-// A number without its sign. The least one has no opposite in 64 bits, so the way leads over -1 - x.
-fn magnitude(x: i64) -> u64
-    ensures { λ r. ⌜ r ≡ natAbs x ⌝ }
-{
-    if x < 0 {
-        let below = -1 - x;
-        return below as u64 + 1;
-    }
-    x as u64
 }
 
 // A figure in pence, or the word none where it is refused.

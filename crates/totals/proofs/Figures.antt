@@ -14,7 +14,7 @@ use lib.Ieee.Digits.{size-lt, size-reaches}
 use mir.Syntax.{w64}
 use mir.Val.{SFits, toZ, ofZ}
 use mir.ValLaws.{toZ-pos, toZ-ofZ}
-use Rattle.totals_spec.specs.Format.{Format, validFormat, depth}
+use Rattle.totals_spec.specs.Format.{Format, validFormat, depth, lift}
 use Rattle.totals_spec.specs.Decode.{Unpacked, decode, operand}
 use Rattle.totals_spec.specs.Bounds.{FormatBounds}
 use Rattle.totals_spec.specs.Totals.{stray}
@@ -173,7 +173,7 @@ module _ (f : Format) (b : ℕ) where
     unfolding penceAnswer
     stray-bit e = rw (valid, e)
 
-    pub no-stray-bit : stray f b ≡ false → figureOf (depth f) (decode f b) ≡ penceAnswer f b
+    pub no-stray-bit : stray f b ≡ false → figureOf (depth f) (lift f) (decode f b) ≡ penceAnswer f b
     unfolding penceAnswer
     no-stray-bit e = rw (valid, e)
 

@@ -1,8 +1,11 @@
 -- What a byte entry leaves behind: the number that it gives, and the buffer. And a format and settings from an entry's numbers, in its order.
 use mathlib.Core.Path.{_≡_}
+use mathlib.Core.Bool.{Bool, cond}
 use mathlib.Core.List.{List}
+use mathlib.Core.Option.{none, some}
 use Prim.Native.Nat.{ℕ, _^_, _<_, _≤_}
 use lib.ListN.{length}
+use lib.IntN.{ℤ}
 use Rattle.totals_spec.specs.Format.{Format}
 use Rattle.totals_spec.specs.Settings.{Settings}
 use Rattle.totals_spec.specs.Totals.{Answer}
@@ -21,7 +24,13 @@ pub record Fits (a : Answer) (buffer : List ℕ) : Type 0 where
   pub side : a .side < 4
 
 abbrev pub formatFrom : (kind exponentBits width : ℕ) → Format
-formatFrom k e w = record { kind = k; E = e; W = w }
+formatFrom k e w = record { kind = k; E = e; W = w; named = none }
+
+abbrev pub formatWith : (kind exponentBits width : ℕ) (named : Bool) (bias : ℤ) → Format
+formatWith k e w n b = record { kind = k; E = e; W = w; named = cond n (some b) none }
+
+abbrev pub biasedFrom : (kind exponentBits width : ℕ) (bias : ℤ) → Format
+biasedFrom k e w b = record { kind = k; E = e; W = w; named = some b }
 
 abbrev pub settingsFrom : (rounding tininess nanPropagation defaultNanNegative flushToZero denormalsAreZero saturate precision : ℕ) → Settings
 settingsFrom r t n s f d a q = record {

@@ -2,12 +2,15 @@
 use crate::dot_bytes;
 use crate::sum_bytes;
 use format::Format;
+use format::Named;
 use format::env::Settings;
 use reduction::total::Answer;
 use values::put_word;
+ghost use mathlib.Core.Path.{_≡_};
 ghost use Rattle.totals_spec.specs.Bytes as bytes;
+ghost use Rattle.format.specs.Joined.{formatOf, settingsOf};
 ghost use Rattle.reduction.specs.Answered.{answerOf};
-ghost use Rattle.totals.specs.Entered.{Enters, Fits, formatFrom, settingsFrom};
+ghost use Rattle.totals.specs.Entered.{Enters, Fits, formatFrom, formatWith, biasedFrom, settingsFrom};
 
 // The side is the third byte of its word, above the flags.
 const SIDE: u64 = 65536;
@@ -24,6 +27,136 @@ fn enter(a: Answer, answer: &mut [u8]) -> u64
     put_word(answer, 8, a.flags + SIDE * a.side);
     put_word(answer, 16, a.passes);
     0
+}
+
+// A format from an entry's numbers. The bias is looked at where it is named.
+fn format_with(kind: u64, exponent_bits: u64, width: u64, named: bool, bias: i64) -> Format
+    ensures { λ r. ⌜ formatOf r ≡ formatWith kind «exponent_bits» width named bias ⌝ }
+{
+    if named {
+        return Format {
+            kind,
+            exponent_bits,
+            width,
+            named: Named::Bias(bias),
+        };
+    }
+    Format {
+        kind,
+        exponent_bits,
+        width,
+        named: Named::Nothing,
+    }
+}
+
+// Settings from an entry's numbers, in its order.
+fn settings(
+    rounding: u64,
+    tininess: u64,
+    nan_propagation: u64,
+    default_nan_negative: u64,
+    flush_to_zero: u64,
+    denormals_are_zero: u64,
+    saturate: u64,
+    precision: u64,
+) -> Settings
+    ensures { λ r. ⌜ settingsOf r ≡ settingsFrom rounding tininess «nan_propagation» «default_nan_negative» «flush_to_zero» «denormals_are_zero» saturate precision ⌝ }
+{
+    Settings {
+        rounding,
+        tininess,
+        nan_propagation,
+        default_nan_negative,
+        flush_to_zero,
+        denormals_are_zero,
+        saturate,
+        precision,
+    }
+}
+
+// What both entries of a total do: the lengths first, then the total. They hand numbers over and no records, which would be stored and read again on the
+// way: of a call with one element that is a quarter.
+fn enter_sum(
+    kind: u64,
+    exponent_bits: u64,
+    width: u64,
+    named: bool,
+    bias: i64,
+    rounding: u64,
+    tininess: u64,
+    nan_propagation: u64,
+    default_nan_negative: u64,
+    flush_to_zero: u64,
+    denormals_are_zero: u64,
+    saturate: u64,
+    precision: u64,
+    summand: u64,
+    values: &[u8],
+    answer: &mut [u8],
+) -> u64
+    ensures { λ r. ⌜ Enters (bytes.sumEntry (formatWith kind «exponent_bits» width named bias) (settingsFrom rounding tininess «nan_propagation» «default_nan_negative» «flush_to_zero» «denormals_are_zero» saturate precision) summand (now (values .entry)) (now (answer .entry))) r (now (answer .exit)) ⌝ }
+{
+    if values.len() % 8 != 0 {
+        return 1;
+    }
+    if answer.len() < 24 {
+        return 2;
+    }
+    let f = format_with(kind, exponent_bits, width, named, bias);
+    let c = settings(
+        rounding,
+        tininess,
+        nan_propagation,
+        default_nan_negative,
+        flush_to_zero,
+        denormals_are_zero,
+        saturate,
+        precision,
+    );
+    enter(sum_bytes(f, c, summand, values), answer)
+}
+
+fn enter_dot(
+    kind: u64,
+    exponent_bits: u64,
+    width: u64,
+    named: bool,
+    bias: i64,
+    rounding: u64,
+    tininess: u64,
+    nan_propagation: u64,
+    default_nan_negative: u64,
+    flush_to_zero: u64,
+    denormals_are_zero: u64,
+    saturate: u64,
+    precision: u64,
+    left: &[u8],
+    right: &[u8],
+    answer: &mut [u8],
+) -> u64
+    ensures { λ r. ⌜ Enters (bytes.dotEntry (formatWith kind «exponent_bits» width named bias) (settingsFrom rounding tininess «nan_propagation» «default_nan_negative» «flush_to_zero» «denormals_are_zero» saturate precision) (now (left .entry)) (now (right .entry)) (now (answer .entry))) r (now (answer .exit)) ⌝ }
+{
+    if left.len() % 8 != 0 {
+        return 1;
+    }
+    if right.len() % 8 != 0 {
+        return 1;
+    }
+    if answer.len() < 24 {
+        return 2;
+    }
+    let f = format_with(kind, exponent_bits, width, named, bias);
+    let c = settings(
+        rounding,
+        tininess,
+        nan_propagation,
+        default_nan_negative,
+        flush_to_zero,
+        denormals_are_zero,
+        saturate,
+        precision,
+    );
+    enter(dot_bytes(f, c, left, right), answer)
 }
 
 // The sum of the values (summand 0), of their magnitudes (1) or of their squares (2).
@@ -46,18 +179,12 @@ pub extern "C" fn totals_sum(
 ) -> u64
     ensures { λ r. ⌜ Enters (bytes.sumEntry (formatFrom kind «exponent_bits» width) (settingsFrom rounding tininess «nan_propagation» «default_nan_negative» «flush_to_zero» «denormals_are_zero» saturate precision) summand (now (values .entry)) (now (answer .entry))) r (now (answer .exit)) ⌝ }
 {
-    if values.len() % 8 != 0 {
-        return 1;
-    }
-    if answer.len() < 24 {
-        return 2;
-    }
-    let f = Format {
+    enter_sum(
         kind,
         exponent_bits,
         width,
-    };
-    let c = Settings {
+        false,
+        0,
         rounding,
         tininess,
         nan_propagation,
@@ -66,8 +193,10 @@ pub extern "C" fn totals_sum(
         denormals_are_zero,
         saturate,
         precision,
-    };
-    enter(sum_bytes(f, c, summand, values), answer)
+        summand,
+        values,
+        answer,
+    )
 }
 
 // The sum of the products of the pairs.
@@ -90,21 +219,12 @@ pub extern "C" fn totals_dot(
 ) -> u64
     ensures { λ r. ⌜ Enters (bytes.dotEntry (formatFrom kind «exponent_bits» width) (settingsFrom rounding tininess «nan_propagation» «default_nan_negative» «flush_to_zero» «denormals_are_zero» saturate precision) (now (left .entry)) (now (right .entry)) (now (answer .entry))) r (now (answer .exit)) ⌝ }
 {
-    if left.len() % 8 != 0 {
-        return 1;
-    }
-    if right.len() % 8 != 0 {
-        return 1;
-    }
-    if answer.len() < 24 {
-        return 2;
-    }
-    let f = Format {
+    enter_dot(
         kind,
         exponent_bits,
         width,
-    };
-    let c = Settings {
+        false,
+        0,
         rounding,
         tininess,
         nan_propagation,
@@ -113,6 +233,89 @@ pub extern "C" fn totals_dot(
         denormals_are_zero,
         saturate,
         precision,
-    };
-    enter(dot_bytes(f, c, left, right), answer)
+        left,
+        right,
+        answer,
+    )
+}
+
+// The same in a format that names its bias.
+#[no_mangle]
+pub extern "C" fn totals_sum_biased(
+    kind: u64,
+    exponent_bits: u64,
+    width: u64,
+    bias: i64,
+    rounding: u64,
+    tininess: u64,
+    nan_propagation: u64,
+    default_nan_negative: u64,
+    flush_to_zero: u64,
+    denormals_are_zero: u64,
+    saturate: u64,
+    precision: u64,
+    summand: u64,
+    values: &[u8],
+    answer: &mut [u8],
+) -> u64
+    ensures { λ r. ⌜ Enters (bytes.sumEntry (biasedFrom kind «exponent_bits» width bias) (settingsFrom rounding tininess «nan_propagation» «default_nan_negative» «flush_to_zero» «denormals_are_zero» saturate precision) summand (now (values .entry)) (now (answer .entry))) r (now (answer .exit)) ⌝ }
+{
+    enter_sum(
+        kind,
+        exponent_bits,
+        width,
+        true,
+        bias,
+        rounding,
+        tininess,
+        nan_propagation,
+        default_nan_negative,
+        flush_to_zero,
+        denormals_are_zero,
+        saturate,
+        precision,
+        summand,
+        values,
+        answer,
+    )
+}
+
+#[no_mangle]
+pub extern "C" fn totals_dot_biased(
+    kind: u64,
+    exponent_bits: u64,
+    width: u64,
+    bias: i64,
+    rounding: u64,
+    tininess: u64,
+    nan_propagation: u64,
+    default_nan_negative: u64,
+    flush_to_zero: u64,
+    denormals_are_zero: u64,
+    saturate: u64,
+    precision: u64,
+    left: &[u8],
+    right: &[u8],
+    answer: &mut [u8],
+) -> u64
+    ensures { λ r. ⌜ Enters (bytes.dotEntry (biasedFrom kind «exponent_bits» width bias) (settingsFrom rounding tininess «nan_propagation» «default_nan_negative» «flush_to_zero» «denormals_are_zero» saturate precision) (now (left .entry)) (now (right .entry)) (now (answer .entry))) r (now (answer .exit)) ⌝ }
+{
+    enter_dot(
+        kind,
+        exponent_bits,
+        width,
+        true,
+        bias,
+        rounding,
+        tininess,
+        nan_propagation,
+        default_nan_negative,
+        flush_to_zero,
+        denormals_are_zero,
+        saturate,
+        precision,
+        left,
+        right,
+        answer,
+    )
 }

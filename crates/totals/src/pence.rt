@@ -3,6 +3,7 @@ use crate::stray::greatest;
 use binary::decode;
 use format::Format;
 use format::depth;
+use format::lift;
 use format::unpacked::Unpacked;
 use format::valid_format;
 use limbs::pair;
@@ -10,7 +11,7 @@ use limbs::word::scaled;
 use limbs::word::widening_mul;
 ghost use mathlib.Core.Path.{_≡_};
 ghost use mathlib.Core.Bool.{cond};
-ghost use Prim.Native.Nat.{_+_, _*_, _/_, _^_, _<_, min};
+ghost use Prim.Native.Nat.{_+_, _*_, _/_, _^_, _<_, _≤_, min};
 ghost use lib.IntN.{pos, negℤ};
 ghost use Rattle.totals_spec.specs.Pence as spec;
 ghost use Rattle.format.specs.Joined.{formatOf, unpackedOf};
@@ -48,10 +49,10 @@ fn halved(low: u64, high: u64) -> u64
     low / 2 + low % 2
 }
 
-// The magnitude of the figure of m * 2^k least numbers, where the least number is 2^-d; 2^63 where it is more. Twice the magnitude is cut to a
+// The magnitude of the figure of m * 2^k / 2^d; 2^63 where it is more. Twice the magnitude is cut to a
 // whole number, then halved: the bits that the cut drops lie below the one that decides.
 fn magnitude(d: u64, k: u64, m: u64) -> u64
-    requires { ⌜ (k < 268435456) × (0 < m) ⌝ }
+    requires { ⌜ (k < 536870912) × (0 < m) ⌝ }
     ensures { λ r. ⌜ r ≡ min (spec.penceOf d k m) (2 ^ 63) ⌝ }
 {
     let t = widening_mul(200, m);
@@ -89,10 +90,10 @@ fn in_range(negative: bool, n: u64) -> Pence
     }
 }
 
-// The record of a decoded value, where the least number is 2^-d.
-fn figure_of(d: u64, v: Unpacked) -> Pence
-    requires { ⌜ Bounded (unpackedOf v) ⌝ }
-    ensures { λ r. ⌜ penceRecord r ≡ spec.figureOf d (unpackedOf v) ⌝ }
+// The record of a decoded value, where the least number is 2^(n - d).
+fn figure_of(d: u64, n: u64, v: Unpacked) -> Pence
+    requires { ⌜ (n ≤ 268435456) × Bounded (unpackedOf v) ⌝ }
+    ensures { λ r. ⌜ penceRecord r ≡ spec.figureOf d n (unpackedOf v) ⌝ }
 {
     match v {
         Unpacked::Zero(_) => in_range(false, 0),
@@ -100,7 +101,7 @@ fn figure_of(d: u64, v: Unpacked) -> Pence
             negative,
             shift,
             significand,
-        } => in_range(negative, magnitude(d, shift, significand)),
+        } => in_range(negative, magnitude(d, shift + n, significand)),
         Unpacked::Infinity(_) => refused(8),
         Unpacked::Nan {
             negative: _,
@@ -120,5 +121,5 @@ pub fn pence_of(f: Format, b: u64) -> Pence
     if b > greatest(f.width) {
         return refused(7);
     }
-    figure_of(depth(f), decode(f, b))
+    figure_of(depth(f), lift(f), decode(f, b))
 }

@@ -8,7 +8,7 @@ use native.Mathlib.Omega.{arith}
 use lib.ListN.{length, length-map}
 use lib.Dec.{leb, ltb, eqb, lit≤}
 use borrow.Author.Tests.{ltb-false}
-use Rattle.totals_spec.specs.Format.{Format, validFormat, digits, grid}
+use Rattle.totals_spec.specs.Format.{Format, validFormat, digits, grid, rise}
 use Rattle.totals_spec.specs.Settings.{Settings, validSettings, precisionOf, summandOf}
 use Rattle.totals_spec.specs.Terms.{Term, exactSum, item, pairItem, termOf, terms}
 use Rattle.totals_spec.proofs.Good.{AllGood, good-terms, good-pairs, picked-length}
@@ -16,7 +16,7 @@ use Rattle.totals_spec.proofs.Margin.{terms-max}
 use Rattle.totals_spec.proofs.Exact.{chain-rounds}
 use Rattle.totals_spec.proofs.Passes.{valid-of}
 use Rattle.totals_spec.proofs.Valid.{and-left, format-bounds, settings-bounds, precision-most, precision-least}
-use Rattle.totals_spec.specs.Totals.{sumRounded, reported, towardsNegative, finiteTotal, limit, sumRefusal, dotRefusal, pairs}
+use Rattle.totals_spec.specs.Totals.{sumRounded, reported, onGrid, towardsNegative, finiteTotal, limit, sumRefusal, dotRefusal, pairs}
 use Rattle.totals_spec.proofs.Order.{first-zero, dot-lengths, pairs-length}
 use Rattle.totals_spec.specs.Settled.{settled, chainTotal}
 use Rattle.totals_spec.specs.Basics.{Signed}
@@ -35,19 +35,24 @@ same-side : (f : Format) (c : Settings) (g : ℕ) (towards : Bool) (x y : Signed
 same-side f c g towards x y b q0 qp e =
     sum-leans f c g towards x b q0 qp ∙ ap (λ (r : Rounded). roundedSide (r .value) (r .flags)) e ∙ sym (sum-leans f c g towards y b q0 qp)
 
--- what the chain ends with
-abbrev ended : Format → List Term → Signed
-ended f ts = settled (chain (digits f) ts .outcome)
+-- what the chain ends with, and the exact sum
+abbrev ended : Format → Bool → List Term → Signed
+ended f products ts = onGrid f products (settled (chain (digits f) ts .outcome))
+
+abbrev exactly : Format → Bool → List Term → Signed
+exactly f products ts = onGrid f products (exactSum ts)
 
 pub finite-by-chain : (f : Format) (c : Settings) (sub products minus : Bool) (ts : List Term)
     → RangeBounds f → SettingsBounds f c → AllGood ts → length ts ≤ terms-max
     → chainTotal f c sub products minus ts ≡ finiteTotal f c sub products minus ts
 unfolding chainTotal finiteTotal reported
 finite-by-chain f c sub products minus ts b k g len =
-    cc (rounds, same-side f c (grid f products) (towardsNegative c) (ended f ts) (exactSum ts) b (precision-least f c b) (precision-most f c k) rounds)
+    let x = ended f products ts in
+    let y = exactly f products ts in
+    cc (rounds, same-side f c (grid f products) (towardsNegative c) x y b (precision-least f c b) (precision-most f c k) rounds)
   where
-    rounds : sumRounded f c (grid f products) (towardsNegative c) (ended f ts) ≡ sumRounded f c (grid f products) (towardsNegative c) (exactSum ts)
-    rounds = chain-rounds (digits f) ts (omega (arith, b .p-le)) g len f c (grid f products) (towardsNegative c) (precision-most f c k)
+    rounds : sumRounded f c (grid f products) (towardsNegative c) (ended f products ts) ≡ sumRounded f c (grid f products) (towardsNegative c) (exactly f products ts)
+    rounds = chain-rounds (digits f) ts (omega (arith, b .p-le)) g len f c (grid f products) (rise f products) (towardsNegative c) (precision-most f c k)
 
 -- ---- what an accepted call has shown
 

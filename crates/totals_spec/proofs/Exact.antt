@@ -9,7 +9,7 @@ use lib.ListN.{length}
 use lib.Dec.{lit≤}
 use lib.Pow.{pow-add, pow-pos, pow-mono}
 use lib.Ieee.{size}
-use Rattle.totals_spec.specs.Basics.{Signed, difference, total, greatest}
+use Rattle.totals_spec.specs.Basics.{Signed, difference, raised, total, greatest}
 use Rattle.totals_spec.proofs.Bits.{pow-split}
 use Rattle.totals_spec.specs.Format.{Format}
 use Rattle.totals_spec.specs.Settings.{Settings, precisionOf}
@@ -22,7 +22,7 @@ use Rattle.totals_spec.proofs.Limit.{losses-le, fair-look, chain-ends}
 use Rattle.totals_spec.specs.Promises.{Finished}
 use Rattle.totals_spec.proofs.Wrap.{wrapped-is}
 use Rattle.totals_spec.proofs.Cut.{restPlus, restMinus, plus-split, minus-split, rests-le, mags-le}
-use Rattle.totals_spec.proofs.Alike.{alike-rounds, Alike}
+use Rattle.totals_spec.proofs.Alike.{alike-rounds, alike-raised, Alike}
 use Rattle.totals_spec.specs.Settled.{settled}
 use Rattle.totals_spec.proofs.Margin.{Close, terms-max, cut-close}
 use Rattle.totals_spec.proofs.Invariant.{withPlus, withMinus, Placed, Inv, Right, View, view, rests-unit}
@@ -157,7 +157,7 @@ module _ (p : ℕ) (ts : List Term) (hp : p ≤ 64) (good : AllGood ts) (len : l
   unfolding chain
   chain-right = run-right (suc (topOf ts)) noBoundary (topOf ts - 702) start (unfold chain in chain-ends p ts hp good)
 
-  -- THE ROUNDING: in every format, for every setting of at most p digits, and wherever the grid lies
-  pub chain-rounds : (f : Format) (c : Settings) (g : ℕ) (towards : Bool) → precisionOf f c ≤ p
-      → sumRounded f c g towards (settled (chain p ts .outcome)) ≡ sumRounded f c g towards (difference (plusSum ts) (minusSum ts))
-  chain-rounds f c g towards q = alike-rounds f c g towards p _ _ q chain-right
+  -- THE ROUNDING: in every format, for every setting of at most p digits, and wherever the grid lies, n positions below the unit too
+  pub chain-rounds : (f : Format) (c : Settings) (g n : ℕ) (towards : Bool) → precisionOf f c ≤ p
+      → sumRounded f c g towards (raised n (settled (chain p ts .outcome))) ≡ sumRounded f c g towards (raised n (difference (plusSum ts) (minusSum ts)))
+  chain-rounds f c g n towards q = alike-rounds f c g towards p _ _ q (alike-raised p n _ _ chain-right)

@@ -3,22 +3,24 @@ use mathlib.Core.Path.{_≡_, refl, sym, _∙_, subst}
 use mathlib.Core.Logic.{_≢_, _↔_, _⊎_, inl, inr}
 use mathlib.Core.Bool.{Bool, true, false, not, _&&_, _||_, cond}
 use mathlib.Core.List.{List, [], _∷_}
+use mathlib.Core.Option.{Option, none, some}
 use Prim.Native.Nat.{ℕ, zero, suc, _+_, _*_, _%_, _^_, _<_}
 use native.Mathlib.Nat.{not-suc-le-zero, le-of-suc-le-suc}
 use native.Mathlib.Omega.{arith}
 use lib.Dec.{T, T-not, not-T, leb, ltb, eqb, leb→le, le→leb, ltb→lt, lt→ltb, nleb→lt, nltb→le, eqb→eq}
 use lib.ListN.{length, getD}
+use lib.IntN.{ℤ, natAbs}
 use borrow.Author.Tests.{eq-eqb}
 use Rattle.totals_spec.specs.Basics.{any}
-use Rattle.totals_spec.specs.Bounds.{FormatBounds, SettingsBounds}
-use Rattle.totals_spec.specs.Format.{Format, validFormat, digits, depth}
+use Rattle.totals_spec.specs.Bounds.{Offered, FormatBounds, SettingsBounds}
+use Rattle.totals_spec.specs.Format.{Format, offered, validFormat, digits, depth, lift}
 use Rattle.totals_spec.specs.Settings.{Settings, validSettings}
 use Rattle.totals_spec.specs.Decode.{Unpacked, zeroOf, finite, infinity, nan, decode}
 use Rattle.totals_spec.specs.Totals.{Answer, stray, limit, refuseIf, firstIndex, sumRefusal, sumAnswer, dotRefusal, dotAnswer}
 use Rattle.totals_spec.specs.Bytes.{Entry, valuesIn, uneven, short, entered, written, sumEntry, dotEntry}
 use Rattle.totals_spec.specs.Pence.{Pence, refusedPence, penceOf, figureOf, penceAnswer}
-use Rattle.totals_spec.specs.Conditions.{Uneven, Short, BadFormat, BadSettings, BadSummand, Unequal, TooMany, StrayBit, Stray, NoPence, Condition, First}
-use Rattle.totals_spec.specs.Conditions.{sumConditions, dotConditions, entryConditions}
+use Rattle.totals_spec.specs.Conditions.{Uneven, Short, FarBias, BadFormat, BadSettings, BadSummand, Unequal, TooMany, StrayBit, Stray, NoPence}
+use Rattle.totals_spec.specs.Conditions.{Condition, First, sumConditions, dotConditions, entryConditions}
 use Rattle.totals_spec.specs.Promises.{Sum-refused-exactly, Dot-refused-exactly, Entry-refused-exactly, Pence-refused-exactly}
 use Rattle.totals_spec.proofs.Bits.{T-of}
 use Rattle.totals_spec.proofs.Valid.{format-bounds, settings-bounds}
@@ -28,7 +30,7 @@ use Rattle.totals_spec.proofs.Refused.{sum-refusal, dot-refusal, sum-sm
 -- ---- tests in their order, each of which finds a condition, and the number of the first that is true
 
 data Tests : List Condition → ℕ → Type 1 where
-  none : Tests [] 0
+  last : Tests [] 0
   test : {n rest : ℕ} {P : Type 0} {l : List Condition} (b : Bool) → T b ↔ P → Tests l rest → Tests ((n, P) ∷ l) (refuseIf b n rest)
 
 first-if : (b : Bool) (n rest : ℕ) (P : Type 0) (l : List Condition) → T b ↔ P → First l rest → First ((n, P) ∷ l) (refuseIf b n rest)
@@ -36,7 +38,7 @@ first-if true n rest P l t h = inl (t .0 tt, refl)
 first-if false n rest P l t h = inr (t .1, h)
 
 first : {l : List Condition} {n : ℕ} → Tests l n → First l n
-first none = refl
+first last = refl
 first (test {n} {rest} {P} {l} b t h) = first-if b n rest P l t (first h)
 
 one-first : (l : List Condition) (m n : ℕ) → First l m → First l n → m ≡ n
@@ -85,6 +87,14 @@ short-found old = ((λ t. omega (arith, ltb→lt (length old) 24 t)), λ h. lt�
 
 -- ---- 3 and 4
 
+far-forth : (n : Option ℤ) → T (not (offered n)) → FarBias n
+far-forth none t = t
+far-forth (some b) t = omega (arith, nleb→lt (natAbs b) 268435456 t)
+
+far-back : (n : Option ℤ) → FarBias n → Offered n → ⊥
+far-back none h k = h
+far-back (some b) h k = omega (arith, h, k)
+
 format-fails : (f : Format) → T (not (validFormat f)) ↔ BadFormat f
 unfolding validFormat
 format-fails f = (forth, λ p. not-T (validFormat f) (λ t. back p (format-bounds f t)))
@@ -96,7 +106,8 @@ format-fails f = (forth, λ p. not-T (validFormat f) (λ t. back p (format-bound
         let b = leb (f .E) 28 in
         let c = leb (f .E + 2) (f .W) in
         let d = leb (f .W) 64 in
-        part-fails (k && a && b && c) d
+        part-fails (k && a && b && c && d) (offered (f .named))
+        (part-fails (k && a && b && c) d
         (part-fails (k && a && b) c
         (part-fails (k && a) b
         (part-fails k a
@@ -104,14 +115,16 @@ format-fails f = (forth, λ p. not-T (validFormat f) (λ t. back p (format-bound
         (λ t. inr (inl (omega (arith, nleb→lt 2 (f .E) t)))))
         (λ t. inr (inr (inl (omega (arith, nleb→lt (f .E) 28 t))))))
         (λ t. inr (inr (inr (inl (omega (arith, nleb→lt (f .E + 2) (f .W) t)))))))
-        (λ t. inr (inr (inr (inr (omega (arith, nleb→lt (f .W) 64 t))))))
+        (λ t. inr (inr (inr (inr (inl (omega (arith, nleb→lt (f .W) 64 t))))))))
+        (λ t. inr (inr (inr (inr (inr (far-forth (f .named) t))))))
 
     back : BadFormat f → FormatBounds f → ⊥
     back (inl h) b = omega (arith, h, b .kind-le)
     back (inr (inl h)) b = omega (arith, h, b .e-ge)
     back (inr (inr (inl h))) b = omega (arith, h, b .e-le)
     back (inr (inr (inr (inl h)))) b = omega (arith, h, b .w-ge)
-    back (inr (inr (inr (inr h)))) b = omega (arith, h, b .w-le)
+    back (inr (inr (inr (inr (inl h))))) b = omega (arith, h, b .w-le)
+    back (inr (inr (inr (inr (inr h))))) b = far-back (f .named) h (b .named-le)
 
 settings-fail : (f : Format) (c : Settings) → T (not (validSettings f c)) ↔ BadSettings f c
 unfolding validSettings
@@ -193,7 +206,7 @@ sum-tests f c u l =
     test (not (validFormat f)) (format-fails f)
     (test (not (validSettings f c && leb u 2)) (not-both (validSettings f c) (leb u 2) (settings-fail f c) (summand-fails u))
     (test (ltb limit (length l)) (many-found l)
-    (test (any (stray f) l) (stray-found f l) none)))
+    (test (any (stray f) l) (stray-found f l) last)))
 
 dot-tests : (f : Format) (c : Settings) (xs ys : List ℕ) → Tests (dotConditions f c xs ys) (dotRefusal f c xs ys)
 unfolding dotRefusal
@@ -202,7 +215,7 @@ dot-tests f c xs ys =
     (test (not (validSettings f c)) (settings-fail f c)
     (test (not (eqb (length xs) (length ys))) (unequal-found xs ys)
     (test (ltb limit (length xs)) (many-found xs)
-    (test (any (stray f) xs || any (stray f) ys) (either (any (stray f) xs) (any (stray f) ys) (stray-found f xs) (stray-found f ys)) none))))
+    (test (any (stray f) xs || any (stray f) ys) (either (any (stray f) xs) (any (stray f) ys) (stray-found f xs) (stray-found f ys)) last))))
 
 pub sum-refused-exactly : Sum-refused-exactly
 sum-refused-exactly f c u l n = rw (sum-refusal f c u l) (exactly (sum-tests f c u l) n)
@@ -258,17 +271,17 @@ range-number : (a : Bool) (n : ℕ) (r : Pence) → (cond a r (refusedPence n)) 
 range-number true n r = refl
 range-number false n r = refl
 
-figure-tests : (d : ℕ) (v : Unpacked) → Tests ((8, NoPence d v) ∷ []) ((figureOf d v) .refusal)
-figure-tests d (zeroOf s) = test false ((λ t. t), λ t. t) none
-figure-tests d (finite s k m) = rw (range-number (ltb (penceOf d k m) (2 ^ 63)) 8 _) (test (not (ltb (penceOf d k m) (2 ^ 63))) (forth, back) none)
+figure-tests : (d n : ℕ) (v : Unpacked) → Tests ((8, NoPence d n v) ∷ []) ((figureOf d n v) .refusal)
+figure-tests d n (zeroOf s) = test false ((λ t. t), λ t. t) last
+figure-tests d n (finite s k m) = rw (range-number (ltb (penceOf d (k + n) m) (2 ^ 63)) 8 _) (test (not (ltb (penceOf d (k + n) m) (2 ^ 63))) (forth, back) last)
   where
-    forth : T (not (ltb (penceOf d k m) (2 ^ 63))) → NoPence d (finite s k m)
-    forth t = omega (arith, nltb→le (penceOf d k m) (2 ^ 63) t)
+    forth : T (not (ltb (penceOf d (k + n) m) (2 ^ 63))) → NoPence d n (finite s k m)
+    forth t = omega (arith, nltb→le (penceOf d (k + n) m) (2 ^ 63) t)
 
-    back : NoPence d (finite s k m) → T (not (ltb (penceOf d k m) (2 ^ 63)))
-    back h = not-T (ltb (penceOf d k m) (2 ^ 63)) (λ t. omega (arith, h, ltb→lt (penceOf d k m) (2 ^ 63) t))
-figure-tests d (infinity s) = test true ((λ t. t), λ t. t) none
-figure-tests d (nan s g m) = test true ((λ t. t), λ t. t) none
+    back : NoPence d n (finite s k m) → T (not (ltb (penceOf d (k + n) m) (2 ^ 63)))
+    back h = not-T (ltb (penceOf d (k + n) m) (2 ^ 63)) (λ t. omega (arith, h, ltb→lt (penceOf d (k + n) m) (2 ^ 63) t))
+figure-tests d n (infinity s) = test true ((λ t. t), λ t. t) last
+figure-tests d n (nan s g m) = test true ((λ t. t), λ t. t) last
 
 pub pence-refused-exactly : Pence-refused-exactly
 unfolding penceAnswer
@@ -276,4 +289,4 @@ pence-refused-exactly f b n =
     rw (pence-number (not (validFormat f)) 3 _, pence-number (stray f b) 7 _)
     (exactly (test (not (validFormat f)) (format-fails f)
     (test (stray f b) (leb→le (2 ^ (f .W)) b, le→leb (2 ^ (f .W)) b)
-    (figure-tests (depth f) (decode f b)))) n)
+    (figure-tests (depth f) (lift f) (decode f b)))) n)

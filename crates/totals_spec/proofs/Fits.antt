@@ -17,7 +17,7 @@ use Rattle.totals_spec.specs.Terms.{Term, Item, terms, exactSum, topOf}
 use Rattle.totals_spec.specs.Round.{Rounded}
 use Rattle.totals_spec.specs.Fits.{Encodes}
 use Rattle.totals_spec.specs.Limit.{bottomOf, ceilDiv, mostPasses}
-use Rattle.totals_spec.specs.Totals.{Answer, refused, special, reported, sumRounded, towardsNegative, accepted, answered, stray, firstIndex}
+use Rattle.totals_spec.specs.Totals.{Answer, onGrid, refused, special, reported, sumRounded, towardsNegative, accepted, answered, stray, firstIndex}
 use Rattle.totals_spec.specs.Totals.{sumRefusal, sumAccepted, sumAnswer, pairs, dotRefusal, dotAccepted, dotPlace, dotAnswer}
 use Rattle.totals_spec.specs.Promises.{FieldsFit, Sum-fits, Dot-fits}
 use Rattle.totals_spec.proofs.Accepted.{accepted-where}
@@ -95,12 +95,12 @@ module _ (f : Format) (c : Settings) (b : FormatBounds f) (q : SettingsBounds f 
       most = precision-most f c q
 
       r : Rounded
-      r = sumRounded f c (grid f products) (towardsNegative c) (exactSum (terms l))
+      r = sumRounded f c (grid f products) (towardsNegative c) (onGrid f products (exactSum (terms l)))
 
       by-passes : encode f (r .value) < 2 ^ (f .W)
       by-passes =
           encode-fits f (b .range) (r .value)
-          (held-encodes f (b .range) (r .value) (sum-held f (b .range) c least most (grid f products) (towardsNegative c) (exactSum (terms l))))
+          (held-encodes f (b .range) (r .value) (sum-held f (b .range) c least most (grid f products) (towardsNegative c) (onGrid f products (exactSum (terms l)))))
 
   accepted-fit : (sub products first signaling : Bool) (v : Unpacked) (l : List Item) → Encodes f v → AllGood (terms l) → topOf (terms l) ≤ topProduct f
       → FieldsFit f (accepted f c sub products first signaling v l)

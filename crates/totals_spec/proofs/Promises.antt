@@ -12,7 +12,7 @@ use Rattle.totals_spec.specs.Promises.{Careers-agree, Margins-agree, Exa
 use Rattle.totals_spec.specs.Promises.{Dot-refused, Sum-place, Dot-place, Sum-entry-refused, Dot-entry-refused, Sum-exact, Dot-exact, Sum-side}
 use Rattle.totals_spec.specs.Promises.{Dot-side, Sum-no-side, Dot-no-side, Sum-by-chain, Dot-by-chain, Sum-order, Dot-order, Sum-entry-order}
 use Rattle.totals_spec.specs.Promises.{Dot-entry-order, Sum-limit, Dot-limit, Binary64-sum-limit, Binary64-square-limit, Binary64-dot-limit, Sum-ends}
-use Rattle.totals_spec.specs.Promises.{Dot-ends, Sum-edges, Dot-edges, Low-bit, Sides-agree}
+use Rattle.totals_spec.specs.Promises.{Dot-ends, Sum-edges, Dot-edges, Low-bit, Sides-agree, Biases-agree, Named-own}
 use Rattle.totals_spec.specs.Promises.{Sum-zeros, Dot-zeros, Sum-refused-exactly, Dot-refused-exactly, Entry-refused-exactly, Pence-refused-exactly}
 use Rattle.totals_spec.specs.Promises.{Sum-fits, Dot-fits, Entry-read-back, Size-is-length, Rounded-back}
 use Rattle.totals_spec.proofs.Bits.{low-divides, low-set, size-none, size-one-less}
@@ -34,6 +34,7 @@ use Rattle.totals_spec.proofs.ByChain as chains
 use Rattle.totals_spec.proofs.Order as order
 use Rattle.totals_spec.proofs.Passes as passes
 use Rattle.totals_spec.proofs.Binary64 as binary64s
+use Rattle.totals_spec.proofs.Own as biases
 
 -- ==== the document's examples (specs/Careers, which computes them, and Careers)
 
@@ -45,6 +46,9 @@ margins-agree = tests.margins-agree
 
 pub sides-agree : Sides-agree
 sides-agree = tests.sides-agree
+
+pub biases-agree : Biases-agree
+biases-agree = tests.biases-agree
 
 pub examples-agree : Examples-agree
 examples-agree = (tests.refusals-agree, tests.entry-agrees, tests.pence-agree, tests.program-agrees)
@@ -181,6 +185,11 @@ binary64-square-limit = binary64s.binary64-square-limit
 
 pub binary64-dot-limit : Binary64-dot-limit
 binary64-dot-limit = binary64s.binary64-dot-limit
+
+-- ==== document 02, A.7: a named bias (Own)
+
+pub named-own : Named-own
+named-own = biases.named-own
 
 -- ==== the definitions mean what they say (Limit, Edges, Bits)
 

@@ -2,15 +2,16 @@
 use mathlib.Core.Path.{_≡_, refl, sym, subst}
 use mathlib.Core.Bool.{Bool, true, false}
 use mathlib.Core.List.{List, [], _∷_, map}
-use Prim.Native.Nat.{ℕ}
-use Rattle.totals_spec.specs.Basics.{Signed, difference}
+use Prim.Native.Nat.{ℕ, _^_}
+use native.Mathlib.Nat.{zero-mul}
+use Rattle.totals_spec.specs.Basics.{Signed, raised, difference}
 use Rattle.totals_spec.specs.Bounds.{RangeBounds}
-use Rattle.totals_spec.specs.Format.{Format, grid}
+use Rattle.totals_spec.specs.Format.{Format, grid, rise}
 use Rattle.totals_spec.specs.Settings.{Settings, summandOf}
 use Rattle.totals_spec.specs.Decode.{Unpacked, decode}
 use Rattle.totals_spec.specs.Terms.{Term, item, pairItem, exactSum, plusSum, minusSum}
 use Rattle.totals_spec.specs.Side.{sideOf}
-use Rattle.totals_spec.specs.Totals.{Answer, special, reported, finiteTotal, isSquare, sumTerms, sumAccepted, sumAnswer, pairs, dotTerms}
+use Rattle.totals_spec.specs.Totals.{Answer, special, reported, onGrid, finiteTotal, isSquare, sumTerms, sumAccepted, sumAnswer, pairs, dotTerms}
 use Rattle.totals_spec.specs.Totals.{dotAccepted, dotAnswer}
 use Rattle.totals_spec.specs.Promises.{isNumber, Sum-side, Dot-side, Sum-no-side, Dot-no-side}
 use Rattle.totals_spec.proofs.Accepted.{accepted-has}
@@ -26,21 +27,22 @@ SideAt f g x a = a .side ≡ sideOf g (decode f (a .result)) x
 
 -- without a term a zero stands beside 0, on whatever grid
 finite-side : (f : Format) (c : Settings) (sub products minus : Bool) (ts : List Term) → RangeBounds f
-    → SideAt f (grid f products) (exactSum ts) (finiteTotal f c sub products minus ts)
-unfolding finiteTotal special reported difference plusSum minusSum sideOf
+    → SideAt f (grid f products) (onGrid f products (exactSum ts)) (finiteTotal f c sub products minus ts)
+unfolding finiteTotal special reported difference plusSum minusSum sideOf raised
 finite-side f c sub products minus [] b =
-    back-zero f b (λ (v : Unpacked). sideOf 0 v (record { neg = false; mag = 0 }) ≡ sideOf (grid f products) v (record { neg = false; mag = 0 }))
-    (λ t. refl) minus
+    rw (zero-mul (2 ^ rise f products))
+    (back-zero f b (λ (v : Unpacked). sideOf 0 v (record { neg = false; mag = 0 }) ≡ sideOf (grid f products) v (record { neg = false; mag = 0 }))
+    (λ t. refl) minus)
 finite-side f c sub products minus (t ∷ ts) b = refl
 
 pub sum-side : Sum-side
 sum-side f c u l r h =
-    subst (SideAt f (grid f (isSquare (summandOf u))) (exactSum (sumTerms f c (summandOf u) l))) (sym (sum-finite f c u l r h))
+    subst (SideAt f (grid f (isSquare (summandOf u))) (onGrid f (isSquare (summandOf u)) (exactSum (sumTerms f c (summandOf u) l)))) (sym (sum-finite f c u l r h))
     (finite-side f c _ _ _ (sumTerms f c (summandOf u) l) (sum-accepts f c u l r .format .range))
 
 pub dot-side : Dot-side
 dot-side f c xs ys r h k =
-    subst (SideAt f (grid f true) (exactSum (dotTerms f c xs ys))) (sym (dot-finite f c xs ys r h k))
+    subst (SideAt f (grid f true) (onGrid f true (exactSum (dotTerms f c xs ys)))) (sym (dot-finite f c xs ys r h k))
     (finite-side f c _ _ _ (dotTerms f c xs ys) (dot-accepts f c xs ys r .format .range))
 
 -- ---- every accepted list: no number, no side

@@ -4,15 +4,21 @@ use Prim.Native.Nat.{ℕ, zero, suc, _+_, _≤_}
 use native.Mathlib.Nat.{le-refl}
 use native.Mathlib.Omega.{arith}
 use lib.Dec.{T, leb, leb→le}
-use Rattle.totals_spec.specs.Format.{Format, validFormat, digits}
+use mathlib.Core.Option.{Option, none, some}
+use lib.IntN.{ℤ, natAbs}
+use Rattle.totals_spec.specs.Format.{Format, validFormat, offered, digits}
 use Rattle.totals_spec.specs.Settings.{Settings, validSettings, chosen, precisionOf}
-use Rattle.totals_spec.specs.Bounds.{FormatBounds, RangeBounds, SettingsBounds}
+use Rattle.totals_spec.specs.Bounds.{Offered, FormatBounds, RangeBounds, SettingsBounds}
 
 pub and-left : (a b : Bool) → T (a && b) → T a
 and-left true true t = tt
 
 pub and-right : (a b : Bool) → T (a && b) → T b
 and-right true true t = tt
+
+offered-le : (n : Option ℤ) → T (offered n) → Offered n
+offered-le none t = tt
+offered-le (some b) t = leb→le (natAbs b) 268435456 t
 
 pub format-bounds : (f : Format) → T (validFormat f) → FormatBounds f
 unfolding validFormat
@@ -22,21 +28,25 @@ format-bounds f t =
     let b = leb (f .E) 28 in
     let c = leb (f .E + 2) (f .W) in
     let d = leb (f .W) 64 in
-    let t3 = and-left (k && a && b && c) d t in
+    let e = offered (f .named) in
+    let t4 = and-left (k && a && b && c && d) e t in
+    let t3 = and-left (k && a && b && c) d t4 in
     let t2 = and-left (k && a && b) c t3 in
     let t1 = and-left (k && a) b t2 in
     let kind = leb→le (f .kind) 3 (and-left k a t1) in
     let least = leb→le 2 (f .E) (and-right k a t1) in
     let most = leb→le (f .E) 28 (and-right (k && a) b t2) in
     let wide = leb→le (f .E + 2) (f .W) (and-right (k && a && b) c t3) in
-    let narrow = leb→le (f .W) 64 (and-right (k && a && b && c) d t) in
+    let narrow = leb→le (f .W) 64 (and-right (k && a && b && c) d t4) in
+    let named = offered-le (f .named) (and-right (k && a && b && c && d) e t) in
     record {
       kind-le = kind;
       e-ge = least;
       e-le = most;
       w-ge = wide;
       w-le = narrow;
-      range = record { kind-le = kind; e-ge = least; e-le = most; w-ge = wide; p-le = omega (arith, narrow) };
+      named-le = named;
+      range = record { kind-le = kind; e-ge = least; e-le = most; w-ge = wide; p-le = omega (arith, narrow); named-le = named };
     }
 
 pub digits-le : (f : Format) → T (validFormat f) → digits f ≤ 62

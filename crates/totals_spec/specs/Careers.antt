@@ -11,12 +11,13 @@
 use Prim.Native.Nat.{ℕ, _+_}
 use mathlib.Core.Bool.{Bool, true, false, _&&_}
 use mathlib.Core.List.{List, [], _∷_, _++_}
+use mathlib.Core.Option.{none, some}
 use lib.Dec.{T, eqb}
 use lib.ListN.{replicate}
 use lib.IntN.{ℤ, pos, negsuc}
 use lib.Ieee.{size, span, climb}
-use Rattle.totals_spec.specs.Basics.{difference}
-use Rattle.totals_spec.specs.Format.{Format, validFormat, bias, exponentRange, depth, origin, grid}
+use Rattle.totals_spec.specs.Basics.{difference, raised}
+use Rattle.totals_spec.specs.Format.{Format, validFormat, bias, lift, exponentRange, depth, origin, fall, grid, rise}
 use Rattle.totals_spec.specs.Settings.{Settings, validSettings, precisionOf}
 use Rattle.totals_spec.specs.Decode.{decode, isSubnormal, operand}
 use Rattle.totals_spec.specs.Terms.{single, product, item, pairItem, plusSum, minusSum, topOf}
@@ -31,10 +32,10 @@ use Rattle.totals_spec.specs.Pence.{Pence, penceOf, penceAnswer}
 use Rattle.totals_spec.specs.Program.{readFrom, hexText, decimalFrom, answerText, programText}
 
 unfoldable pub binary64 : Format
-binary64 = record { kind = 0; E = 11; W = 64 }
+binary64 = record { kind = 0; E = 11; W = 64; named = none }
 
 unfoldable pub binary16 : Format
-binary16 = record { kind = 0; E = 5; W = 16 }
+binary16 = record { kind = 0; E = 5; W = 16; named = none }
 
 -- every setting 0 but the rounding
 unfoldable pub rounded : ℕ → Settings
@@ -148,8 +149,8 @@ sideExamples =
     && leansTo 0x7bff 0x14 1 (sumAnswer binary16 (rounded 5) 0 (0x7bff ∷ 0x7bff ∷ []))
     && leansTo 0xfbff 0x14 2 (sumAnswer binary16 (rounded 5) 0 (0xfbff ∷ 0xfbff ∷ []))
     && leansTo 0x7c00 0x54 3 (sumAnswer binary16 (rounded 0) 0 (0x7bff ∷ 0x7bff ∷ []))
-    && leansTo 0x7f 0x14 3 (sumAnswer (record { kind = 1; E = 4; W = 8 }) (rounded 0) 0 (0x7e ∷ 0x7e ∷ []))
-    && leansTo 0x7 0x14 1 (sumAnswer (record { kind = 3; E = 2; W = 4 }) (rounded 0) 0 (0x7 ∷ 0x7 ∷ []))
+    && leansTo 0x7f 0x14 3 (sumAnswer (record { kind = 1; E = 4; W = 8; named = none }) (rounded 0) 0 (0x7e ∷ 0x7e ∷ []))
+    && leansTo 0x7 0x14 1 (sumAnswer (record { kind = 3; E = 2; W = 4; named = none }) (rounded 0) 0 (0x7 ∷ 0x7 ∷ []))
     -- −2^−1074 flushed to −0; 1 and 2^−1074, taken as zero
     && leansTo 0x8000000000000000 0xb8 2 (sumAnswer binary64 (small 1 0) 0 (0x8000000000000001 ∷ []))
     && leansTo 0x3ff0000000000000 0x80 0 (sumAnswer binary64 (small 0 1) 0 (0x3ff0000000000000 ∷ 1 ∷ []))
@@ -179,7 +180,7 @@ refusals =
     -- 2: 23 bytes
     && enteredAs 2 (replicate 23 7) (sumEntry binary64 (rounded 0) 0 [] (replicate 23 7))
     -- 3: E 11, W 12
-    && refusedAs 3 0 (sumAnswer (record { kind = 0; E = 11; W = 12 }) (rounded 0) 0 [])
+    && refusedAs 3 0 (sumAnswer (record { kind = 0; E = 11; W = 12; named = none }) (rounded 0) 0 [])
     -- 4: rounding 8; a summand above 2
     && refusedAs 4 0 (sumAnswer binary64 (rounded 8) 0 [])
     && refusedAs 4 0 (sumAnswer binary64 (rounded 0) 3 [])
@@ -196,7 +197,7 @@ refusals =
     -- two at once: the smaller number
     && enteredAs 1 (replicate 23 7) (sumEntry binary64 (rounded 0) 0 (replicate 7 0) (replicate 23 7))
     && enteredAs 2 (replicate 23 7) (sumEntry binary64 (rounded 8) 0 [] (replicate 23 7))
-    && refusedAs 3 0 (sumAnswer (record { kind = 4; E = 5; W = 16 }) (rounded 8) 0 (0x10000 ∷ []))
+    && refusedAs 3 0 (sumAnswer (record { kind = 4; E = 5; W = 16; named = none }) (rounded 8) 0 (0x10000 ∷ []))
     && refusedAs 4 0 (dotAnswer binary16 (rounded 8) (0x10000 ∷ []) [])
     && refusedAs 5 0 (dotAnswer binary16 (rounded 0) (0x10000 ∷ []) [])
 
@@ -218,6 +219,41 @@ penceExamples =
     penceIs (pos 13) 0 (penceAnswer binary64 0x3fc0000000000000)
     && penceIs (negsuc 12) 0 (penceAnswer binary64 0xbfc0000000000000)
     && penceIs (pos 0) 8 (penceAnswer binary64 0x7ff0000000000000)
+
+-- ---- named biases (document 02, A.7): rows worked out by hand, with emin = 1 − bias and the first edge 702 below T
+
+unfoldable pub half16 : ℤ → Format
+half16 b = record { kind = 0; E = 5; W = 16; named = some b }
+
+abbrev pub answers : (result flags side : ℕ) → ℤ → Answer → Bool
+answers result flags side edge a =
+    eqb (a .result) result && eqb (a .flags) flags && eqb (a .side) side && eqb (a .passes) 1 && sameInt (a .lastEdge) edge && eqb (a .refusal) 0
+
+unfoldable pub biases : Bool
+biases =
+    -- 8 and 24 are 32, where 1 is no number of the format; and the same with its kind's own bias, of 1/2 and 3/2
+    answers 4 0x80 0 (negsuc 697) (sumAnswer (record { kind = 3; E = 2; W = 4; named = some (negsuc 2) }) (rounded 0) 0 (1 ∷ 3 ∷ []))
+    && answers 4 0x80 0 (negsuc 701) (sumAnswer (record { kind = 3; E = 2; W = 4; named = none }) (rounded 0) 0 (1 ∷ 3 ∷ []))
+    -- the kind's own, and 0: 3c00 twice is twice 1, and twice 2^15
+    && answers 0x4000 0 0 (negsuc 701) (sumAnswer (half16 (pos 15)) (rounded 0) 0 (0x3c00 ∷ 0x3c00 ∷ []))
+    && answers 0x4000 0 0 (negsuc 686) (sumAnswer (half16 (pos 0)) (rounded 0) 0 (0x3c00 ∷ 0x3c00 ∷ []))
+    -- the farthest that may be named: 2^(15 − bias) twice
+    && answers 0x4000 0 0 (negsuc 268436142) (sumAnswer (half16 (pos 268435456)) (rounded 0) 0 (0x3c00 ∷ 0x3c00 ∷ []))
+    && answers 0x4000 0 0 (pos 268434769) (sumAnswer (half16 (negsuc 268435455)) (rounded 0) 0 (0x3c00 ∷ 0x3c00 ∷ []))
+    -- the square of 2^(1 − bias): 2^−78, far below the least number 2^−49; 2^82, above 2^71
+    && answers 0 0x38 1 (negsuc 778) (sumAnswer (half16 (pos 40)) (rounded 0) 2 (0x0400 ∷ []))
+    && answers 0x7c00 0x54 3 (negsuc 618) (sumAnswer (half16 (negsuc 39)) (rounded 0) 2 (0x0400 ∷ []))
+    -- the square of the least number, 2^1991, whose grid lies below the products' unit; toward zero the largest number, below it
+    && answers 0x7c00 0xd4 3 (pos 3281) (sumAnswer (half16 (negsuc 1999)) (rounded 0) 2 (1 ∷ []))
+    && answers 0x7bff 0x94 1 (pos 3281) (sumAnswer (half16 (negsuc 1999)) (rounded 5) 2 (1 ∷ []))
+    -- in Fnuz the named bias takes the place of 2^(E − 1): 30 is 3000 pence, and with the kind's own 8 it is 24000
+    && penceIs (pos 3000) 0 (penceAnswer (record { kind = 2; E = 4; W = 8; named = some (pos 11) }) 0x7f)
+    && penceIs (pos 24000) 0 (penceAnswer (record { kind = 2; E = 4; W = 8; named = none }) 0x7f)
+    && penceIs (pos 800) 0 (penceAnswer (record { kind = 3; E = 2; W = 4; named = some (negsuc 2) }) 1)
+    -- one beyond
+    && refusedAs 3 0 (sumAnswer (half16 (pos 268435457)) (rounded 0) 0 [])
+    && refusedAs 3 0 (dotAnswer (half16 (negsuc 268435456)) (rounded 0) [] [])
+    && penceIs (pos 0) 3 (penceAnswer (half16 (pos 268435457)) 0)
 
 -- ---- the program: what it reads and what it prints, as bytes. A hex digit d is the byte 48 + d, or 87 + d from a on; 10 ends a line
 
@@ -267,7 +303,7 @@ programAgrees (r ∷ rs) = sameList (programText (r .input)) (r .output) && prog
 pub careers-agree : T (allAgree careers)
 unfolding
     binary64 rounded careers allAgree
-    difference validFormat bias exponentRange depth origin grid validSettings precisionOf
+    difference raised validFormat bias lift exponentRange depth origin fall grid rise validSettings precisionOf
     decode isSubnormal operand single product item pairItem plusSum minusSum topOf
     lostEnd lookAt half wrapped decide sumOf pass run chain size span climb
     dropped roundedAt overflows largest overflow numberOf finished tinySum roundTo round encode leansOf sideOf defaultNanOf selectAll
@@ -277,7 +313,7 @@ careers-agree = tt
 pub margins-agree : T (allAgree margins)
 unfolding
     binary64 rounded margins allAgree
-    difference validFormat bias exponentRange depth origin grid validSettings precisionOf
+    difference raised validFormat bias lift exponentRange depth origin fall grid rise validSettings precisionOf
     decode isSubnormal operand single product item pairItem plusSum minusSum topOf
     lostEnd lookAt half wrapped decide sumOf pass run chain size span climb
     dropped roundedAt overflows largest overflow numberOf finished tinySum roundTo round encode leansOf sideOf defaultNanOf selectAll
@@ -287,7 +323,7 @@ margins-agree = tt
 pub sides-agree : T sideExamples
 unfolding
     sideExamples small binary64 binary16 rounded
-    difference validFormat bias exponentRange depth origin grid validSettings precisionOf
+    difference raised validFormat bias lift exponentRange depth origin fall grid rise validSettings precisionOf
     decode isSubnormal operand single product item pairItem plusSum minusSum topOf
     lostEnd lookAt half wrapped decide sumOf pass run chain size span climb
     dropped roundedAt overflows largest overflow numberOf finished tinySum roundTo round encode leansOf sideOf defaultNanOf selectAll
@@ -302,7 +338,7 @@ refusals-agree = tt
 pub entry-agrees : T entryExample
 unfolding
     entryExample valuesIn written entered sumEntry binary64 rounded
-    difference validFormat bias exponentRange depth origin grid validSettings precisionOf
+    difference raised validFormat bias lift exponentRange depth origin fall grid rise validSettings precisionOf
     decode isSubnormal operand single product item pairItem plusSum minusSum topOf
     lostEnd lookAt half wrapped decide sumOf pass run chain size span climb
     dropped roundedAt overflows largest overflow numberOf finished tinySum roundTo round encode leansOf sideOf defaultNanOf selectAll
@@ -310,13 +346,23 @@ unfolding
 entry-agrees = tt
 
 pub pence-agree : T penceExamples
-unfolding penceExamples penceAnswer penceOf validFormat depth bias decode binary64
+unfolding penceExamples penceAnswer penceOf validFormat depth bias lift decode binary64
 pence-agree = tt
+
+pub biases-agree : T biases
+unfolding
+    biases half16 rounded penceAnswer penceOf
+    difference raised validFormat bias lift exponentRange depth origin fall grid rise validSettings precisionOf
+    decode isSubnormal operand single product item pairItem plusSum minusSum topOf
+    lostEnd lookAt half wrapped decide sumOf pass run chain size span climb
+    dropped roundedAt overflows largest overflow numberOf finished tinySum roundTo round encode leansOf sideOf defaultNanOf selectAll
+    special sumRounded reported finiteTotal withoutNan accepted sumRefusal sumAccepted sumAnswer dotRefusal dotAnswer
+biases-agree = tt
 
 pub program-agrees : T (programAgrees programRuns)
 unfolding
     programAgrees programRuns refusedLine oneWith programText readFrom hexText decimalFrom answerText penceAnswer penceOf
-    difference validFormat bias exponentRange depth origin grid validSettings precisionOf
+    difference raised validFormat bias lift exponentRange depth origin fall grid rise validSettings precisionOf
     decode isSubnormal operand single product item pairItem plusSum minusSum topOf
     lostEnd lookAt half wrapped decide sumOf pass run chain size span climb
     dropped roundedAt overflows largest overflow numberOf finished tinySum roundTo round encode leansOf sideOf defaultNanOf selectAll

@@ -1,11 +1,13 @@
--- The conditions of the refusals (document 01, "What a caller receives"), as statements about numbers, and the first of them that holds. The
+-- The conditions of the refusals (document 01; of a bias document 02, A.7), as statements about numbers, and the first of them that holds. The
 -- definitions of the answers work with tests, which find just these (`Promises.antt`).
 use mathlib.Core.Path.{_≡_}
 use mathlib.Core.Logic.{_≢_, _⊎_}
 use mathlib.Core.List.{List, [], _∷_}
+use mathlib.Core.Option.{Option, none, some}
 use Prim.Native.Nat.{ℕ, _+_, _%_, _^_, _≤_, _<_}
 use lib.ListN.{length, getD}
-use Rattle.totals_spec.specs.Format.{Format, digits, depth}
+use lib.IntN.{ℤ, natAbs}
+use Rattle.totals_spec.specs.Format.{Format, digits, depth, lift}
 use Rattle.totals_spec.specs.Settings.{Settings}
 use Rattle.totals_spec.specs.Decode.{Unpacked, zeroOf, finite, infinity, nan, decode}
 use Rattle.totals_spec.specs.Totals.{limit}
@@ -19,7 +21,11 @@ Uneven bytes = length bytes % 8 ≢ 0
 abbrev pub Short : List ℕ → Type 0
 Short old = length old < 24
 
--- ---- 3: a kind above 3, E outside 2..28, W outside E + 2..64
+-- ---- 3: a kind above 3, E outside 2..28, W outside E + 2..64, a named bias farther from 0 than 2^28
+
+abbrev pub FarBias : Option ℤ → Type 0
+FarBias none = ⊥
+FarBias (some b) = 268435456 < natAbs b
 
 abbrev pub BadFormat : Format → Type 0
 BadFormat f =
@@ -28,6 +34,7 @@ BadFormat f =
     ⊎ (28 < f .E)
     ⊎ (f .W < f .E + 2)
     ⊎ (64 < f .W)
+    ⊎ FarBias (f .named)
 
 -- ---- 4: a setting outside its range, or a summand above 2
 
@@ -63,11 +70,11 @@ Stray f l = (i : ℕ) × (i < length l) × StrayBit f (getD l i 0)
 
 -- ---- 8: a NaN, an infinity, or a pence figure beyond 2^63 − 1
 
-abbrev pub NoPence : ℕ → Unpacked → Type 0
-NoPence d (zeroOf s) = ⊥
-NoPence d (finite s k m) = 2 ^ 63 ≤ penceOf d k m
-NoPence d (infinity s) = Unit {0}
-NoPence d (nan s g m) = Unit {0}
+abbrev pub NoPence : (depth lift : ℕ) → Unpacked → Type 0
+NoPence d n (zeroOf s) = ⊥
+NoPence d n (finite s k m) = 2 ^ 63 ≤ penceOf d (k + n) m
+NoPence d n (infinity s) = Unit {0}
+NoPence d n (nan s g m) = Unit {0}
 
 -- ---- the first that holds
 
@@ -104,4 +111,4 @@ abbrev pub entryConditions : Type 0 → List ℕ → List Condition → List Con
 entryConditions uneven old values = (1, uneven) ∷ (2, Short old) ∷ values
 
 abbrev pub penceConditions : Format → ℕ → List Condition
-penceConditions f b = (3, BadFormat f) ∷ (7, StrayBit f b) ∷ (8, NoPence (depth f) (decode f b)) ∷ []
+penceConditions f b = (3, BadFormat f) ∷ (7, StrayBit f b) ∷ (8, NoPence (depth f) (lift f) (decode f b)) ∷ []

@@ -95,7 +95,7 @@ refusedText = 114 ∷ 101 ∷ 102 ∷ 117 ∷ 115 ∷ 101 ∷ 100 ∷ 32 ∷ 108
 -- ---- the program: rounding 0, tininess 1, and 0 for every other setting
 
 abbrev pub programFormat : Format
-programFormat = record { kind = 0; E = 11; W = 64 }
+programFormat = record { kind = 0; E = 11; W = 64; named = none }
 
 abbrev pub programSettings : Settings
 programSettings =

@@ -4,20 +4,21 @@ use mathlib.Core.Path.{_≡_}
 use mathlib.Core.Logic.{_≢_, _↔_, _⊎_}
 use mathlib.Core.Bool.{Bool, true, false, _||_}
 use mathlib.Core.List.{List, [], _∷_, map}
+use mathlib.Core.Option.{none, some}
 use Prim.Native.Nat.{ℕ, _+_, _-_, _/_, _%_, _^_, _≤_, _<_, max}
 use lib.ListN.{length, replicate, take, drop, getD}
 use lib.IntN.{pos}
 use lib.Dec.{T, eqb}
 use lib.Ieee.{size}
 use Rattle.totals_spec.specs.Basics.{any, flag}
-use Rattle.totals_spec.specs.Format.{Format, Kind, ieee, noInf, fnuz, finiteOnly, kindOf, validFormat, digits, grid}
+use Rattle.totals_spec.specs.Format.{Format, Kind, ieee, noInf, fnuz, finiteOnly, kindOf, biasOf, validFormat, digits, grid}
 use Rattle.totals_spec.specs.Settings.{Settings, validSettings, summandOf}
 use Rattle.totals_spec.specs.Decode.{Unpacked, zeroOf, finite, infinity, nan, decode, isSubnormal}
 use Rattle.totals_spec.specs.Encode.{encode}
 use Rattle.totals_spec.specs.Terms.{Item, Term, item, pairItem, isZero, exactSum, topOf}
 use Rattle.totals_spec.specs.Chain.{Outcome, zeroSum, exactly, nearly, beside, unfinished, lookAt, chain}
 use Rattle.totals_spec.specs.Round.{round}
-use Rattle.totals_spec.specs.Totals.{Answer, refused, sumRounded, reported, towardsNegative, zeroSign, finiteTotal, isSquare, pairs}
+use Rattle.totals_spec.specs.Totals.{Answer, refused, sumRounded, reported, onGrid, towardsNegative, zeroSign, finiteTotal, isSquare, pairs}
 use Rattle.totals_spec.specs.Totals.{sumRefusal, sumTerms, sumAnswer, dotRefusal, dotTerms, dotAnswer}
 use Rattle.totals_spec.specs.Bytes.{fromBytes, valuesIn, uneven, sumEntry, dotEntry}
 use Rattle.totals_spec.specs.Rearranged.{AsOften, samePair, holdsNan}
@@ -28,7 +29,7 @@ use Rattle.totals_spec.specs.Conditions.{Uneven, First, sumConditions, d
 use Rattle.totals_spec.specs.Places.{StrayAt, DotStrayAt}
 use Rattle.totals_spec.specs.Pence.{penceAnswer}
 use Rattle.totals_spec.specs.Careers.{binary64, rounded, careers, margins, allAgree, sideExamples, refusals, entryExample}
-use Rattle.totals_spec.specs.Careers.{penceExamples, programRuns, programAgrees}
+use Rattle.totals_spec.specs.Careers.{penceExamples, biases, programRuns, programAgrees}
 
 -- ==== the document's examples
 
@@ -43,6 +44,10 @@ Margins-agree = T (allAgree margins)
 -- which way results lean: directed roundings, overflow, flush-to-zero and denormals-are-zero, of sums of either sign
 abbrev pub Sides-agree : Type 0
 Sides-agree = T sideExamples
+
+-- named biases: the farthest, the kind's own, where 1 is no number of the format, and where the grid of products lies below their unit
+abbrev pub Biases-agree : Type 0
+Biases-agree = T biases
 
 -- the examples of the refusals, of a byte entry, of pence and of the program
 abbrev pub Examples-agree : Type 0
@@ -165,16 +170,16 @@ abbrev pub Sum-exact : Type 0
 Sum-exact = (f : Format) (c : Settings) (u : ℕ) (l : List ℕ) → sumRefusal f c u l ≡ 0 → AllFinite f l
     → 0 < length (sumTerms f c (summandOf u) l)
     → sumAnswer f c u l
-    ≡ reported f (any (isSubnormal f) l) (isSquare (summandOf u)) (exactSum (sumTerms f c (summandOf u) l))
-    (sumRounded f c (grid f (isSquare (summandOf u))) (towardsNegative c) (exactSum (sumTerms f c (summandOf u) l)))
+    ≡ reported f (any (isSubnormal f) l) (isSquare (summandOf u)) (onGrid f (isSquare (summandOf u)) (exactSum (sumTerms f c (summandOf u) l)))
+    (sumRounded f c (grid f (isSquare (summandOf u))) (towardsNegative c) (onGrid f (isSquare (summandOf u)) (exactSum (sumTerms f c (summandOf u) l))))
     (chain (digits f) (sumTerms f c (summandOf u) l))
 
 abbrev pub Dot-exact : Type 0
 Dot-exact = (f : Format) (c : Settings) (xs ys : List ℕ) → dotRefusal f c xs ys ≡ 0 → AllFinite f xs → AllFinite f ys
     → 0 < length (dotTerms f c xs ys)
     → dotAnswer f c xs ys
-    ≡ reported f (any (isSubnormal f) xs || any (isSubnormal f) ys) true (exactSum (dotTerms f c xs ys))
-    (sumRounded f c (grid f true) (towardsNegative c) (exactSum (dotTerms f c xs ys)))
+    ≡ reported f (any (isSubnormal f) xs || any (isSubnormal f) ys) true (onGrid f true (exactSum (dotTerms f c xs ys)))
+    (sumRounded f c (grid f true) (towardsNegative c) (onGrid f true (exactSum (dotTerms f c xs ys))))
     (chain (digits f) (dotTerms f c xs ys))
 
 -- whether the zero of a list without a term is negative: by the listed zeros and the mode
@@ -205,11 +210,12 @@ Dot-zeros = (f : Format) (c : Settings) (xs ys : List ℕ) → dotRefusal f c xs
 -- the side: how the result, decoded, lies beside the exact sum of the terms
 abbrev pub Sum-side : Type 0
 Sum-side = (f : Format) (c : Settings) (u : ℕ) (l : List ℕ) → sumRefusal f c u l ≡ 0 → AllFinite f l
-    → (sumAnswer f c u l) .side ≡ sideOf (grid f (isSquare (summandOf u))) (decode f ((sumAnswer f c u l) .result)) (exactSum (sumTerms f c (summandOf u) l))
+    → (sumAnswer f c u l) .side
+    ≡ sideOf (grid f (isSquare (summandOf u))) (decode f ((sumAnswer f c u l) .result)) (onGrid f (isSquare (summandOf u)) (exactSum (sumTerms f c (summandOf u) l)))
 
 abbrev pub Dot-side : Type 0
 Dot-side = (f : Format) (c : Settings) (xs ys : List ℕ) → dotRefusal f c xs ys ≡ 0 → AllFinite f xs → AllFinite f ys
-    → (dotAnswer f c xs ys) .side ≡ sideOf (grid f true) (decode f ((dotAnswer f c xs ys) .result)) (exactSum (dotTerms f c xs ys))
+    → (dotAnswer f c xs ys) .side ≡ sideOf (grid f true) (decode f ((dotAnswer f c xs ys) .result)) (onGrid f true (exactSum (dotTerms f c xs ys)))
 
 -- of every accepted list: a NaN or an infinity has no side
 abbrev pub Sum-no-side : Type 0
@@ -288,6 +294,27 @@ Binary64-square-limit = (c : Settings) (u : ℕ) (l : List ℕ) → (sumAnswer b
 
 abbrev pub Binary64-dot-limit : Type 0
 Binary64-dot-limit = (c : Settings) (xs ys : List ℕ) → (dotAnswer binary64 c xs ys) .passes ≤ 7
+
+-- ==== a named bias (document 02, A.7)
+
+-- a format with its kind's own bias named, and with none named
+abbrev pub namingOwn : Format → Format
+namingOwn f = record { kind = f .kind; E = f .E; W = f .W; named = some (pos (biasOf (kindOf (f .kind)) (f .E))) }
+
+abbrev pub namingNone : Format → Format
+namingNone f = record { kind = f .kind; E = f .E; W = f .W; named = none }
+
+-- every call, refused ones too, has the same answer in one format as in the other
+pub record AnswerAlike (f g : Format) : Type 0 where
+  pub sum : (c : Settings) (u : ℕ) (l : List ℕ) → sumAnswer f c u l ≡ sumAnswer g c u l
+  pub dot : (c : Settings) (xs ys : List ℕ) → dotAnswer f c xs ys ≡ dotAnswer g c xs ys
+  pub sum-entry : (c : Settings) (u : ℕ) (bytes old : List ℕ) → sumEntry f c u bytes old ≡ sumEntry g c u bytes old
+  pub dot-entry : (c : Settings) (left right old : List ℕ) → dotEntry f c left right old ≡ dotEntry g c left right old
+  pub pence : (b : ℕ) → penceAnswer f b ≡ penceAnswer g b
+
+-- naming the kind's own bias is the same as naming none
+abbrev pub Named-own : Type 0
+Named-own = (f : Format) → AnswerAlike (namingOwn f) (namingNone f)
 
 -- ==== the definitions mean what they say
 

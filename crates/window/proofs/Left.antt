@@ -11,6 +11,7 @@ use borrow.Author.Tests.{ne-eqb}
 use types.Run.{OneOf}
 use denote.Enum.Declared.{tagOf}
 use Rattle.limbs.specs.Value.{value}
+use Rattle.totals_spec.specs.Basics.{raised}
 use Rattle.totals_spec.specs.Format.{Format, digits}
 use Rattle.totals_spec.specs.Settings.{Settings}
 use Rattle.totals_spec.specs.Bounds.{RangeBounds, SettingsBounds}
@@ -19,7 +20,8 @@ use Rattle.totals_spec.specs.Round.{round}
 use Rattle.totals_spec.specs.Totals.{sumRounded}
 use Rattle.exact.specs.declared.Unrounded.{Unrounded}
 use Rattle.exact.specs.declared.Rounded.{Rounded}
-use Rattle.exact.specs.Joined.{StandsAt, Stands, Rounds, roundedOf, RoundedOnce}
+use Rattle.exact.specs.Joined.{StandsAt, Stands, raisedBy, Rounds, roundedOf, RoundedOnce}
+use Rattle.exact.proofs.Raised.{stands-raised}
 use Rattle.window.specs.Joined.{outcomeBy, outcomeOf, Deep, Bordered, EndsWith, Ended, Roundable, Leaves}
 use Rattle.window.specs.declared.Chain.{Chain}
 use Rattle.window.specs.declared.ExactSum.{ExactSum}
@@ -174,32 +176,38 @@ stands-some : (b : Bool) (m unit x : ℕ) → 0 < m → 0 < unit → StandsAt b 
 stands-some true m unit x h k s = omega (arith, s .0)
 stands-some false m unit x h k s = subst (λ (n : ℕ). 0 < n) (sym s) (mul-pos h k)
 
-leaves-some : (e : ExactSum) (v : Unrounded) → Leaves e v → settled (outcomeOf e) .mag ≡ 0 → ⊥
-leaves-some e v l z =
-    none (rw z at (stands-some (v .sticky) (value (v .significand)) (2 ^ (v .position)) _ (l .some) (pow-pos (v .position)) (l .stands)))
-  where
-    none : _<_ 0 0 → ⊥
-    none h = omega arith
+leaves-some : (e : ExactSum) (v : Unrounded) → Leaves e v → 0 < settled (outcomeOf e) .mag
+leaves-some e v l = stands-some (v .sticky) (value (v .significand)) (2 ^ (v .position)) _ (l .some) (pow-pos (v .position)) (l .stands)
 
--- and its rounding is that of the sum
-pub leaves-sum : (f : Format) (c : Settings) (g : ℕ) (towards : Bool) (e : ExactSum) (v : Unrounded) (r : Rounded) → Leaves e v → RoundedOnce f c g v r
-    → roundedOf r ≡ sumRounded f c g towards (settled (outcomeOf e))
-unfolding sumRounded
-leaves-sum f c g towards e v r l o =
-    o .equal (settled (outcomeOf e) .mag) (l .stands) ∙ ap (λ (s : Bool). round f c g s (settled (outcomeOf e) .mag)) (l .negative)
-    ∙ sym (rw (ne-eqb (settled (outcomeOf e) .mag) 0 (leaves-some e v l)))
+-- counted from a unit n positions lower, and rounded, it is the sum, counted from there and rounded
+pub leaves-sum : (f : Format) (c : Settings) (g : ℕ) (towards : Bool) (e : ExactSum) (v : Unrounded) (n : ℕ) (r : Rounded)
+    → Leaves e v → RoundedOnce f c g (raisedBy n v) r → roundedOf r ≡ sumRounded f c g towards (raised n (settled (outcomeOf e)))
+unfolding sumRounded raised
+leaves-sum f c g towards e v n r l o =
+    let x = settled (outcomeOf e) .mag * 2 ^ n in
+    o .equal x (stands-raised v n _ (l .stands)) ∙ ap (λ (s : Bool). round f c g s x) (l .negative)
+    ∙ sym (rw (ne-eqb x 0 some))
+  where
+    some : settled (outcomeOf e) .mag * 2 ^ n ≡ 0 → ⊥
+    some z = let k : 0 < settled (outcomeOf e) .mag * 2 ^ n = mul-pos (leaves-some e v l) (pow-pos n) in omega arith
+
+-- a place below 2^62
+pub leaves-low : (p : ℕ) (e : ExactSum) (v : Unrounded) → Ended p e → (e .outcome ≡ out.Zero → ⊥) → Leaves e v → v .position < 2 ^ 62
+leaves-low p e v h n l =
+    let d = deep-of (e .outcome) p (value (e .chain .whole)) (e .chain .place) n (h .ends) in
+    omega (arith, d .small, l .low)
 
 -- what `round` requires of its value
-pub leaves-rounds : (f : Format) (c : Settings) (g : ℕ) (e : ExactSum) (v : Unrounded) → RangeBounds f → SettingsBounds f c → g < 2 ^ 62
-    → Ended (digits f) e → (e .outcome ≡ out.Zero → ⊥) → Leaves e v → Rounds f c g v
-leaves-rounds f c g e v b t k h n l =
-    let d = deep-of (e .outcome) (digits f) (value (e .chain .whole)) (e .chain .place) n (h .ends) in
+pub leaves-rounds : (f : Format) (c : Settings) (g : ℕ) (e : ExactSum) (v : Unrounded) (n : ℕ) → RangeBounds f → SettingsBounds f c → g < 2 ^ 62
+    → n ≤ 2 ^ 28 → Ended (digits f) e → (e .outcome ≡ out.Zero → ⊥) → Leaves e v → Rounds f c g (raisedBy n v)
+leaves-rounds f c g e v n b t k few h some l =
+    let d = deep-of (e .outcome) (digits f) (value (e .chain .whole)) (e .chain .place) some (h .ends) in
     record {
       format = b;
       settings = t;
       some = l .some;
       high = omega (arith, d .high, l .high);
-      low = omega (arith, d .small, l .low);
+      low = omega (arith, few, leaves-low (digits f) e v h some l);
       grid = k;
       long = l .long (digits f) (h .ends);
     }

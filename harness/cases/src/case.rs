@@ -12,10 +12,53 @@ pub enum Operation {
     Dot,
 }
 
+/// A format, or three numbers and a bias that are none.
+#[derive(Clone, Copy, Debug, PartialEq, Eq, Hash)]
+pub struct Format {
+    /// Kind, exponent bits, width.
+    pub numbers: [u64; 3],
+    /// The bias that is named, if one is.
+    pub bias: Option<i64>,
+}
+
+impl Format {
+    /// A format that names no bias.
+    pub const fn plain(numbers: [u64; 3]) -> Self {
+        Self { numbers, bias: None }
+    }
+
+    pub const fn biased(numbers: [u64; 3], bias: i64) -> Self {
+        Self { numbers, bias: Some(bias) }
+    }
+
+    pub fn exponent_bits(&self) -> u64 {
+        self.numbers[1]
+    }
+
+    pub fn width(&self) -> u64 {
+        self.numbers[2]
+    }
+
+    /// The bias of the kind, for three numbers that are a format.
+    pub fn own_bias(&self) -> i64 {
+        let [kind, e, _] = self.numbers;
+        let half = 1 << (e - 1);
+        if kind == 2 { half } else { half - 1 }
+    }
+
+    pub fn names_its_own(&self) -> bool {
+        self.bias == Some(self.own_bias())
+    }
+
+    /// The bias that the format has.
+    pub fn bias_or_own(&self) -> i64 {
+        self.bias.unwrap_or_else(|| self.own_bias())
+    }
+}
+
 #[derive(Clone, Debug)]
 pub struct Case {
-    /// Kind, exponent bits, width.
-    pub format: [u64; 3],
+    pub format: Format,
     /// Rounding, tininess, NaN propagation, default NaN's sign, flush to zero, denormals are zero, saturate, precision.
     pub settings: [u64; 8],
     pub operation: Operation,
@@ -35,7 +78,7 @@ pub struct Case {
 
 impl Case {
     /// A well-formed call on a list of no values.
-    pub fn new(format: [u64; 3], settings: [u64; 8], operation: Operation) -> Self {
+    pub fn new(format: Format, settings: [u64; 8], operation: Operation) -> Self {
         Self { format, settings, operation, left: vec![], right: vec![], behind: [0; 2], room: 40, fill: 0xa5, order: 0 }
     }
 
@@ -60,9 +103,12 @@ fn list(values: &[u64]) -> String {
 
 impl fmt::Display for Case {
     fn fmt(&self, out: &mut fmt::Formatter) -> fmt::Result {
-        let [kind, e, w] = self.format;
+        let [kind, e, w] = self.format.numbers;
         let names = ["rounding", "tininess", "nan", "default-nan", "flush", "daz", "saturate", "precision"];
         write!(out, "kind {kind} E {e} W {w}")?;
+        if let Some(bias) = self.format.bias {
+            write!(out, ", bias {bias}")?;
+        }
         for (name, value) in names.iter().zip(self.settings).filter(|(_, value)| *value != 0) {
             write!(out, ", {name} {value}")?;
         }

@@ -3,9 +3,8 @@
 
 use std::panic::{AssertUnwindSafe, catch_unwind};
 
-use fermuzhai::raw;
-
-use crate::case::{Case, Operation};
+use crate::case::{Case, Format, Operation};
+use crate::entries;
 use crate::leaning::leaning;
 use crate::refusals::{Expected, Side, expected, is_stray};
 use crate::rng::Rng;
@@ -21,7 +20,7 @@ pub struct Answer {
 
 /// The original: the formats that it was compiled for, and its totals. It is asked about accepted cases only.
 pub struct Oracle<'a> {
-    pub formats: Vec<[u64; 3]>,
+    pub formats: Vec<Format>,
     pub total: &'a (dyn Fn(&Case) -> Answer + Sync),
 }
 
@@ -33,8 +32,8 @@ pub enum Seen {
 }
 
 /// The two entries to compare, as functions of a case's numbers and bytes. Tests put others in their place.
-pub type Sum = fn([u64; 3], [u64; 8], u64, &[u8], &mut [u8]) -> u64;
-pub type Dot = fn([u64; 3], [u64; 8], &[u8], &[u8], &mut [u8]) -> u64;
+pub type Sum = fn(Format, [u64; 8], u64, &[u8], &mut [u8]) -> u64;
+pub type Dot = fn(Format, [u64; 8], &[u8], &[u8], &mut [u8]) -> u64;
 
 /// Buffers that serve one case after another.
 pub struct Bench {
@@ -43,12 +42,13 @@ pub struct Bench {
     left: Vec<u8>,
     right: Vec<u8>,
     answer: Vec<u8>,
+    /// The answer of the case, for others that are to have the same.
     first: Vec<u8>,
 }
 
 impl Default for Bench {
     fn default() -> Self {
-        Self::with(raw::sum, raw::dot)
+        Self::with(entries::sum, entries::dot)
     }
 }
 
@@ -148,22 +148,24 @@ impl Bench {
         if original != answer {
             return Err(format!("the original answers {original:x?}, the archive {answer:x?}"));
         }
+        self.first.clear();
+        self.first.extend_from_slice(&self.answer[skew(case)..skew(case) + 24]);
         let rearranged = case.left.len() > 1 && !has_nan(case);
         if rearranged {
-            self.check_order(case)?;
+            self.check_same("rearranged to", &in_another_order(case))?;
+        }
+        if case.format.names_its_own() {
+            self.check_same("without the bias", &Case { format: Format::plain(case.format.numbers), ..case.clone() })?;
         }
         Ok(Seen::Accepted { answer, side, rearranged })
     }
 
-    /// The rearranged list gives the same 24 bytes. The answer of the case itself is in the buffer.
-    fn check_order(&mut self, case: &Case) -> Result<(), String> {
-        self.first.clear();
-        self.first.extend_from_slice(&self.answer[skew(case)..skew(case) + 24]);
-        let other = rearranged(case);
-        let code = self.call(&other);
-        let written = self.written(&other);
+    /// Another case gives the same 24 bytes as the one before, which `first` holds.
+    fn check_same(&mut self, how: &str, other: &Case) -> Result<(), String> {
+        let code = self.call(other);
+        let written = self.written(other);
         if code != 0 || written != self.first {
-            return Err(format!("rearranged to {other}: returned {code}, {written:02x?} against {:02x?}", self.first));
+            return Err(format!("{how} {other}: returned {code}, {written:02x?} against {:02x?}", self.first));
         }
         Ok(())
     }
@@ -172,7 +174,7 @@ impl Bench {
 /// Number 7's place is the lowest index of an element of that list with a stray bit.
 fn check_place(case: &Case, side: Side, place: u64) -> Result<Seen, String> {
     let list = if side == Side::Left { &case.left } else { &case.right };
-    match list.iter().position(|&value| is_stray(value, case.format[2])) {
+    match list.iter().position(|&value| is_stray(value, case.format.width())) {
         Some(first) if first as u64 == place => Ok(Seen::Refused(7)),
         first => Err(format!("refusal 7 of the {side:?} list names place {place}, and the first is {first:?}")),
     }
@@ -184,7 +186,7 @@ fn has_nan(case: &Case) -> bool {
 }
 
 /// The same elements, or pairs of elements, in another order.
-fn rearranged(case: &Case) -> Case {
+fn in_another_order(case: &Case) -> Case {
     let mut order: Vec<usize> = (0..case.left.len()).collect();
     Rng::new(case.order, 0, 0).shuffle(&mut order);
     let take = |list: &[u64]| order.iter().map(|&i| list[i]).collect();
@@ -199,25 +201,27 @@ fn rearranged(case: &Case) -> Case {
 
 #[cfg(test)]
 mod tests {
-    use crate::refusals::is_stray;
     use fermuzhai::raw;
 
-    use super::{Answer, Bench, Oracle, word};
-    use crate::case::{Case, Operation};
+    use super::{Answer, Bench, Oracle, Seen, word};
+    use crate::biases;
+    use crate::case::{Case, Format, Operation};
+    use crate::entries;
     use crate::lists;
+    use crate::refusals::is_stray;
     use crate::refused::refused;
     use crate::rng::Rng;
     use crate::shrink::shrink;
 
-    const BINARY16: [u64; 3] = [0, 5, 16];
+    const BINARY16: Format = Format::plain([0, 5, 16]);
 
     /// The archive itself in the place of the original.
     fn archive(case: &Case) -> Answer {
         let mut answer = [0; 24];
         let bytes = |list: &[u64]| raw::bytes(list);
         match case.operation {
-            Operation::Sum(summand) => raw::sum(case.format, case.settings, summand, &bytes(&case.left), &mut answer),
-            Operation::Dot => raw::dot(case.format, case.settings, &bytes(&case.left), &bytes(&case.right), &mut answer),
+            Operation::Sum(summand) => entries::sum(case.format, case.settings, summand, &bytes(&case.left), &mut answer),
+            Operation::Dot => entries::dot(case.format, case.settings, &bytes(&case.left), &bytes(&case.right), &mut answer),
         };
         Answer { result: word(&answer, 0), flags: answer[8], passes: word(&answer, 16) }
     }
@@ -230,7 +234,7 @@ mod tests {
     const FORMATS: [[u64; 3]; 10] =
         [[0, 2, 4], [0, 11, 64], [0, 28, 30], [0, 28, 64], [1, 2, 64], [1, 4, 8], [2, 2, 4], [2, 8, 32], [3, 2, 64], [3, 15, 17]];
 
-    fn drawn(format: [u64; 3], number: u64) -> Case {
+    fn drawn(format: Format, number: u64) -> Case {
         let rng = &mut Rng::new(7, 7, number);
         match number % 8 {
             0 => lists::random(rng, format),
@@ -239,7 +243,7 @@ mod tests {
             3 => lists::chains(rng, format),
             4 => lists::cancellations(rng, format),
             5 => lists::specials(rng, format),
-            6 if format[1] > 15 => lists::wide(rng, format),
+            6 if format.exponent_bits() > 15 => lists::wide(rng, format),
             _ => refused(rng, format),
         }
     }
@@ -248,7 +252,31 @@ mod tests {
     fn the_archive_keeps_the_table_the_buffers_and_the_order() {
         let mut bench = Bench::default();
         for number in 0..20_000 {
-            let case = drawn(FORMATS[number as usize / 8 % FORMATS.len()], number);
+            let case = drawn(Format::plain(FORMATS[number as usize / 8 % FORMATS.len()]), number);
+            if let Err(what) = bench.check(&case, &oracle(&archive)) {
+                panic!("case {number}, {case}: {what}");
+            }
+        }
+    }
+
+    /// What lies at the ends of the range and beside 0, and what makes 1 no number of the format.
+    const BIASES: [i64; 11] = [0, 1, -1, 11, 40, -40, 2000, -2000, 1 << 27, 1 << 28, -(1 << 28)];
+
+    fn biased(number: u64) -> Case {
+        let (place, rng) = (number as usize / 4, &mut Rng::new(7, 8, number));
+        let format = Format::biased(FORMATS[place % FORMATS.len()], BIASES[place % BIASES.len()]);
+        match number % 4 {
+            0 => biases::own(rng, format),
+            1 => biases::out_of_range(rng, format),
+            _ => biases::named(rng, format),
+        }
+    }
+
+    #[test]
+    fn the_archive_keeps_them_in_formats_that_name_a_bias() {
+        let mut bench = Bench::default();
+        for number in 0..20_000 {
+            let case = biased(number);
             if let Err(what) = bench.check(&case, &oracle(&archive)) {
                 panic!("case {number}, {case}: {what}");
             }
@@ -285,82 +313,82 @@ mod tests {
 
     /// Whether some drawn case shows that this is not the archive's sum.
     fn is_caught(sum: super::Sum) -> bool {
-        let mut bench = Bench::with(sum, raw::dot);
+        let mut bench = Bench::with(sum, entries::dot);
         (0..20_000).any(|number| bench.check(&drawn(BINARY16, number), &oracle(&archive)).is_err())
     }
 
-    fn writes_one_byte_more(f: [u64; 3], c: [u64; 8], u: u64, values: &[u8], answer: Bytes) -> u64 {
-        let code = raw::sum(f, c, u, values, answer);
+    fn writes_one_byte_more(f: Format, c: [u64; 8], u: u64, values: &[u8], answer: Bytes) -> u64 {
+        let code = entries::sum(f, c, u, values, answer);
         if let (0, Some(byte)) = (code, answer.get_mut(24)) {
             *byte = 0;
         }
         code
     }
 
-    fn clears_the_buffer_first(f: [u64; 3], c: [u64; 8], u: u64, values: &[u8], answer: Bytes) -> u64 {
+    fn clears_the_buffer_first(f: Format, c: [u64; 8], u: u64, values: &[u8], answer: Bytes) -> u64 {
         answer.iter_mut().take(24).for_each(|byte| *byte = 0);
-        raw::sum(f, c, u, values, answer)
+        entries::sum(f, c, u, values, answer)
     }
 
-    fn refuses_a_full_precision(f: [u64; 3], c: [u64; 8], u: u64, values: &[u8], answer: Bytes) -> u64 {
-        if c[7] == 11 && f == BINARY16 { 4 } else { raw::sum(f, c, u, values, answer) }
+    fn refuses_a_full_precision(f: Format, c: [u64; 8], u: u64, values: &[u8], answer: Bytes) -> u64 {
+        if c[7] == 11 && f == BINARY16 { 4 } else { entries::sum(f, c, u, values, answer) }
     }
 
-    fn reads_settings_as_bytes(f: [u64; 3], c: [u64; 8], u: u64, values: &[u8], answer: Bytes) -> u64 {
-        raw::sum(f, c.map(|n| n & 0xff), u, values, answer)
+    fn reads_settings_as_bytes(f: Format, c: [u64; 8], u: u64, values: &[u8], answer: Bytes) -> u64 {
+        entries::sum(f, c.map(|n| n & 0xff), u, values, answer)
     }
 
-    fn names_the_place_after(f: [u64; 3], c: [u64; 8], u: u64, values: &[u8], answer: Bytes) -> u64 {
-        let code = raw::sum(f, c, u, values, answer);
+    fn names_the_place_after(f: Format, c: [u64; 8], u: u64, values: &[u8], answer: Bytes) -> u64 {
+        let code = entries::sum(f, c, u, values, answer);
         if code % 256 == 7 { code + 256 } else { code }
     }
 
     /// Another element with a stray bit, but not the first.
-    fn names_the_last_place(f: [u64; 3], c: [u64; 8], u: u64, values: &[u8], answer: Bytes) -> u64 {
-        let code = raw::sum(f, c, u, values, answer);
+    fn names_the_last_place(f: Format, c: [u64; 8], u: u64, values: &[u8], answer: Bytes) -> u64 {
+        let code = entries::sum(f, c, u, values, answer);
         if code % 256 != 7 {
             return code;
         }
         let words = values.chunks_exact(8).map(|bytes| u64::from_le_bytes(bytes.try_into().unwrap()));
-        7 + 256 * (words.enumerate().filter(|&(_, word)| is_stray(word, f[2])).last().unwrap().0 as u64)
+        7 + 256 * (words.enumerate().filter(|&(_, word)| is_stray(word, f.width())).last().unwrap().0 as u64)
     }
 
     /// 1 and 2 exchanged below zero, as if the side were one of magnitudes.
-    fn leans_by_magnitude(f: [u64; 3], c: [u64; 8], u: u64, values: &[u8], answer: Bytes) -> u64 {
-        let code = raw::sum(f, c, u, values, answer);
-        if code == 0 && answer[7 - (64 - f[2] as usize) / 8] & 0x80 != 0 && [1, 2].contains(&answer[10]) {
+    fn leans_by_magnitude(f: Format, c: [u64; 8], u: u64, values: &[u8], answer: Bytes) -> u64 {
+        let code = entries::sum(f, c, u, values, answer);
+        if code == 0 && answer[7 - (64 - f.width() as usize) / 8] & 0x80 != 0 && [1, 2].contains(&answer[10]) {
             answer[10] = 3 - answer[10];
         }
         code
     }
 
-    fn leans_before_denormals_are_zero(f: [u64; 3], c: [u64; 8], u: u64, values: &[u8], answer: Bytes) -> u64 {
+    fn leans_before_denormals_are_zero(f: Format, c: [u64; 8], u: u64, values: &[u8], answer: Bytes) -> u64 {
         let mut other = [0; 24];
-        let code = raw::sum(f, c, u, values, answer);
-        if code == 0 && raw::sum(f, [c[0], c[1], c[2], c[3], c[4], 0, c[6], c[7]], u, values, &mut other) == 0 {
+        let code = entries::sum(f, c, u, values, answer);
+        if code == 0 && entries::sum(f, [c[0], c[1], c[2], c[3], c[4], 0, c[6], c[7]], u, values, &mut other) == 0 {
             answer[10] = other[10];
         }
         code
     }
 
-    fn has_no_side(f: [u64; 3], c: [u64; 8], u: u64, values: &[u8], answer: Bytes) -> u64 {
-        let code = raw::sum(f, c, u, values, answer);
+    fn has_no_side(f: Format, c: [u64; 8], u: u64, values: &[u8], answer: Bytes) -> u64 {
+        let code = entries::sum(f, c, u, values, answer);
         if code == 0 {
             answer[10] = 0;
         }
         code
     }
 
-    fn has_its_side_in_byte_9(f: [u64; 3], c: [u64; 8], u: u64, values: &[u8], answer: Bytes) -> u64 {
-        let code = raw::sum(f, c, u, values, answer);
+    fn has_its_side_in_byte_9(f: Format, c: [u64; 8], u: u64, values: &[u8], answer: Bytes) -> u64 {
+        let code = entries::sum(f, c, u, values, answer);
         if code == 0 {
             answer.swap(9, 10);
         }
         code
     }
 
-    fn answers_by_the_first_element(f: [u64; 3], c: [u64; 8], u: u64, values: &[u8], answer: Bytes) -> u64 {
-        let code = raw::sum(f, c, u, values, answer);
+    fn answers_by_the_first_element(f: Format, c: [u64; 8], u: u64, values: &[u8], answer: Bytes) -> u64 {
+        let code = entries::sum(f, c, u, values, answer);
         if code == 0 && values.len() == 24 && values[0] > values[8] {
             answer[16] ^= 1;
         }
@@ -369,7 +397,7 @@ mod tests {
 
     #[test]
     fn wrong_entries_are_caught() {
-        assert!(!is_caught(raw::sum));
+        assert!(!is_caught(entries::sum));
         assert!(is_caught(writes_one_byte_more));
         assert!(is_caught(clears_the_buffer_first));
         assert!(is_caught(refuses_a_full_precision));
@@ -381,5 +409,75 @@ mod tests {
         assert!(is_caught(has_no_side));
         assert!(is_caught(has_its_side_in_byte_9));
         assert!(is_caught(answers_by_the_first_element));
+    }
+
+    /// Whether some drawn case with a bias shows that this is not the archive's sum, or dot.
+    fn is_bias_caught(sum: super::Sum, dot: super::Dot) -> bool {
+        let mut bench = Bench::with(sum, dot);
+        (0..20_000).any(|number| bench.check(&biased(number), &oracle(&archive)).is_err())
+    }
+
+    fn with_bias(f: Format, other: fn(i64) -> i64) -> Format {
+        Format { bias: f.bias.map(other), ..f }
+    }
+
+    /// Sums, and then dots, that read the bias wrongly.
+    #[test]
+    fn wrong_biases_are_caught() {
+        assert!(!is_bias_caught(entries::sum, entries::dot));
+        assert!(is_bias_caught(|f, c, u, values, answer| entries::sum(with_bias(f, |b| b.wrapping_add(1)), c, u, values, answer), entries::dot));
+        assert!(is_bias_caught(|f, c, u, values, answer| entries::sum(with_bias(f, i64::saturating_abs), c, u, values, answer), entries::dot));
+        assert!(is_bias_caught(|f, c, u, values, answer| entries::sum(with_bias(f, |b| b as i32 as i64), c, u, values, answer), entries::dot));
+        assert!(is_bias_caught(|f, c, u, values, answer| entries::sum(with_bias(f, |b| b.min(1 << 28)), c, u, values, answer), entries::dot));
+        assert!(is_bias_caught(|f, c, u, values, answer| entries::sum(Format::plain(f.numbers), c, u, values, answer), entries::dot));
+        assert!(is_bias_caught(entries::sum, |f, c, x, y, answer| entries::dot(with_bias(f, |b| b.wrapping_sub(1)), c, x, y, answer)));
+        assert!(is_bias_caught(entries::sum, |f, c, x, y, answer| entries::dot(with_bias(f, i64::wrapping_neg), c, x, y, answer)));
+        assert!(is_bias_caught(entries::sum, |f, c, x, y, answer| entries::dot(with_bias(f, |b| b.max(-1 << 28)), c, x, y, answer)));
+        assert!(is_bias_caught(entries::sum, |f, c, x, y, answer| entries::dot(Format::plain(f.numbers), c, x, y, answer)));
+    }
+
+    #[test]
+    fn biases_outside_their_range_get_3_after_1_and_2() {
+        let mut bench = Bench::default();
+        for (bias, operation) in
+            [(1 << 28 | 1, Operation::Sum(0)), (-(1 << 28 | 1), Operation::Dot), (i64::MAX, Operation::Dot), (i64::MIN, Operation::Sum(2))]
+        {
+            let mut refusal = |case: &Case| match bench.check(case, &oracle(&archive)) {
+                Ok(Seen::Refused(number)) => number,
+                other => panic!("{case}: {other:?}"),
+            };
+            let mut case = Case::new(Format::biased([0, 5, 16], bias), [8; 8], operation);
+            assert_eq!(refusal(&case), 3);
+            case.room = 23;
+            assert_eq!(refusal(&case), 2);
+            case.behind[usize::from(case.is_dot())] = 1;
+            assert_eq!(refusal(&case), 1);
+        }
+    }
+
+    #[test]
+    fn a_bias_at_the_end_of_the_range_that_is_refused_is_caught() {
+        let refuses: super::Sum = |f, c, u, values, answer| if f.bias == Some(-1 << 28) { 3 } else { entries::sum(f, c, u, values, answer) };
+        assert!(is_bias_caught(refuses, entries::dot));
+    }
+
+    /// An archive and an original that are wrong alike, where any bias is named.
+    #[test]
+    fn the_kinds_own_bias_is_held_to_none() {
+        let alike = |case: &Case| {
+            let answer = archive(case);
+            Answer { passes: answer.passes + u64::from(case.format.bias.is_some()), ..answer }
+        };
+        let sum: super::Sum = |f, c, u, values, answer| {
+            let code = entries::sum(f, c, u, values, answer);
+            answer[16] += u8::from(code == 0 && f.bias.is_some());
+            code
+        };
+        let mut bench = Bench::with(sum, entries::dot);
+        let mut case = Case::new(Format::biased([0, 5, 16], 14), [0; 8], Operation::Sum(0));
+        case.left = vec![0x3c00];
+        assert!(bench.check(&case, &oracle(&alike)).is_ok());
+        case.format.bias = Some(15);
+        assert!(bench.check(&case, &oracle(&alike)).is_err());
     }
 }

@@ -1,12 +1,12 @@
 //! Settings and single values, drawn where trouble is likely: near each other and near the ends of the format.
 
-use crate::case::{Case, Operation};
+use crate::case::{Case, Format, Operation};
 use crate::rng::Rng;
 use crate::shape::Shape;
 
 /// Formats with more exponent bits than 15 have numbers so far apart that the original walks thousands of passes between them.
-pub fn is_wide(format: [u64; 3]) -> bool {
-    format[1] > 15
+pub fn is_wide(format: Format) -> bool {
+    format.exponent_bits() > 15
 }
 
 /// How far apart, in positions, the values of one list of a wide format lie.
@@ -36,7 +36,7 @@ pub fn operation(rng: &mut Rng) -> Operation {
 }
 
 /// A case of this format and operation, still without values.
-pub fn empty_case(rng: &mut Rng, format: [u64; 3], operation: Operation) -> Case {
+pub fn empty_case(rng: &mut Rng, format: Format, operation: Operation) -> Case {
     let mut case = Case::new(format, settings(rng, Shape::of(format).digits), operation);
     case.room = 24 + rng.below(24) as usize;
     case.fill = rng.next() as u8;

@@ -1,6 +1,6 @@
 //! Every list of a few values of a tiny format, with every setting or with those that such lists can feel.
 
-use crate::case::{Case, Operation};
+use crate::case::{Case, Format, Operation};
 use crate::rng::Rng;
 
 /// A set of cases, one for each number below `size`.
@@ -67,7 +67,7 @@ impl Space {
         for (i, radix) in self.radices().into_iter().enumerate() {
             settings[i] = if self.every[i] { digit(&mut rest, radix) } else { rng.below(radix) };
         }
-        let mut case = Case::new([kind, self.exponent_bits, self.width], settings, operation);
+        let mut case = Case::new(Format::plain([kind, self.exponent_bits, self.width]), settings, operation);
         self.put_lists(rest, &mut case);
         case.fill = rng.next() as u8;
         case.room = 24 + rng.below(8) as usize;
@@ -100,7 +100,7 @@ mod tests {
         let space = &SPACES[3];
         let key = |number| {
             let case = space.case(1, number);
-            (case.format[0], case.settings[0], case.left, case.right)
+            (case.format.numbers[0], case.settings[0], case.left, case.right)
         };
         let seen: HashSet<_> = (0..space.size()).step_by(7).map(key).collect();
         assert_eq!(seen.len() as u64, space.size().div_ceil(7));

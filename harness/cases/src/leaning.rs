@@ -20,7 +20,7 @@ struct Term {
 /// The side of a result of the case.
 pub fn leaning(case: &Case, result: u64) -> u8 {
     let shape = Shape::of(case.format);
-    // a product counts from the square of the least number, where the least number itself lies this far up
+    // a product counts from the square of the least number, where the least number itself lies this far up: down, where it is the lesser of the two
     let grid = if case.is_product() { shape.position_of_one() } else { 0 };
     let (Some(mut terms), Some((negative, m, k))) = (terms(case, &shape), number(shape.decode(result))) else {
         return NO_COMPARISON;
@@ -97,12 +97,12 @@ fn sign_of(terms: &[Term]) -> i32 {
 #[cfg(test)]
 mod tests {
     use super::{ABOVE, BELOW, EQUAL, NO_COMPARISON, Term, leaning, sign_of};
-    use crate::case::{Case, Operation};
+    use crate::case::{Case, Format, Operation};
 
-    const BINARY16: [u64; 3] = [0, 5, 16];
-    const BINARY64: [u64; 3] = [0, 11, 64];
+    const BINARY16: Format = Format::plain([0, 5, 16]);
+    const BINARY64: Format = Format::plain([0, 11, 64]);
 
-    fn of(format: [u64; 3], operation: Operation, left: &[u64], right: &[u64], result: u64) -> u8 {
+    fn of(format: Format, operation: Operation, left: &[u64], right: &[u64], result: u64) -> u8 {
         let mut case = Case::new(format, [0; 8], operation);
         case.left = left.to_vec();
         case.right = right.to_vec();
@@ -141,12 +141,34 @@ mod tests {
         assert_eq!(sum(0, &[0x7bff, 0x7bff], 0x7bff), BELOW);
         assert_eq!(sum(0, &[0x7bff, 0x7bff], 0x7c00), NO_COMPARISON);
         assert_eq!(sum(0, &[0x7c00], 0x7c00), NO_COMPARISON);
-        assert_eq!(of([1, 4, 8], Operation::Sum(0), &[0x7e, 0x7e], &[], 0x7f), NO_COMPARISON);
-        assert_eq!(of([2, 4, 8], Operation::Sum(0), &[0x38, 0xb8], &[], 0), EQUAL);
+        assert_eq!(of(Format::plain([1, 4, 8]), Operation::Sum(0), &[0x7e, 0x7e], &[], 0x7f), NO_COMPARISON);
+        assert_eq!(of(Format::plain([2, 4, 8]), Operation::Sum(0), &[0x38, 0xb8], &[], 0), EQUAL);
         let one = 1f64.to_bits();
         assert_eq!(of(BINARY64, Operation::Dot, &[one, 1], &[one, 1], one), BELOW);
         assert_eq!(of(BINARY64, Operation::Dot, &[one, 1], &[one, 1 << 63 | 1], one), ABOVE);
         assert_eq!(of(BINARY64, Operation::Dot, &[3f64.to_bits()], &[5f64.to_bits()], 15f64.to_bits()), EQUAL);
+    }
+
+    /// 1.5 × 2^n, of which the square is 2.25 × 2^2n.
+    #[test]
+    fn sides_in_formats_that_name_a_bias() {
+        for bias in [0, 1, -1, 15, 40, -40, 2000, -2000, 1 << 27, -(1 << 27), 1 << 28] {
+            let format = Format::biased([0, 28, 64], bias);
+            let field = |n: i64| ((n + bias) as u64) << 35;
+            // 0, or what lies nearest to it of emin and emax - 1
+            let n = 0.max(1 - bias).min((1 << 28) - 3 - bias);
+            let (root, square) = (field(n) | 1 << 34, field(2 * n + 1) | 1 << 32);
+            assert_eq!(of(format, Operation::Sum(2), &[root], &[], square), EQUAL, "{bias}");
+            assert_eq!(of(format, Operation::Dot, &[root], &[root], square + 1), ABOVE, "{bias}");
+            assert_eq!(of(format, Operation::Dot, &[root], &[root], square - 1), BELOW, "{bias}");
+            let beside = Format::biased(format.numbers, bias + 1);
+            assert_eq!(of(beside, Operation::Sum(2), &[root], &[], square), ABOVE, "{bias}");
+            // a sum is of numbers of one and the same unit, whatever that is
+            assert_eq!(of(beside, Operation::Sum(0), &[root, root], &[], root + (1 << 35)), EQUAL, "{bias}");
+        }
+        // the least numbers are 2^-(2^28 + 1), 1/2, 1 and 2^(2^28 - 1)
+        let least = |bias: i64| of(Format::biased([3, 2, 5], bias), Operation::Sum(2), &[1], &[], 1);
+        assert_eq!([least(1 << 28), least(0), least(-1), least(-(1 << 28))], [ABOVE, ABOVE, EQUAL, BELOW]);
     }
 
     #[test]

@@ -1,9 +1,11 @@
 //! Cases for comparing libtotals.a with the original `Layout::reduce` and `Layout::dot`, and the comparison itself. The original is handed in as
 //! an [`Oracle`]: this crate has no part of it.
 
+mod biases;
 mod case;
 mod check;
 mod draw;
+mod entries;
 mod exhaustive;
 mod leaning;
 mod lists;
@@ -16,6 +18,6 @@ mod shrink;
 mod tally;
 mod terms;
 
-pub use case::{Case, Operation};
+pub use case::{Case, Format, Operation};
 pub use check::{Answer, Oracle};
 pub use run::{Options, run};

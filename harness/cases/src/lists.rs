@@ -1,6 +1,6 @@
 //! The lists that are drawn, group by group.
 
-use crate::case::{Case, LIMIT, Operation};
+use crate::case::{Case, Format, LIMIT, Operation};
 use crate::draw::{Near, empty_case, is_wide, length, operation};
 use crate::rng::Rng;
 use crate::shape::Shape;
@@ -25,12 +25,12 @@ fn put_near(rng: &mut Rng, case: &mut Case, count: usize, left: &Near, right: &N
 }
 
 /// Values near each other, or any bits at all.
-pub fn random(rng: &mut Rng, format: [u64; 3]) -> Case {
+pub fn random(rng: &mut Rng, format: Format) -> Case {
     let operation = operation(rng);
     let mut case = empty_case(rng, format, operation);
     let count = length(rng);
     if !is_wide(format) && rng.once_in(6) {
-        let bits = |rng: &mut Rng| rng.next() >> (64 - format[2]);
+        let bits = |rng: &mut Rng| rng.next() >> (64 - format.width());
         case.left = (0..count).map(|_| bits(rng)).collect();
         case.right = if case.is_dot() { (0..count).map(|_| bits(rng)).collect() } else { vec![] };
     } else {
@@ -40,16 +40,16 @@ pub fn random(rng: &mut Rng, format: [u64; 3]) -> Case {
 }
 
 /// Ties, and what lies beside them.
-pub fn ties(rng: &mut Rng, format: [u64; 3]) -> Case {
+pub fn ties(rng: &mut Rng, format: Format) -> Case {
     tie(rng, format, false)
 }
 
 /// The same at the largest results and at the least ones.
-pub fn ties_at_the_ends(rng: &mut Rng, format: [u64; 3]) -> Case {
+pub fn ties_at_the_ends(rng: &mut Rng, format: Format) -> Case {
     tie(rng, format, true)
 }
 
-fn tie(rng: &mut Rng, format: [u64; 3], at_ends: bool) -> Case {
+fn tie(rng: &mut Rng, format: Format, at_ends: bool) -> Case {
     let operation = operation(rng);
     let mut case = empty_case(rng, format, operation);
     Builder::new(rng, &mut case).tie(at_ends);
@@ -57,7 +57,7 @@ fn tie(rng: &mut Rng, format: [u64; 3], at_ends: bool) -> Case {
 }
 
 /// Chains of passes.
-pub fn chains(rng: &mut Rng, format: [u64; 3]) -> Case {
+pub fn chains(rng: &mut Rng, format: Format) -> Case {
     let operation = operation(rng);
     let mut case = empty_case(rng, format, operation);
     Builder::new(rng, &mut case).chain();
@@ -65,7 +65,7 @@ pub fn chains(rng: &mut Rng, format: [u64; 3]) -> Case {
 }
 
 /// Terms so far apart that the chain has many passes in which no term is seen.
-pub fn wide(rng: &mut Rng, format: [u64; 3]) -> Case {
+pub fn wide(rng: &mut Rng, format: Format) -> Case {
     let operation = if rng.bit() { Operation::Sum(0) } else { Operation::Dot };
     let mut case = empty_case(rng, format, operation);
     Builder::new(rng, &mut case).wide();
@@ -73,7 +73,7 @@ pub fn wide(rng: &mut Rng, format: [u64; 3]) -> Case {
 }
 
 /// A list, the negatives of its values in another order, and a few values more.
-pub fn cancellations(rng: &mut Rng, format: [u64; 3]) -> Case {
+pub fn cancellations(rng: &mut Rng, format: Format) -> Case {
     let operation = if rng.bit() { Operation::Sum(0) } else { Operation::Dot };
     let mut case = empty_case(rng, format, operation);
     let count = 1 + rng.below(8) as usize;
@@ -107,7 +107,7 @@ fn negate(rng: &mut Rng, case: &mut Case, i: usize) {
 }
 
 /// Lists with infinities, NaNs, zeros and subnormal numbers. In a wide format subnormal numbers stand only among small ones.
-pub fn specials(rng: &mut Rng, format: [u64; 3]) -> Case {
+pub fn specials(rng: &mut Rng, format: Format) -> Case {
     let operation = operation(rng);
     let mut case = empty_case(rng, format, operation);
     let low = is_wide(format) && rng.bit();
@@ -146,7 +146,7 @@ fn special(rng: &mut Rng, shape: &Shape, subnormal: bool) -> u64 {
 }
 
 /// Long lists of few different values, so that carries run far and lost bits add up.
-pub fn many(rng: &mut Rng, format: [u64; 3]) -> Case {
+pub fn many(rng: &mut Rng, format: Format) -> Case {
     let operation = operation(rng);
     let mut case = empty_case(rng, format, operation);
     let different = 1 + rng.below(6) as usize;
@@ -168,7 +168,7 @@ fn lengthen(rng: &mut Rng, case: &mut Case, different: usize, count: usize) {
 }
 
 /// Lists of about 1,048,576 elements: the most that is accepted, and a few more.
-pub fn limit(rng: &mut Rng, format: [u64; 3]) -> Case {
+pub fn limit(rng: &mut Rng, format: Format) -> Case {
     let operation = operation(rng);
     let mut case = empty_case(rng, format, operation);
     let different = 1 + rng.below(3) as usize;
@@ -178,7 +178,7 @@ pub fn limit(rng: &mut Rng, format: [u64; 3]) -> Case {
     match rng.below(6) {
         // 5 and 7 together with 6
         0 if case.is_dot() => drop(case.right.pop()),
-        1 if format[2] < 64 => case.left[count / 2] |= 1 << format[2],
+        1 if format.width() < 64 => case.left[count / 2] |= 1 << format.width(),
         _ => {}
     }
     case

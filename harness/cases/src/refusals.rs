@@ -1,6 +1,6 @@
 //! Document 01's table of refusals, read row by row for the two byte entries.
 
-use crate::case::{Case, LIMIT, Operation};
+use crate::case::{Case, Format, LIMIT, Operation};
 
 /// What the entry is to return.
 #[derive(Clone, Copy, Debug, PartialEq, Eq)]
@@ -18,14 +18,19 @@ pub enum Side {
     Right,
 }
 
-/// 3: a kind or a width out of its range.
-fn no_format([kind, e, w]: [u64; 3]) -> bool {
-    kind > 3 || !(2..=28).contains(&e) || w < e + 2 || w > 64
+/// The largest bias that may be named, and the magnitude of the least.
+pub const LARGEST_BIAS: i64 = 1 << 28;
+
+/// 3: a kind, a width or a named bias out of its range.
+pub fn no_format(format: Format) -> bool {
+    let [kind, e, w] = format.numbers;
+    let no_bias = format.bias.is_some_and(|bias| !(-LARGEST_BIAS..=LARGEST_BIAS).contains(&bias));
+    kind > 3 || !(2..=28).contains(&e) || w < e + 2 || w > 64 || no_bias
 }
 
 /// 4: a setting or the summand is too large. The format is one.
 fn out_of_range(case: &Case) -> bool {
-    let [_, e, w] = case.format;
+    let [_, e, w] = case.format.numbers;
     let highest = [7, 1, 3, 1, 1, 1, 1, w - e];
     let setting = case.settings.iter().zip(highest).any(|(&value, high)| value > high);
     setting || matches!(case.operation, Operation::Sum(summand) if summand > 2)
@@ -39,7 +44,7 @@ pub fn is_stray(value: u64, width: u64) -> bool {
 /// The lowest number whose condition holds.
 pub fn expected(case: &Case) -> Expected {
     let dot = case.is_dot();
-    let width = case.format[2];
+    let width = case.format.width();
     if case.behind[0] % 8 != 0 || dot && case.behind[1] % 8 != 0 {
         return Expected::Refused(1);
     }

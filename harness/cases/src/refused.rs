@@ -1,6 +1,6 @@
 //! Calls that break one or more rows of document 01's table, by as little as possible or by a lot.
 
-use crate::case::{Case, Operation};
+use crate::case::{Case, Format, Operation};
 use crate::lists::random;
 use crate::rng::Rng;
 
@@ -11,16 +11,16 @@ fn above(rng: &mut Rng, highest: u64) -> u64 {
 }
 
 /// A call with up to three faults. Without one it is accepted, and compared as any other.
-pub fn refused(rng: &mut Rng, format: [u64; 3]) -> Case {
+pub fn refused(rng: &mut Rng, format: Format) -> Case {
     let mut case = random(rng, format);
     for _ in 0..rng.below(4) {
         match rng.below(7) {
             0 => break_length(rng, &mut case),
             1 => case.room = if rng.once_in(3) { 23 } else { rng.below(25) as usize },
-            2 => break_format(rng, &mut case, format),
-            3 | 4 => break_setting(rng, &mut case, format),
+            2 => break_format(rng, &mut case, format.numbers),
+            3 | 4 => break_setting(rng, &mut case, format.numbers),
             5 => break_pairing(rng, &mut case),
-            _ => put_stray_bit(rng, &mut case, format[2]),
+            _ => put_stray_bit(rng, &mut case, format.width()),
         }
     }
     case
@@ -33,7 +33,7 @@ fn break_length(rng: &mut Rng, case: &mut Case) {
 
 /// Always into what is no format: the original has not every format compiled.
 fn break_format(rng: &mut Rng, case: &mut Case, [kind, e, w]: [u64; 3]) {
-    case.format = match rng.below(3) {
+    case.format.numbers = match rng.below(3) {
         0 => [above(rng, 3), e, w],
         1 => [kind, rng.pick(&[0, 1, 29, 30, 64, 256 + e, (1 << 32) + e, u64::MAX]), w],
         _ => [kind, e, rng.pick(&[0, e, e + 1, 65, 66, 128, 256 + w, (1 << 32) + w, u64::MAX])],

@@ -4,7 +4,8 @@ use std::sync::Mutex;
 use std::sync::atomic::{AtomicU64, Ordering};
 use std::time::Instant;
 
-use crate::case::Case;
+use crate::biases;
+use crate::case::{Case, Format};
 use crate::check::{Bench, Oracle};
 use crate::exhaustive::{SPACES, Space};
 use crate::lists;
@@ -36,23 +37,28 @@ enum Pool {
     Long,
     /// So wide that the original walks many empty passes.
     Wide,
+    /// With a bias; those of the other pools name none.
+    Biased,
 }
 
 struct Formats {
-    all: Vec<[u64; 3]>,
-    long: Vec<[u64; 3]>,
-    wide: Vec<[u64; 3]>,
+    all: Vec<Format>,
+    long: Vec<Format>,
+    wide: Vec<Format>,
+    biased: Vec<Format>,
 }
 
 impl Formats {
-    fn new(all: &[[u64; 3]]) -> Self {
-        let at_least = |e: u64| all.iter().copied().filter(|format| format[1] >= e).collect();
-        Self { all: all.to_vec(), long: at_least(9), wide: at_least(16) }
+    fn new(formats: &[Format]) -> Self {
+        let (biased, all): (Vec<Format>, Vec<Format>) = formats.iter().partition(|format| format.bias.is_some());
+        let at_least = |e: u64| all.iter().copied().filter(|format| format.exponent_bits() >= e).collect();
+        Self { long: at_least(9), wide: at_least(16), all, biased }
     }
 
     /// A format of the pool; binary64, whose chains have known limits, comes more often.
-    fn draw(&self, rng: &mut Rng, pool: Pool) -> [u64; 3] {
+    fn draw(&self, rng: &mut Rng, pool: Pool) -> Format {
         let formats = match pool {
+            Pool::Biased => return rng.pick(&self.biased),
             Pool::Wide => return rng.pick(&self.wide),
             Pool::Long => &self.long,
             Pool::All => &self.all,
@@ -64,15 +70,15 @@ impl Formats {
 struct Group {
     name: &'static str,
     pool: Pool,
-    draw: fn(&mut Rng, [u64; 3]) -> Case,
+    draw: fn(&mut Rng, Format) -> Case,
     /// How many cases, of so many that are drawn in all.
     count: fn(u64) -> u64,
     /// Cases that a thread takes at a time.
     portion: u64,
 }
 
-/// The groups in their order, which is part of what a case is drawn from. The cases of the last three take long.
-const GROUPS: [Group; 10] = [
+/// The groups in their order, which is part of what a case is drawn from. The cases of the three before the biases take long.
+const GROUPS: [Group; 13] = [
     Group { name: "random lists", pool: Pool::All, draw: lists::random, count: |all| all * 290 / 1000, portion: 4096 },
     Group { name: "ties", pool: Pool::All, draw: lists::ties, count: |all| all * 200 / 1000, portion: 4096 },
     Group { name: "ties at the ends", pool: Pool::All, draw: lists::ties_at_the_ends, count: |all| all * 120 / 1000, portion: 4096 },
@@ -83,6 +89,9 @@ const GROUPS: [Group; 10] = [
     Group { name: "many elements", pool: Pool::All, draw: lists::many, count: |all| all / 500, portion: 16 },
     Group { name: "wide gaps", pool: Pool::Wide, draw: lists::wide, count: |all| all / 20_000, portion: 1 },
     Group { name: "about 1,048,576 elements", pool: Pool::All, draw: lists::limit, count: |all| 8 + all / 500_000, portion: 1 },
+    Group { name: "named biases", pool: Pool::Biased, draw: biases::named, count: |all| all / 30, portion: 256 },
+    Group { name: "named biases, refusals", pool: Pool::Biased, draw: biases::out_of_range, count: |all| all / 150, portion: 256 },
+    Group { name: "the kind's own bias, named", pool: Pool::All, draw: biases::own, count: |all| all / 100, portion: 256 },
 ];
 
 /// One run's shared parts.
@@ -167,8 +176,9 @@ impl Run<'_> {
 /// Runs every group. Returns whether all agrees and all was reached that a run is to reach.
 pub fn run(options: &Options, oracle: &Oracle) -> bool {
     let start = Instant::now();
-    println!("seed {}, {} formats, {} threads", options.seed, oracle.formats.len(), options.threads);
     let run = Run { options, oracle, formats: Formats::new(&oracle.formats) };
+    let Formats { all, biased, .. } = &run.formats;
+    println!("seed {}, {} formats and {} with a bias, {} threads", options.seed, all.len(), biased.len(), options.threads);
     let mut total = Tally::default();
     for space in &SPACES {
         total.merge(&run.space(space));

@@ -3,9 +3,11 @@
 //! Encodings without their sign are ordered as the magnitudes are, so a neighbour is one more or one less. Positions count from the lowest bit
 //! of the format's least number: its fraction bits are positions 0 to `fraction` - 1 of a subnormal.
 
+use crate::case::Format;
+
 #[derive(Clone, Copy, Debug)]
 pub struct Shape {
-    pub format: [u64; 3],
+    pub format: Format,
     /// Fraction bits.
     pub fraction: u32,
     /// Digits, p.
@@ -29,8 +31,8 @@ fn low_bits(n: u32) -> u64 {
 }
 
 impl Shape {
-    pub fn of(format: [u64; 3]) -> Self {
-        let [kind, e, w] = format.map(|n| n as u32);
+    pub fn of(format: Format) -> Self {
+        let [kind, e, w] = format.numbers.map(|n| n as u32);
         let fraction = w - e - 1;
         let sign = 1 << (w - 1);
         let largest = match kind {
@@ -44,11 +46,7 @@ impl Shape {
     }
 
     pub fn kind(&self) -> u64 {
-        self.format[0]
-    }
-
-    pub fn exponent_bits(&self) -> u64 {
-        self.format[1]
+        self.format.numbers[0]
     }
 
     pub fn least_normal(&self) -> u64 {
@@ -69,11 +67,9 @@ impl Shape {
         i64::from(self.fraction) + self.highest_field() - 1
     }
 
-    /// The position of 1.
+    /// The position of 1: below 0, or above every number's, where a bias is named by which 1 is no number of the format.
     pub fn position_of_one(&self) -> i64 {
-        let half = 1i64 << (self.exponent_bits() - 1);
-        let bias = if self.kind() == 2 { half } else { half - 1 };
-        bias + i64::from(self.fraction) - 1
+        self.format.bias_or_own() + i64::from(self.fraction) - 1
     }
 
     /// The magnitude of m × 2^k in least numbers, for m of 1 to p bits and k from 0 up, if the format has it.
@@ -135,10 +131,15 @@ impl Shape {
 #[cfg(test)]
 mod tests {
     use super::{Decoded, Shape};
+    use crate::case::Format;
+
+    fn shape(numbers: [u64; 3]) -> Shape {
+        Shape::of(Format::plain(numbers))
+    }
 
     #[test]
     fn binary64() {
-        let shape = Shape::of([0, 11, 64]);
+        let shape = shape([0, 11, 64]);
         assert_eq!(shape.largest, f64::MAX.to_bits());
         assert_eq!(shape.encode(1, shape.position_of_one()), Some(1f64.to_bits()));
         assert_eq!(shape.encode(3, shape.position_of_one() - 1), Some(1.5f64.to_bits()));
@@ -155,9 +156,9 @@ mod tests {
     #[test]
     fn kinds_without_infinities() {
         // E 4, W 8: largest 448 with its NaN beside it, and 240 where the NaN is the negative zero
-        assert_eq!(Shape::of([1, 4, 8]).largest, 0x7e);
-        assert_eq!(Shape::of([2, 4, 8]).largest, 0x7f);
-        assert_eq!(Shape::of([2, 4, 8]).encode(1, Shape::of([2, 4, 8]).position_of_one()), Some(0x40));
-        assert!(Shape::of([1, 4, 8]).is_nan(0xff) && Shape::of([2, 4, 8]).is_nan(0x80) && !Shape::of([3, 4, 8]).is_nan(0xff));
+        assert_eq!(shape([1, 4, 8]).largest, 0x7e);
+        assert_eq!(shape([2, 4, 8]).largest, 0x7f);
+        assert_eq!(shape([2, 4, 8]).encode(1, shape([2, 4, 8]).position_of_one()), Some(0x40));
+        assert!(shape([1, 4, 8]).is_nan(0xff) && shape([2, 4, 8]).is_nan(0x80) && !shape([3, 4, 8]).is_nan(0xff));
     }
 }

@@ -2,10 +2,11 @@
 
 use std::collections::HashMap;
 
-use crate::case::Case;
+use crate::case::{Case, Format};
 use crate::check::{Answer, Seen};
+use crate::refusals::no_format;
 
-pub const BINARY64: [u64; 3] = [0, 11, 64];
+pub const BINARY64: Format = Format::plain([0, 11, 64]);
 
 /// Longer chains are counted together.
 const LONGEST: usize = 8;
@@ -17,8 +18,10 @@ pub struct Tally {
     rearranged: u64,
     /// By the number of the refusal; 0 counts the accepted.
     refusals: [u64; 8],
+    /// Refused for the bias: no other condition of number 3 holds.
+    biases: u64,
     /// The formats of the accepted cases.
-    formats: HashMap<[u64; 3], u64>,
+    formats: HashMap<Format, u64>,
     /// By the setting and its value, without the precision.
     settings: [[u64; 8]; 7],
     /// The precisions of binary64 that came: a bit for each.
@@ -43,7 +46,10 @@ impl Tally {
     pub fn add(&mut self, case: &Case, seen: &Seen) {
         self.cases += 1;
         match *seen {
-            Seen::Refused(number) => self.refusals[number as usize] += 1,
+            Seen::Refused(number) => {
+                self.refusals[number as usize] += 1;
+                self.biases += u64::from(number == 3 && !no_format(Format::plain(case.format.numbers)));
+            }
             Seen::Accepted { answer, side, rearranged } => {
                 self.sides[usize::from(side)] += 1;
                 self.refusals[0] += 1;
@@ -80,6 +86,7 @@ impl Tally {
         self.rearranged += other.rearranged;
         self.differences += other.differences;
         self.most_passes = self.most_passes.max(other.most_passes);
+        self.biases += other.biases;
         add(&mut self.refusals, &other.refusals);
         add(&mut self.flags, &other.flags);
         add(&mut self.sides, &other.sides);
@@ -97,7 +104,7 @@ impl Tally {
     }
 
     /// What a run is to reach and this one did not.
-    pub fn missed(&self, formats: &[[u64; 3]]) -> Vec<String> {
+    pub fn missed(&self, formats: &[Format]) -> Vec<String> {
         let mut missed = vec![];
         let mut want = |what: String, count: u64| {
             if count == 0 {
@@ -107,6 +114,7 @@ impl Tally {
         for number in 1..8 {
             want(format!("refusal {number}"), self.refusals[number]);
         }
+        want("refusal 3 of a bias".to_string(), self.biases);
         for bit in [0, 2, 3, 4, 5, 6, 7] {
             want(format!("flag {}", 1 << bit), self.flags[bit]);
         }
@@ -142,19 +150,23 @@ pub fn report_group(name: &str, tally: &Tally, seconds: f64) {
     );
 }
 
-fn fewest(tally: &Tally) -> u64 {
-    tally.formats.values().copied().min().unwrap_or(0)
+/// The formats that name a bias, or those that name none.
+fn report_formats(tally: &Tally, biased: bool) {
+    let counts: Vec<u64> = tally.formats.iter().filter(|(format, _)| format.bias.is_some() == biased).map(|(_, count)| *count).collect();
+    let (least, most) = (counts.iter().min().unwrap_or(&0), counts.iter().max().unwrap_or(&0));
+    println!("{} formats that name {} bias, with {least} to {most} accepted cases each", counts.len(), if biased { "a" } else { "no" });
 }
 
 /// The counts of the whole run.
 pub fn report(tally: &Tally, seed: u64, seconds: f64) {
     println!();
-    println!("refusals 1 to 7: {:?}", &tally.refusals[1..]);
+    println!("refusals 1 to 7: {:?}, {} of 3 for a bias alone", &tally.refusals[1..], tally.biases);
     println!("flags 1, 4, 8, 16, 32, 64, 128: {:?}", [0, 2, 3, 4, 5, 6, 7].map(|bit| tally.flags[bit]));
     println!("sides 0 to 3: {:?}", tally.sides);
     println!("sums in 0 to 7 and in more passes: {:?}", tally.passes[0]);
     println!("square sums and dots in 0 to 7 and in more passes: {:?}", tally.passes[1]);
     println!("of binary64: sums {:?}, square sums and dots {:?}", tally.binary64[0], tally.binary64[1]);
-    println!("{} formats, with {} to {} accepted cases each", tally.formats.len(), fewest(tally), tally.formats.values().max().unwrap_or(&0));
+    report_formats(tally, false);
+    report_formats(tally, true);
     println!("{} cases, {} rearranged lists, seed {}, {seconds:.0} s, {} differences", tally.cases, tally.rearranged, seed, tally.differences);
 }

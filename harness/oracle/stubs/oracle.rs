@@ -1,11 +1,14 @@
 //! The calls into the copied source, one for each format, and the table of them.
 
 use core::cell::Cell;
+use core::marker::PhantomData;
 use core::num::NonZeroU32;
+use std::collections::BTreeMap;
 
 use crate::binary::{Layout, Summand};
 use crate::env::{Env, Flags, NanPropagation, NanRule, Rounding, Tininess};
 use crate::format::{Encoding, EncodingKind, Ieee, Storage, Width};
+use crate::sealed::Sealed;
 
 const ROUNDINGS: [Rounding; 8] = [
     Rounding::TiesToEven,
@@ -128,6 +131,16 @@ where
     result
 }
 
+/// An encoding with a bias of its own.
+pub struct Named<Enc, const B: i32>(PhantomData<Enc>);
+
+impl<Enc: Encoding, const B: i32> Sealed for Named<Enc, B> {}
+
+impl<Enc: Encoding, const B: i32> Encoding for Named<Enc, B> {
+    const KIND: EncodingKind = Enc::KIND;
+    const BIAS: Option<i32> = Some(B);
+}
+
 /// A format's total, as a plain function.
 pub type Total = fn(Operation, &[u64], &[u64], &[u64; 8]) -> Answer;
 
@@ -138,12 +151,14 @@ const WIDTHS: usize = 65;
 /// The totals of the formats that were compiled.
 pub struct Table {
     totals: Vec<Option<Total>>,
+    /// Those of formats with a bias of their own, by it.
+    biased: BTreeMap<(i64, [u64; 3]), Total>,
 }
 
 impl Table {
     #[must_use]
     pub fn new() -> Self {
-        Self { totals: vec![None; KINDS * EXPONENTS * WIDTHS] }
+        Self { totals: vec![None; KINDS * EXPONENTS * WIDTHS], biased: BTreeMap::new() }
     }
 
     fn place([kind, exponent_bits, width]: [u64; 3]) -> usize {
@@ -162,7 +177,11 @@ impl Table {
             EncodingKind::Finite => 3,
             EncodingKind::X87 => unreachable!("X87 is not among the formats"),
         };
-        self.totals[Self::place([kind, u64::from(E), W as u64])] = Some(total::<E, Enc, W>);
+        let format = [kind, u64::from(E), W as u64];
+        match Enc::BIAS {
+            None => self.totals[Self::place(format)] = Some(total::<E, Enc, W>),
+            Some(bias) => drop(self.biased.insert((bias.into(), format), total::<E, Enc, W>)),
+        }
     }
 
     /// Adds binary64 here, so that what does not depend on the format is compiled in this crate, with optimizations, and shared by the formats' crates.
@@ -170,16 +189,21 @@ impl Table {
         self.put::<11, Ieee, 64>();
     }
 
-    /// The total of a format with kind, exponent bits and width in document 01's ranges, if it was compiled.
+    /// The total of a format with kind, exponent bits and width in document 01's ranges, if it was compiled. Where a bias is named it is that of an
+    /// encoding with this bias, or of the plain one that has it.
     #[must_use]
-    pub fn get(&self, format: [u64; 3]) -> Option<Total> {
-        self.totals[Self::place(format)]
+    pub fn get(&self, format: [u64; 3], bias: Option<i64>) -> Option<Total> {
+        let plain = self.totals[Self::place(format)];
+        let Some(bias) = bias else { return plain };
+        let own = (1 << (format[1] - 1)) - i64::from(format[0] != 2);
+        self.biased.get(&(bias, format)).copied().or(plain.filter(|_| bias == own))
     }
 
-    /// Every format that was compiled.
+    /// Every format that was compiled, with its bias where it has one of its own.
     #[must_use]
-    pub fn formats(&self) -> Vec<[u64; 3]> {
+    pub fn formats(&self) -> Vec<([u64; 3], Option<i64>)> {
         let all = (0..KINDS as u64).flat_map(|kind| (0..EXPONENTS as u64).flat_map(move |e| (0..WIDTHS as u64).map(move |w| [kind, e, w])));
-        all.filter(|&format| self.get(format).is_some()).collect()
+        let plain = all.filter(|&format| self.totals[Self::place(format)].is_some()).map(|format| (format, None));
+        plain.chain(self.biased.keys().map(|&(bias, format)| (format, Some(bias)))).collect()
     }
 }

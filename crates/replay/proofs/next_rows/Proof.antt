@@ -5,10 +5,10 @@ use Rattle.replay.proofs.next_rows.Statement.{statement}
 use Rattle.replay.proofs.next_rows.Tie as tie
 
 abbrev Inv-loop : tie.InvT-loop
-Inv-loop n long a₀ a = (a .rows ≤ n) × (a .words ≤ a .rows) × (a .bytes ≤ a .rows) × (a .entries ≤ a .rows)
+Inv-loop n letter a₀ a = (a .rows ≤ n) × (a .words ≤ a .rows) × (a .bytes ≤ a .rows) × (a .entries ≤ a .rows)
 
 abbrev μ-loop : tie.MeasureT-loop
-μ-loop n long a₀ a = n - a .rows
+μ-loop n letter a₀ a = n - a .rows
 
 pub next-rows-spec : {M : Type 1} → statement M
 next-rows-spec =

@@ -6,7 +6,7 @@ use Rattle.totals_spec.specs.Pence.{Pence}
 use Rattle.totals_spec.specs.Program.{answerText}
 use Rattle.reduction.specs.Answered.{answerOf}
 use Rattle.text.specs.Holds.{Holds}
-use Rattle.text.proofs.Figures.{read}
+use Rattle.limbs.proofs.Signs.{read}
 use Rattle.text.proofs.FourLines.{answer-is}
 use Rattle.text.proofs.sum_text.Statement.{statement}
 use Rattle.text.proofs.sum_text.Tie as tie

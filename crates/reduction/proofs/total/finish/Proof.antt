@@ -1,6 +1,6 @@
 -- `reduction::total::finish` meets its contract.
-use mathlib.Core.Path.{_≡_, sym, ap, _∙_, subst}
-use Prim.Native.Nat.{_+_, _^_, _<_}
+use mathlib.Core.Path.{_≡_, sym, ap, ap₂, _∙_, subst}
+use Prim.Native.Nat.{ℕ, _+_, _^_, _<_}
 use native.Mathlib.Omega.{arith}
 use lib.IntN.{ℤ, subℕ}
 use lib.Signed.{mag}
@@ -16,7 +16,7 @@ use Rattle.totals_spec.specs.Round.{Rounded}
 use Rattle.totals_spec.specs.Settings.{Settings}
 use Rattle.totals_spec.specs.Settled.{settled}
 use Rattle.totals_spec.specs.Side.{sideOf, roundedSide}
-use Rattle.totals_spec.specs.Totals.{towardsNegative, sumRounded, reported}
+use Rattle.totals_spec.specs.Totals.{onGrid, towardsNegative, sumRounded, reported}
 use Rattle.totals_spec.proofs.Lean.{sum-leans}
 use Rattle.totals_spec.proofs.Valid.{precision-least, precision-most}
 use Rattle.format.specs.Joined.{formatOf, settingsOf}
@@ -37,7 +37,7 @@ abbrev entry : tie.After-round-sum → tie.Start
 entry t = t .before .before
 
 abbrev total : tie.Start → Signed
-total s = settled (outcomeOf (s .args .e))
+total s = onGrid (form s) (s .args .products) (settled (outcomeOf (s .args .e)))
 
 abbrev sum : tie.Start → Rounded
 sum s = sumRounded (form s) (env s) (grid (form s) (s .args .products)) (towardsNegative (env s)) (total s)
@@ -53,12 +53,22 @@ leans t =
     ap (λ (x : Rounded). roundedSide (x .value) (x .flags)) (equal t)
     ∙ sym (sum-leans (form s) (env s) _ _ (total s) (s .pre .0 .range) (precision-least _ _ (s .pre .0 .range)) (precision-most _ _ (s .pre .1)))
 
--- once the result is encoded, and then the origin known
-abbrev coded : tie.After-origin → tie.After-encode
+-- once the result is encoded, and then the last edge known
+abbrev coded : tie.After-fall → tie.After-encode
 coded t = t .before .before .before
 
-abbrev rounded : tie.After-origin → tie.After-round-sum
+abbrev rounded : tie.After-fall → tie.After-round-sum
 rounded t = coded t .before
+
+abbrev fallen : tie.After-origin → tie.After-fall
+fallen t = t .before .before
+
+-- the edge, counted from the unit, plus `fall`, and the origin are numbers of 63 bits
+low : (t : tie.After-fall) → entry (rounded t) .args .e .chain .edge + t .fall .result < 2 ^ 63
+low t = omega (arith, entry (rounded t) .pre .2 .edge, t .fall .ensures .1)
+
+far : (t : tie.After-origin) → t .origin .result < 2 ^ 63
+far t = omega (arith, t .origin .ensures .1)
 
 round-sum-requires : tie.Need-round-sum-requires
 round-sum-requires c κs = search needs
@@ -72,11 +82,17 @@ flag-requires c κs = search needs
 add-t11 : tie.Need-add-t11
 add-t11 c = search needs
 
+fall-requires : tie.Need-fall-requires
+fall-requires c κs = search needs
+
 origin-requires : tie.Need-origin-requires
 origin-requires c κs = search needs
 
+add-position-of : tie.Need-add-position-of
+add-position-of c = omega (arith, low (c .before))
+
 position-of-requires : tie.Need-position-of-requires
-position-of-requires c κs = (omega (arith, entry (rounded c) .pre .2 .edge), omega (arith, c .origin .ensures .1))
+position-of-requires c κs = (low (fallen c), far c)
 
 side-of-requires : tie.Need-side-of-requires
 side-of-requires c κs = search needs
@@ -86,19 +102,18 @@ unfolding reported
 returns c =
     let o = c .before .before in
     let p = c .before .position-of in
-    let r = rounded o in
+    let d = fallen o in
+    let r = rounded d in
     let s = entry r in
     let at = s .args .e .chain .edge in
     let fits : SFits w64 (p .result) = record {
-      sfits =
-          subst (λ (z : ℤ). mag z < 2 ^ 63) (sym (p .ensures))
-          (position-fits at (o .origin .result) (omega (arith, s .pre .2 .edge)) (omega (arith, o .origin .ensures .1)));
+      sfits = subst (λ (z : ℤ). mag z < 2 ^ 63) (sym (p .ensures)) (position-fits (at + d .fall .result) (o .origin .result) (low d) (far o));
     } in
     λ i. record {
-      result = (coded o .encode .ensures ∙ ap (λ (x : Rounded). encode (form s) (x .value)) (equal r)) i;
-      flags = (o .before .before .flag .ensures .0 i) + (equal r i .flags);
+      result = (coded d .encode .ensures ∙ ap (λ (x : Rounded). encode (form s) (x .value)) (equal r)) i;
+      flags = (d .before .before .flag .ensures .0 i) + (equal r i .flags);
       passes = s .args .e .chain .passes;
-      lastEdge = (toZ-ofZ w64 (p .result) fits ∙ p .ensures ∙ ap (subℕ at) (o .origin .ensures .0)) i;
+      lastEdge = (toZ-ofZ w64 (p .result) fits ∙ p .ensures ∙ ap₂ (λ (m n : ℕ). subℕ (at + m) n) (d .fall .ensures .0) (o .origin .ensures .0)) i;
       refusal = 0;
       place = 0;
       side = (c .side-of .ensures ∙ leans r) i;
@@ -112,6 +127,8 @@ finish-spec =
     encode-requires
     flag-requires
     add-t11
+    fall-requires
+    add-position-of
     origin-requires
     position-of-requires
     side-of-requires

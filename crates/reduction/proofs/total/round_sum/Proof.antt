@@ -1,8 +1,10 @@
 -- `reduction::total::round_sum` meets its contract.
-use mathlib.Core.Path.{_≡_, ap, _∙_}
-use Prim.Native.Nat.{ℕ}
+use mathlib.Core.Path.{_≡_, ap, ap₂, _∙_}
+use Prim.Native.Nat.{ℕ, _^_}
+use native.Mathlib.Nat.{zero-mul}
 use native.Mathlib.Omega.{arith}
-use Rattle.totals_spec.specs.Format.{Format, digits}
+use Rattle.totals_spec.specs.Basics.{raised}
+use Rattle.totals_spec.specs.Format.{Format, digits, rise}
 use Rattle.totals_spec.specs.Settings.{Settings}
 use Rattle.totals_spec.specs.Decode.{zeroOf}
 use Rattle.totals_spec.specs.Settled.{settled}
@@ -11,7 +13,7 @@ use Rattle.format.specs.Joined.{formatOf, settingsOf}
 use Rattle.window.specs.declared.Outcome.{Outcome}
 use Rattle.window.specs.declared.Outcome.the-variants.{Zero}
 use Rattle.window.specs.Joined.{outcomeBy, outcomeOf}
-use Rattle.window.proofs.Left.{not-zero, ended-roundable, leaves-rounds, leaves-sum}
+use Rattle.window.proofs.Left.{not-zero, ended-roundable, leaves-low, leaves-rounds, leaves-sum}
 use borrow.Author.Needs.{needs}
 use Rattle.reduction.proofs.total.round_sum.Statement.{statement}
 use Rattle.reduction.proofs.total.round_sum.Tie as tie
@@ -22,43 +24,55 @@ form s = formatOf (s .args .f)
 abbrev env : tie.Start → Settings
 env s = settingsOf (s .args .c)
 
--- where the sum is not 0
-abbrev entry : tie.After-grid → tie.Start
-entry g = g .before .before
+-- where the sum is not 0: once its value is known
+abbrev entry : tie.After-near-boundary → tie.Start
+entry b = b .before .before
 
-some : (g : tie.After-grid) → entry g .args .e .outcome ≡ Zero → ⊥
-some g = not-zero _ (g .before .match .keys2)
+some : (b : tie.After-near-boundary) → entry b .args .e .outcome ≡ Zero → ⊥
+some b = not-zero _ (b .before .match .keys2)
 
 near-boundary-requires : tie.Need-near-boundary-requires
 near-boundary-requires c κs =
-    let s = entry c in
-    ended-roundable (digits (form s)) (s .args .e) (omega (arith, s .pre .0 .e-ge, s .pre .0 .p-le)) (some c) (s .pre .2)
+    let s = c .before in
+    ended-roundable (digits (form s)) (s .args .e) (omega (arith, s .pre .0 .e-ge, s .pre .0 .p-le)) (not-zero _ (c .match .keys2)) (s .pre .2)
+
+add-v : tie.Need-add-v
+add-v c =
+    let t = c .before in
+    let b = t .before in
+    let s = entry b in
+    omega (arith, leaves-low (digits (form s)) (s .args .e) _ (s .pre .2) (some b) (b .near-boundary .ensures), t .rise .ensures .1)
 
 round-requires : tie.Need-round-requires
 round-requires c κs =
-    let g = c .before in
-    let s = entry g in
-    leaves-rounds (form s) (env s) _ (s .args .e) _ (s .pre .0) (s .pre .1) (omega (arith, g .grid .ensures .1)) (s .pre .2) (some g)
-    (c .near-boundary .ensures)
+    let t = c .before .before in
+    let b = t .before in
+    let s = entry b in
+    leaves-rounds (form s) (env s) _ (s .args .e) _ _ (s .pre .0) (s .pre .1) (omega (arith, c .grid .ensures .1)) (t .rise .ensures .1) (s .pre .2)
+    (some b) (b .near-boundary .ensures)
 
 returns : tie.Need-returns
 returns c =
-    let g = c .before .before in
-    let s = entry g in
+    let g = c .before in
+    let t = g .before .before in
+    let b = t .before in
+    let s = entry b in
     let o = c .round .ensures in
+    let x = settled (outcomeOf (s .args .e)) in
+    let towards = towardsNegative (env s) in
     record {
       equal =
-          leaves-sum (form s) (env s) _ (towardsNegative (env s)) (s .args .e) _ _ (c .before .near-boundary .ensures) o
-          ∙ ap (λ (k : ℕ). sumRounded (form s) (env s) k (towardsNegative (env s)) (settled (outcomeOf (s .args .e)))) (g .grid .ensures .0);
+          leaves-sum (form s) (env s) _ towards (s .args .e) _ (t .rise .result) _ (b .near-boundary .ensures) o
+          ∙ ap₂ (λ (k n : ℕ). sumRounded (form s) (env s) k towards (raised n x)) (g .grid .ensures .0) (t .rise .ensures .0);
       encodes = o .encodes;
       flags = o .flags;
     }
 
 returns-2 : tie.Need-returns-2
-unfolding settled sumRounded
+unfolding settled sumRounded raised
 returns-2 c =
     let s = c .before .before .before .args in
-    rw (ap (λ (o : Outcome). settled (outcomeBy o (s .e .chain))) (c .before .enum-told .given .1))
+    rw (ap (λ (o : Outcome). settled (outcomeBy o (s .e .chain))) (c .before .enum-told .given .1), zero-mul (2 ^ rise (formatOf (s .f)) (s .products)))
     (record { equal = λ i. record { value = zeroOf (c .zero-sum-is-negative .ensures i); flags = 0 }; encodes = tt; flags = omega arith })
 
 pub round-sum-spec : {M : Type 1} → statement M
@@ -66,8 +80,10 @@ round-sum-spec =
     tie.close
     (tie.spec
     (λ c. search needs)
-    (λ c κs. search needs)
     near-boundary-requires
+    (λ c κs. search needs)
+    add-v
+    (λ c κs. search needs)
     round-requires
     returns
     (λ c κs. search needs)

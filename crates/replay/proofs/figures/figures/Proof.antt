@@ -5,10 +5,10 @@ use Rattle.replay.proofs.figures.figures.Statement.{statement}
 use Rattle.replay.proofs.figures.figures.Tie as tie
 
 abbrev Inv-loop : tie.InvT-loop
-Inv-loop n agreed₀ i₀ agreed i = (i ≤ n) × (agreed ≤ i)
+Inv-loop n biased agreed₀ i₀ agreed i = (i ≤ n) × (agreed ≤ i)
 
 abbrev μ-loop : tie.MeasureT-loop
-μ-loop n agreed₀ i₀ agreed i = n - i
+μ-loop n biased agreed₀ i₀ agreed i = n - i
 
 pub figures-spec : {M : Type 1} → statement M
 figures-spec =

@@ -7,4 +7,4 @@ returns : tie.Need-returns
 returns c = cc
 
 pub format-at-spec : {M : Type 1} → statement M
-format-at-spec = tie.close (tie.spec (λ c κs. search needs) (λ c κs. search needs) (λ c κs. search needs) returns)
+format-at-spec = tie.close (tie.spec (λ c κs. search needs) (λ c κs. search needs) (λ c κs. search needs) (λ c κs. search needs) returns)

@@ -6,7 +6,8 @@ use lib.IntN.{natAbs}
 use borrow.Author.Needs.{needs}
 use Rattle.totals_spec.specs.Program.{decimalText}
 use Rattle.text.proofs.Grown.{puts-same, puts-then}
-use Rattle.text.proofs.Figures.{read, test-read, pence-none, pence-negative, pence-positive}
+use Rattle.limbs.proofs.Signs.{read, test-read}
+use Rattle.text.proofs.Figures.{pence-none, pence-negative, pence-positive}
 use Rattle.text.proofs.write.put_figure.Statement.{statement}
 use Rattle.text.proofs.write.put_figure.Tie as tie
 

@@ -1,5 +1,7 @@
 -- `totals::pence::figure_of` meets its contract.
 use mathlib.Core.Path.{_∙_, subst}
+use Prim.Native.Nat.{_<_}
+use native.Mathlib.Omega.{arith}
 use Rattle.format.specs.declared.unpacked.Unpacked.{Unpacked}
 use Rattle.format.specs.Joined.{unpackedOf}
 use Rattle.arithmetic.specs.Joined.{Bounded}
@@ -7,6 +9,13 @@ use Rattle.totals.proofs.Figures.{held}
 use borrow.Author.Needs.{needs}
 use Rattle.totals.proofs.pence.figure_of.Statement.{statement}
 use Rattle.totals.proofs.pence.figure_of.Tie as tie
+
+-- where the value is a finite number
+abbrev Number : tie.After-v → Type 0
+Number t = let n = t .v .given .0 in (n .1 .0 < 268435456) × (0 < n .1 .1 .0)
+
+bounded : (t : tie.After-v) → Number t
+bounded t = subst (λ (x : Unpacked). Bounded (unpackedOf x)) (t .v .given .1) (t .before .before .pre .1)
 
 enum-told : tie.Need-enum-told
 enum-told c = search needs
@@ -17,8 +26,14 @@ in-range-requires c κs = search needs
 enum-known-v : tie.Need-enum-known-v
 enum-known-v c = search needs
 
+add-magnitude : tie.Need-add-magnitude
+add-magnitude c = let v = c .before in omega (arith, bounded v .0, v .before .before .pre .0)
+
 magnitude-requires : tie.Need-magnitude-requires
-magnitude-requires c κs = subst (λ (x : Unpacked). Bounded (unpackedOf x)) (c .before .v .given .1) (c .before .before .before .pre)
+magnitude-requires c κs =
+    let v = c .before in
+    let b = bounded v in
+    (omega (arith, b .0, v .before .before .pre .0), b .1)
 
 in-range-requires-2 : tie.Need-in-range-requires-2
 in-range-requires-2 c κs = search needs
@@ -56,6 +71,7 @@ figure-of-spec =
     enum-told
     in-range-requires
     enum-known-v
+    add-magnitude
     magnitude-requires
     in-range-requires-2
     enum-told-2

@@ -1,5 +1,5 @@
 -- `totals::pence::pence_of` meets its contract.
-use mathlib.Core.Path.{_≡_, sym, ap₂, _∙_}
+use mathlib.Core.Path.{_≡_, sym, _∙_}
 use mathlib.Core.Bool.{true}
 use borrow.Author.Needs.{needs}
 use borrow.Author.Tests.{not-true, not-false}
@@ -57,17 +57,23 @@ returns-2 c =
 depth-requires : tie.Need-depth-requires
 depth-requires c κs = bounds (first c) .range
 
+lift-requires : tie.Need-lift-requires
+lift-requires c κs = bounds (first (c .before)) .range
+
 decode-requires : tie.Need-decode-requires
-decode-requires c κs = bounds (first (c .before))
+decode-requires c κs = bounds (first (c .before .before))
 
 figure-of-requires : tie.Need-figure-of-requires
 figure-of-requires c κs =
-    decode-bounded _ _ (bounds (first (c .before .before))) _ (c .decode .ensures)
+    let n = c .before in
+    (n .lift .ensures .1, decode-bounded _ _ (bounds (first (n .before .before))) _ (c .decode .ensures))
 
 returns-3 : tie.Need-returns-3
 returns-3 c =
-    let e = c .before .before .before in
-    c .figure-of .ensures ∙ ap₂ figureOf (c .before .before .depth .ensures .0) (c .before .decode .ensures)
+    let v = c .before .decode in
+    let n = c .before .before in
+    let e = n .before .before in
+    c .figure-of .ensures ∙ (λ i. figureOf (n .before .depth .ensures .0 i) (n .lift .ensures .0 i) (v .ensures i))
     ∙ no-stray-bit _ _ (valid (first e)) (stray-not _ _ _ (e .before .greatest .ensures) (e .if2 .left))
 
 pub pence-of-spec : {M : Type 1} → statement M
@@ -81,6 +87,7 @@ pence-of-spec =
     refused-requires-2
     returns-2
     depth-requires
+    lift-requires
     decode-requires
     figure-of-requires
     returns-3)

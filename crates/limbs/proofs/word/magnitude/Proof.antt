@@ -1,4 +1,4 @@
--- `text::write::magnitude` meets its contract.
+-- `limbs::word::magnitude` meets its contract.
 use mathlib.Core.Path.{_≡_, sym, ap, _∙_, subst}
 use mathlib.Core.Bool.{true}
 use Prim.Native.Nat.{_+_, _-_}
@@ -8,10 +8,10 @@ use lib.IntN.{ℤ, pos, negsuc, natAbs, _-ℤ_}
 use lib.Signed.{ltZ, nonNeg}
 use mir.Syntax.{w64}
 use mir.Val.{Fits, toZ, ofZ}
-use Rattle.text.proofs.Figures.{one-back, not-negative, read, test-read, abs-fits, below-fits, below-read}
+use Rattle.limbs.proofs.Signs.{one-back, not-negative, read, test-read, abs-fits, below-fits, below-read}
 use borrow.Author.Needs.{needs}
-use Rattle.text.proofs.write.magnitude.Statement.{statement}
-use Rattle.text.proofs.write.magnitude.Tie as tie
+use Rattle.limbs.proofs.word.magnitude.Statement.{statement}
+use Rattle.limbs.proofs.word.magnitude.Tie as tie
 
 -- where the number is negative
 negative : (t : tie.Then1) → ltZ (t .before .args .x) (pos 0) ≡ true

@@ -1,0 +1,49 @@
+-- `totals::entry::enter_sum` meets its contract.
+use mathlib.Core.Path.{_≡_, sym, ap, _∙_, subst}
+use borrow.Author.Needs.{needs}
+use Rattle.totals_spec.proofs.Fields.{Fields, sum-fields}
+use Rattle.totals_spec.proofs.Refused.{Small, sum-small}
+use Rattle.limbs.proofs.Signs.{read}
+use Rattle.format.specs.Joined.{formatOf}
+use Rattle.totals.specs.Entered.{formatWith}
+use Rattle.totals.proofs.Written.{sum-uneven, sum-short, sum-enters}
+use Rattle.totals.proofs.entry.enter_sum.Statement.{statement}
+use Rattle.totals.proofs.entry.enter_sum.Tie as tie
+
+-- the bias is the number that its 64 bits are read as
+abbrev entry : tie.After-format-with → tie.Start
+entry f = let e = f .before .before .before in e .before .before
+
+format : (f : tie.After-format-with) → let a = entry f .args in
+    formatOf (f .format-with .result) ≡ formatWith (a .kind) (a .exponent-bits) (a .width) (a .named) (a .bias)
+format f =
+    let s = entry f in
+    let a = s .args in
+    f .format-with .ensures ∙ ap (formatWith (a .kind) (a .exponent-bits) (a .width) (a .named)) (read (a .bias) (s .good .1 .1 .1 .1 .0))
+
+returns : tie.Need-returns
+returns c = sum-uneven _ _ _ _ _ (c .if1 .taken)
+
+returns-2 : tie.Need-returns-2
+returns-2 c = sum-short _ _ _ _ _ (c .before .if1 .left) (c .if2 .taken)
+
+enter-requires : tie.Need-enter-requires
+enter-requires c κs =
+    let t = c .before in
+    let small = subst Small (sym (t .sum-bytes .ensures)) (sum-small _ _ _ _) in
+    let fields = subst Fields (sym (t .sum-bytes .ensures)) (sum-fields _ _ _ _) in
+    let e = t .before .before .before in
+    record { room = e .if2 .left; number = small .number; place = small .place; flags = fields .flags; side = fields .side }
+
+returns-3 : tie.Need-returns-3
+returns-3 c =
+    let r = c .before .before in
+    let t = r .before .before in
+    let s = t .before in
+    let e = s .before .before in
+    rw (format (s .before), s .settings .ensures) at (sum-enters _ _ _ _ _ (e .before .if1 .left) (e .if2 .left) _ (t .sum-bytes .ensures) _ _ (r .enter .ensures))
+
+pub enter-sum-spec : {M : Type 1} → statement M
+enter-sum-spec =
+    tie.close
+    (tie.spec returns returns-2 (λ c κs. search needs) (λ c κs. search needs) (λ c κs. search needs) enter-requires (λ c. search needs) returns-3)
