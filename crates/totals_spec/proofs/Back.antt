@@ -11,10 +11,10 @@ use borrow.Author.Tests.{eq-eqb, ne-eqb}
 use Rattle.totals_spec.specs.Basics.{flag}
 use Rattle.totals_spec.specs.Bounds.{RangeBounds}
 use Rattle.totals_spec.specs.Format.{Format, Kind, ieee, noInf, fnuz, finiteOnly, kindOf, fractionBits}
-use Rattle.totals_spec.specs.Decode.{Unpacked, zeroOf, finite, infinity, nan, signBit, fieldOf, fractionOf, number, decodeFields, decode}
+use Rattle.totals_spec.specs.Decode.{Unpacked, zeroOf, finite, infinity, nan, signBit, fieldOf, fractionOf, number, decodeFields, decode, isNumber}
 use Rattle.totals_spec.specs.Encode.{assembled, zeroBits, nanBits, encode}
 use Rattle.totals_spec.specs.Alone.{hasNan}
-use Rattle.totals_spec.specs.Promises.{isNumber, keptAs}
+use Rattle.totals_spec.specs.Promises.{keptAs}
 use Rattle.totals_spec.proofs.Powers.{pow-next}
 use Rattle.totals_spec.proofs.Range.{four-fields}
 

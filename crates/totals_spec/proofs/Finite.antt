@@ -9,12 +9,12 @@ use lib.Dec.{T}
 use Rattle.totals_spec.specs.Basics.{any, isSet}
 use Rattle.totals_spec.specs.Format.{Format}
 use Rattle.totals_spec.specs.Settings.{Settings, Summand, value, magnitude, square, summandOf}
-use Rattle.totals_spec.specs.Decode.{Unpacked, zeroOf, finite, infinity, nan, decode, operand, isSubnormal, signBit}
+use Rattle.totals_spec.specs.Decode.{Unpacked, zeroOf, finite, infinity, nan, decode, isNumber, operand, isSubnormal, signBit}
 use Rattle.totals_spec.specs.Terms.{Item, nanItem, invalidItem, infinite, zeroItem, term, Term, item, itemOf, pairItem, pairOf, isNanItem, isInvalid}
 use Rattle.totals_spec.specs.Terms.{isInfinite, terms}
 use Rattle.totals_spec.specs.Totals.{finiteTotal, withoutNan, accepted, isSquare, sumRefusal, sumTerms, sumAccepted}
 use Rattle.totals_spec.specs.Totals.{sumAnswer, dotRefusal, pairs, dotTerms, dotAccepted, dotAnswer}
-use Rattle.totals_spec.specs.Promises.{isNumber, AllFinite, zeroFor, Sum-exact, Dot-exact}
+use Rattle.totals_spec.specs.Promises.{AllFinite, zeroFor, Sum-exact, Dot-exact}
 use Rattle.totals_spec.proofs.Order.{dot-lengths}
 
 -- ---- zeros and terms

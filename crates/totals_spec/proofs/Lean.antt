@@ -11,10 +11,9 @@ use Rattle.totals_spec.specs.Basics.{Signed, flag, isSet}
 use Rattle.totals_spec.specs.Bounds.{RangeBounds}
 use Rattle.totals_spec.specs.Format.{Format, Kind, ieee, noInf, fnuz, finiteOnly, kindOf, digits, fractionBits, exponentRange}
 use Rattle.totals_spec.specs.Settings.{Settings, roundingOf, precisionOf}
-use Rattle.totals_spec.specs.Decode.{Unpacked, zeroOf, finite, infinity, nan, decode}
+use Rattle.totals_spec.specs.Decode.{Unpacked, zeroOf, finite, infinity, nan, decode, isNumber}
 use Rattle.totals_spec.specs.Encode.{encode}
 use Rattle.totals_spec.specs.Alone.{hasNan}
-use Rattle.totals_spec.specs.Promises.{isNumber}
 use Rattle.totals_spec.specs.Side.{leaning, leansOf, sideOf, byFlags, roundedSide}
 use Rattle.totals_spec.specs.Round.{dropped, inexact, overflows, toInfinity, largest, beyond, overflow, Rounded, numberOf, roundTo, round}
 use Rattle.totals_spec.specs.Totals.{sumRounded}

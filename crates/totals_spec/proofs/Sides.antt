@@ -8,12 +8,12 @@ use Rattle.totals_spec.specs.Basics.{Signed, raised, difference}
 use Rattle.totals_spec.specs.Bounds.{RangeBounds}
 use Rattle.totals_spec.specs.Format.{Format, grid, rise}
 use Rattle.totals_spec.specs.Settings.{Settings, summandOf}
-use Rattle.totals_spec.specs.Decode.{Unpacked, decode}
+use Rattle.totals_spec.specs.Decode.{Unpacked, decode, isNumber}
 use Rattle.totals_spec.specs.Terms.{Term, item, pairItem, exactSum, plusSum, minusSum}
 use Rattle.totals_spec.specs.Side.{sideOf}
 use Rattle.totals_spec.specs.Totals.{Answer, special, reported, onGrid, finiteTotal, isSquare, sumTerms, sumAccepted, sumAnswer, pairs, dotTerms}
 use Rattle.totals_spec.specs.Totals.{dotAccepted, dotAnswer}
-use Rattle.totals_spec.specs.Promises.{isNumber, Sum-side, Dot-side, Sum-no-side, Dot-no-side}
+use Rattle.totals_spec.specs.Promises.{Sum-side, Dot-side, Sum-no-side, Dot-no-side}
 use Rattle.totals_spec.proofs.Accepted.{accepted-has}
 use Rattle.totals_spec.proofs.Accepts.{sum-accepts, dot-accepts}
 use Rattle.totals_spec.proofs.Back.{back-zero}

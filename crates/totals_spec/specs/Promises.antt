@@ -13,7 +13,7 @@ use lib.Ieee.{size}
 use Rattle.totals_spec.specs.Basics.{any, flag}
 use Rattle.totals_spec.specs.Format.{Format, Kind, ieee, noInf, fnuz, finiteOnly, kindOf, biasOf, validFormat, digits, grid}
 use Rattle.totals_spec.specs.Settings.{Settings, validSettings, summandOf}
-use Rattle.totals_spec.specs.Decode.{Unpacked, zeroOf, finite, infinity, nan, decode, isSubnormal}
+use Rattle.totals_spec.specs.Decode.{Unpacked, zeroOf, finite, infinity, nan, decode, isNumber, isSubnormal}
 use Rattle.totals_spec.specs.Encode.{encode}
 use Rattle.totals_spec.specs.Terms.{Item, Term, item, pairItem, isZero, exactSum, topOf}
 use Rattle.totals_spec.specs.Chain.{Outcome, zeroSum, exactly, nearly, beside, unfinished, lookAt, chain}
@@ -152,13 +152,6 @@ Entry-read-back =
     → ReadsBack (dotAnswer f c (valuesIn left) (valuesIn right)) old ((dotEntry f c left right old) .buffer))
 
 -- ==== PROMISE 2: the exact sum, rounded once
-
--- neither a NaN nor an infinity
-abbrev pub isNumber : Unpacked → Bool
-isNumber (zeroOf s) = true
-isNumber (finite s k m) = true
-isNumber (infinity s) = false
-isNumber (nan s g m) = false
 
 -- every value is finite
 abbrev pub AllFinite : Format → List ℕ → Type 0
