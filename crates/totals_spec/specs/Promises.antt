@@ -29,7 +29,7 @@ use Rattle.totals_spec.specs.Conditions.{Uneven, First, sumConditions, d
 use Rattle.totals_spec.specs.Places.{StrayAt, DotStrayAt}
 use Rattle.totals_spec.specs.Pence.{penceAnswer}
 use Rattle.totals_spec.specs.Careers.{binary64, rounded, careers, margins, allAgree, sideExamples, refusals, entryExample}
-use Rattle.totals_spec.specs.Careers.{penceExamples, biases, programRuns, programAgrees}
+use Rattle.totals_spec.specs.Careers.{penceExamples, biases, sumPenceExamples, programRuns, programAgrees}
 
 -- ==== the document's examples
 
@@ -48,6 +48,10 @@ Sides-agree = T sideExamples
 -- named biases: the farthest, the kind's own, where 1 is no number of the format, and where the grid of products lies below their unit
 abbrev pub Biases-agree : Type 0
 Biases-agree = T biases
+
+-- the pence of lists: beside a tie, beyond the format, at 2^63, with and without a named bias, and each refusal but 6
+abbrev pub Sum-pence-agree : Type 0
+Sum-pence-agree = T sumPenceExamples
 
 -- the examples of the refusals, of a byte entry, of pence and of the program
 abbrev pub Examples-agree : Type 0
