@@ -48,6 +48,8 @@ pub mod Fits
 pub mod ReadBack
 -- A named bias.
 pub mod Own
+-- The pence of a list.
+pub mod SumPence
 -- The promises: what `specs/Promises.antt` states. Read this one first.
 pub mod Promises
 -- More of a pass: how near S is to the exact sum, and that a boundary need not be taken off.

@@ -32,11 +32,11 @@ module _ {ts us : List Term} (d : List·Permᴰ ts us) where
   unfolding topOf
   top-perm = greatest-perm topOfTerm d
 
-  plus-perm : plusSum ts ≡ plusSum us
+  pub plus-perm : plusSum ts ≡ plusSum us
   unfolding plusSum
   plus-perm = total-perm plusPart d
 
-  minus-perm : minusSum ts ≡ minusSum us
+  pub minus-perm : minusSum ts ≡ minusSum us
   unfolding minusSum
   minus-perm = total-perm minusPart d
 

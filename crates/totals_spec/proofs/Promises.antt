@@ -14,7 +14,7 @@ use Rattle.totals_spec.specs.Promises.{Dot-side, Sum-no-side, Dot-no-sid
 use Rattle.totals_spec.specs.Promises.{Dot-entry-order, Sum-limit, Dot-limit, Binary64-sum-limit, Binary64-square-limit, Binary64-dot-limit, Sum-ends}
 use Rattle.totals_spec.specs.Promises.{Dot-ends, Sum-edges, Dot-edges, Low-bit, Sides-agree, Biases-agree, Named-own}
 use Rattle.totals_spec.specs.Promises.{Sum-zeros, Dot-zeros, Sum-refused-exactly, Dot-refused-exactly, Entry-refused-exactly, Pence-refused-exactly}
-use Rattle.totals_spec.specs.Promises.{Sum-fits, Dot-fits, Entry-read-back, Size-is-length, Rounded-back, Sum-pence-agree}
+use Rattle.totals_spec.specs.Promises.{Sum-fits, Dot-fits, Entry-read-back, Size-is-length, Rounded-back, Sum-pence-agree, Pence-place, One-pence, Pence-order}
 use Rattle.totals_spec.proofs.Bits.{low-divides, low-set, size-none, size-one-less}
 use Rattle.totals_spec.proofs.Good.{good-terms, good-pairs}
 use Rattle.totals_spec.proofs.Valid.{digits-le}
@@ -35,6 +35,7 @@ use Rattle.totals_spec.proofs.Order as order
 use Rattle.totals_spec.proofs.Passes as passes
 use Rattle.totals_spec.proofs.Binary64 as binary64s
 use Rattle.totals_spec.proofs.Own as biases
+use Rattle.totals_spec.proofs.SumPence as pence
 
 -- ==== the document's examples (specs/Careers, which computes them, and Careers)
 
@@ -188,6 +189,17 @@ binary64-square-limit = binary64s.binary64-square-limit
 
 pub binary64-dot-limit : Binary64-dot-limit
 binary64-dot-limit = binary64s.binary64-dot-limit
+
+-- ==== document 02, A.2: the pence of a list (SumPence)
+
+pub pence-place : Pence-place
+pence-place = pence.pence-place
+
+pub one-pence : One-pence
+one-pence = pence.one-pence
+
+pub pence-order : Pence-order
+pence-order = pence.pence-order
 
 -- ==== document 02, A.7: a named bias (Own)
 

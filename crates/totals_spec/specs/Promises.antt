@@ -27,7 +27,7 @@ use Rattle.totals_spec.specs.Side.{sideOf}
 use Rattle.totals_spec.specs.Settled.{chainTotal}
 use Rattle.totals_spec.specs.Conditions.{Uneven, First, sumConditions, dotConditions, entryConditions, penceConditions}
 use Rattle.totals_spec.specs.Places.{StrayAt, DotStrayAt}
-use Rattle.totals_spec.specs.Pence.{penceAnswer}
+use Rattle.totals_spec.specs.Pence.{penceAnswer, sumPence}
 use Rattle.totals_spec.specs.Careers.{binary64, rounded, careers, margins, allAgree, sideExamples, refusals, entryExample}
 use Rattle.totals_spec.specs.Careers.{penceExamples, biases, sumPenceExamples, programRuns, programAgrees}
 
@@ -109,6 +109,11 @@ Sum-place = (f : Format) (c : Settings) (u : ℕ) (l : List ℕ)
 abbrev pub Dot-place : Type 0
 Dot-place = (f : Format) (c : Settings) (xs ys : List ℕ)
     → (dotRefusal f c xs ys ≢ 7 → (dotAnswer f c xs ys) .place ≡ 0) × (dotRefusal f c xs ys ≡ 7 → DotStrayAt f xs ys ((dotAnswer f c xs ys) .place))
+
+-- of the pence of a list too
+abbrev pub Pence-place : Type 0
+Pence-place = (f : Format) (l : List ℕ)
+    → ((sumPence f l) .refusal ≢ 7 → (sumPence f l) .place ≡ 0) × ((sumPence f l) .refusal ≡ 7 → StrayAt f l ((sumPence f l) .place))
 
 -- a refused byte entry writes nothing
 abbrev pub Sum-entry-refused : Type 0
@@ -248,6 +253,12 @@ abbrev pub Dot-by-chain : Type 0
 Dot-by-chain = (f : Format) (c : Settings) (xs ys : List ℕ) (sub products minus : Bool) → dotRefusal f c xs ys ≡ 0
     → chainTotal f c sub products minus (dotTerms f c xs ys) ≡ finiteTotal f c sub products minus (dotTerms f c xs ys)
 
+-- ==== PROMISE 2: the pence of a list (document 02, A.2)
+
+-- of one element they are the pence of its encoding, refused ones too
+abbrev pub One-pence : Type 0
+One-pence = (f : Format) (b : ℕ) → sumPence f (b ∷ []) ≡ penceAnswer f b
+
 -- ==== PROMISE 3: the order
 
 -- a rearrangement of an accepted list without a NaN is accepted, and has the same record
@@ -272,6 +283,10 @@ Dot-entry-order = (f : Format) (c : Settings) (x y x′ y′ old : List ℕ) →
     → length (valuesIn x′) ≡ length (valuesIn y′) → AsOften samePair (pairs (valuesIn x) (valuesIn y)) (pairs (valuesIn x′) (valuesIn y′))
     → dotRefusal f c (valuesIn x) (valuesIn y) ≡ 0 → holdsNan f (valuesIn x) ≡ false → holdsNan f (valuesIn y) ≡ false
     → dotEntry f c x y old ≡ dotEntry f c x′ y′ old
+
+-- the pence of a list and of its rearrangements are one record, with NaNs among them too; only the place of a stray bit can differ
+abbrev pub Pence-order : Type 0
+Pence-order = (f : Format) (l₁ l₂ : List ℕ) → AsOften eqb l₁ l₂ → (sumPence f l₁) .refusal ≢ 7 → sumPence f l₁ ≡ sumPence f l₂
 
 -- ==== PROMISE 3: the limit on the passes
 

@@ -1,0 +1,149 @@
+-- The pence of a list (document 02, A.2): the place of refusal 7, the order, and lists of one element.
+use mathlib.Core.Path.{_≡_, refl, ap, ap₂, _∙_, subst}
+use mathlib.Core.Logic.{_≢_}
+use mathlib.Core.Bool.{Bool, true, false, not, _||_, cond}
+use mathlib.Core.List.{List, [], _∷_}
+use Prim.Native.Nat.{ℕ, suc, _+_, _*_, _/_, _^_, _<_}
+use native.Mathlib.Nat.{mul-pos, mul-div-mul-right, div-eq-of-lt, pow-succ'}
+use native.Mathlib.Omega.{arith}
+use lib.Dec.{T, ltb, eqb, eqb→eq, eqb-refl}
+use lib.ListN.{length}
+use lib.IntN.{ℤ, pos, negℤ}
+use lib.Pow.{pow-add, pow-pos}
+use Rattle.totals_spec.specs.Basics.{Signed, difference, any, keep}
+use Rattle.totals_spec.specs.Format.{Format, validFormat, room, depth, lift, origin, fall}
+use Rattle.totals_spec.specs.Settings.{noSettings, value}
+use Rattle.totals_spec.specs.Decode.{Unpacked, zeroOf, finite, infinity, nan, decode, isNumber, operand}
+use Rattle.totals_spec.specs.Terms.{single, item, itemOf, termOf, plusSum, minusSum, exactSum}
+use Rattle.totals_spec.specs.Totals.{stray, limit, firstIndex, sumTerms}
+use Rattle.totals_spec.specs.Pence.{Pence, refusedPence, penceOf, inRange, figureOf, penceAnswer, notNumber, sumFigure, sumPence}
+use Rattle.totals_spec.specs.Places.{StrayAt}
+use Rattle.totals_spec.specs.Promises.{Pence-place, One-pence, Pence-order}
+use Rattle.totals_spec.proofs.Perm.{any-perm, length-perm, picked-perm, map-perm, perm-of-counts}
+use Rattle.totals_spec.proofs.Places.{first-stray}
+use Rattle.totals_spec.proofs.Good.{Decoded, decoded}
+use Rattle.totals_spec.proofs.Order.{plus-perm, minus-perm}
+use Rattle.totals_spec.proofs.Alike.{diff-plus, diff-minus}
+
+-- ---- the record by its four tests: x is that of a list that passes them
+
+abbrev tested : (a b c d : Bool) (at : ℕ) → Pence → Pence
+tested a b c d at x =
+    cond a (refusedPence 3)
+    (cond b (refusedPence 6)
+    (cond c (record { figure = pos 0; refusal = 7; place = at })
+    (cond d (refusedPence 8) x)))
+
+record Placeless (x : Pence) : Type 0 where
+  pub number : x .refusal ≢ 7
+  pub place : x .place ≡ 0
+
+range-placeless : (s : Bool) (n : ℕ) → Placeless (inRange s n)
+range-placeless s n = go (ltb n (2 ^ 63)) (cond s (negℤ (pos n)) (pos n))
+  where
+    go : (b : Bool) (z : ℤ) → Placeless (cond b (record { figure = z; refusal = 0; place = 0 }) (refusedPence 8))
+    go true z = record { number = λ e. omega (arith, e); place = refl }
+    go false z = record { number = λ e. omega (arith, e); place = refl }
+
+figure-placeless : (f : Format) (x : Signed) → Placeless (sumFigure f x)
+unfolding sumFigure
+figure-placeless f x = range-placeless (x .neg) (penceOf (origin f false) (fall f false) (x .mag))
+
+module _ (at : ℕ) (x : Pence) (h : Placeless x) where
+  no-place : (a b c d : Bool) → (tested a b c d at x) .refusal ≢ 7 → (tested a b c d at x) .place ≡ 0
+  no-place true b c d k = refl
+  no-place false true c d k = refl
+  no-place false false true d k = absurd (k refl)
+  no-place false false false true k = refl
+  no-place false false false false k = h .place
+
+  seven : (a b c d : Bool) → (tested a b c d at x) .refusal ≡ 7 → T c × (at ≡ (tested a b c d at x) .place)
+  seven true b c d e = absurd (let z : ⊥ = omega (arith, e) in z)
+  seven false true c d e = absurd (let z : ⊥ = omega (arith, e) in z)
+  seven false false true d e = (tt, refl)
+  seven false false false true e = absurd (let z : ⊥ = omega (arith, e) in z)
+  seven false false false false e = absurd (h .number e)
+
+  -- only number 7 has a place to differ in
+  other-place : (a b c d : Bool) (at′ : ℕ) → (tested a b c d at x) .refusal ≢ 7 → tested a b c d at x ≡ tested a b c d at′ x
+  other-place true b c d at′ k = refl
+  other-place false true c d at′ k = refl
+  other-place false false true d at′ k = absurd (k refl)
+  other-place false false false d at′ k = refl
+
+-- ---- the place
+
+abbrev sumOf : Format → List ℕ → Signed
+sumOf f l = exactSum (sumTerms f noSettings value l)
+
+pub pence-place : Pence-place
+unfolding sumPence
+pence-place f l =
+    let at = firstIndex (stray f) l in
+    let h = figure-placeless f (sumOf f l) in
+    let many = ltb limit (length l) in
+    let some = any (stray f) l in
+    let odd = any (notNumber f) l in (
+      no-place at _ h (not (validFormat f)) many some odd,
+      λ e. let s = seven at _ h (not (validFormat f)) many some odd e in subst (StrayAt f l) (s .1) (first-stray f l (s .0)),
+    )
+
+-- ---- the order
+
+pub pence-order : Pence-order
+unfolding sumPence
+pence-order f l₁ l₂ h k =
+    let d = perm-of-counts eqb eqb→eq eqb-refl l₁ l₂ h in
+    let t = picked-perm termOf (map-perm (item f noSettings value) d) in
+    other-place (firstIndex (stray f) l₁) _ (figure-placeless f (sumOf f l₁)) (not (validFormat f)) (ltb limit (length l₁)) (any (stray f) l₁)
+    (any (notNumber f) l₁) (firstIndex (stray f) l₂) k
+    ∙ cc (length-perm d, any-perm (stray f) d, any-perm (notNumber f) d, plus-perm t, minus-perm t)
+
+-- ---- lists of one element
+
+-- a unit r positions lower, for both the number and 1
+lower-unit : (d k n m r : ℕ) → penceOf (r + d) n (m * 2 ^ (k + r)) ≡ penceOf d (k + n) m
+unfolding penceOf
+lower-unit d k n m r = ap₂ _/_ above below ∙ mul-div-mul-right (200 * m * 2 ^ (k + n) + 2 ^ d) (2 ^ suc d) (pow-pos r)
+  where
+    above : 200 * (m * 2 ^ (k + r)) * 2 ^ n + 2 ^ (r + d) ≡ (200 * m * 2 ^ (k + n) + 2 ^ d) * 2 ^ r
+    above = rw (pow-add 2 k r, pow-add 2 k n, pow-add 2 r d) (omega arith)
+
+    below : 2 ^ suc (r + d) ≡ 2 ^ suc d * 2 ^ r
+    below = rw (pow-succ' 2 (r + d), pow-succ' 2 d, pow-add 2 r d) (omega arith)
+
+-- the figure of 0
+no-pence : (d k : ℕ) → penceOf d k 0 ≡ 0
+unfolding penceOf
+no-pence d k = div-eq-of-lt half
+  where
+    half : 200 * 0 * 2 ^ k + 2 ^ d < 2 ^ suc d
+    half = omega (arith, pow-succ' 2 d, pow-pos d)
+
+-- the figure of a decoded value, from its term
+figure-alone : (f : Format) (x : Unpacked) → Decoded f x
+    → cond (not (isNumber x)) (refusedPence 8) (sumFigure f (exactSum (keep (termOf (itemOf value x)) []))) ≡ figureOf (depth f) (lift f) x
+unfolding sumFigure plusSum minusSum difference origin fall single
+figure-alone f (zeroOf s) h = ap (inRange false) (no-pence (room + depth f) (lift f))
+figure-alone f (finite true k m) h =
+    ap (sumFigure f) (diff-minus (m * 2 ^ (k + room) + 0) 0 (m * 2 ^ (k + room)) (omega arith) (mul-pos (h .0) (pow-pos (k + room))))
+    ∙ ap (inRange true) (lower-unit (depth f) k (lift f) m room)
+figure-alone f (finite false k m) h =
+    ap (sumFigure f) (diff-plus (m * 2 ^ (k + room) + 0) 0 (m * 2 ^ (k + room)) (omega arith))
+    ∙ ap (inRange false) (lower-unit (depth f) k (lift f) m room)
+figure-alone f (infinity s) h = refl
+figure-alone f (nan s g m) h = refl
+
+-- the one test of number 7, and its place
+alone : (a c d : Bool) (x : Pence) → tested a false (c || false) (d || false) (cond c 0 1) x
+    ≡ cond a (refusedPence 3) (cond c (refusedPence 7) (cond d (refusedPence 8) x))
+alone true c d x = refl
+alone false true d x = refl
+alone false false true x = refl
+alone false false false x = refl
+
+pub one-pence : One-pence
+unfolding sumPence penceAnswer item operand
+one-pence f b =
+    alone (not (validFormat f)) (stray f b) (notNumber f b) (sumFigure f (sumOf f (b ∷ [])))
+    ∙ ap (λ (x : Pence). cond (not (validFormat f)) (refusedPence 3) (cond (stray f b) (refusedPence 7) x)) (figure-alone f (decode f b) (decoded f b))
