@@ -4,7 +4,7 @@ use mathlib.Core.Logic.{_≢_, _↔_, _⊎_, inl, inr}
 use mathlib.Core.Bool.{Bool, true, false, not, _&&_, _||_, cond}
 use mathlib.Core.List.{List, [], _∷_}
 use mathlib.Core.Option.{Option, none, some}
-use Prim.Native.Nat.{ℕ, zero, suc, _+_, _*_, _%_, _^_, _<_}
+use Prim.Native.Nat.{ℕ, zero, suc, _+_, _*_, _%_, _^_, _<_, _≤_, zero-le, suc-le-suc}
 use native.Mathlib.Nat.{not-suc-le-zero, le-of-suc-le-suc}
 use native.Mathlib.Omega.{arith}
 use lib.Dec.{T, T-not, not-T, leb, ltb, eqb, leb→le, le→leb, ltb→lt, lt→ltb, nleb→lt, nltb→le, eqb→eq}
@@ -13,18 +13,18 @@ use lib.IntN.{ℤ, natAbs}
 use borrow.Author.Tests.{eq-eqb}
 use Rattle.totals_spec.specs.Basics.{any}
 use Rattle.totals_spec.specs.Bounds.{Offered, FormatBounds, SettingsBounds}
-use Rattle.totals_spec.specs.Format.{Format, offered, validFormat, digits, depth, lift}
-use Rattle.totals_spec.specs.Settings.{Settings, validSettings}
-use Rattle.totals_spec.specs.Decode.{Unpacked, zeroOf, finite, infinity, nan, decode}
-use Rattle.totals_spec.specs.Totals.{Answer, stray, limit, refuseIf, firstIndex, sumRefusal, sumAnswer, dotRefusal, dotAnswer}
+use Rattle.totals_spec.specs.Format.{Format, offered, validFormat, digits, depth, lift, origin, fall}
+use Rattle.totals_spec.specs.Settings.{Settings, validSettings, noSettings, value}
+use Rattle.totals_spec.specs.Decode.{Unpacked, zeroOf, finite, infinity, nan, decode, isNumber}
+use Rattle.totals_spec.specs.Terms.{exactSum}
+use Rattle.totals_spec.specs.Totals.{Answer, stray, limit, refuseIf, sumTerms, sumRefusal, sumAnswer, dotRefusal, dotAnswer}
 use Rattle.totals_spec.specs.Bytes.{Entry, valuesIn, uneven, short, entered, written, sumEntry, dotEntry}
-use Rattle.totals_spec.specs.Pence.{Pence, refusedPence, penceOf, figureOf, penceAnswer}
-use Rattle.totals_spec.specs.Conditions.{Uneven, Short, FarBias, BadFormat, BadSettings, BadSummand, Unequal, TooMany, StrayBit, Stray, NoPence}
+use Rattle.totals_spec.specs.Pence.{Pence, refusedPence, penceOf, figureOf, penceAnswer, notNumber, sumFigure, sumPence}
+use Rattle.totals_spec.specs.Conditions.{Uneven, Short, FarBias, BadFormat, BadSettings, BadSummand, Unequal, TooMany, StrayBit, Stray, NoPence, NoNumber}
 use Rattle.totals_spec.specs.Conditions.{Condition, First, sumConditions, dotConditions, entryConditions}
-use Rattle.totals_spec.specs.Promises.{Sum-refused-exactly, Dot-refused-exactly, Entry-refused-exactly, Pence-refused-exactly}
+use Rattle.totals_spec.specs.Promises.{Sum-refused-exactly, Dot-refused-exactly, Entry-refused-exactly, Pence-refused-exactly, Sum-pence-refused-exactly}
 use Rattle.totals_spec.proofs.Bits.{T-of}
 use Rattle.totals_spec.proofs.Valid.{format-bounds, settings-bounds}
-use Rattle.totals_spec.proofs.Places.{first-stray}
 use Rattle.totals_spec.proofs.Refused.{sum-refusal, dot-refusal, sum-small, dot-small}
 
 -- ---- tests in their order, each of which finds a condition, and the number of the first that is true
@@ -179,24 +179,40 @@ many-found l = ((λ t. omega (arith, ltb→lt limit (length l) t)), λ h. lt→l
 
 -- ---- 7
 
-any-at : (f : Format) (l : List ℕ) (i : ℕ) → i < length l → StrayBit f (getD l i 0) → T (any (stray f) l)
-any-at f [] i h s = absurd (not-suc-le-zero h)
-any-at f (x ∷ l) zero h s = or-left (stray f x) (any (stray f) l) (le→leb (2 ^ (f .W)) x s)
-  where
-    or-left : (a b : Bool) → T a → T (a || b)
-    or-left true b t = tt
-    or-left false b t = absurd t
-any-at f (x ∷ l) (suc i) h s = or-right (stray f x) (any (stray f) l) (any-at f l i (le-of-suc-le-suc h) s)
-  where
-    or-right : (a b : Bool) → T b → T (a || b)
-    or-right true b t = tt
-    or-right false b t = t
+-- some element passes a test, where each that passes it meets P
+module _ (t : ℕ → Bool) (P : ℕ → Type 0) (each : (x : ℕ) → T (t x) ↔ P x) where
+  abbrev Some : List ℕ → Type 0
+  Some l = (i : ℕ) × (i < length l) × P (getD l i 0)
+
+  some-forth : (l : List ℕ) → T (any t l) → Some l
+  some-forth [] h = absurd h
+  some-forth (x ∷ l) h = go (t x) (each x .0) h (some-forth l)
+    where
+      go : (b : Bool) → (T b → P x) → T (b || any t l) → (T (any t l) → Some l) → Some (x ∷ l)
+      go true k h ih = (0, suc-le-suc zero-le, k tt)
+      go false k h ih = let s = ih h in (suc (s .0), suc-le-suc (s .1), s .2)
+
+  any-at : (l : List ℕ) (i : ℕ) → i < length l → P (getD l i 0) → T (any t l)
+  any-at [] i h p = absurd (not-suc-le-zero h)
+  any-at (x ∷ l) zero h p = or-left (t x) (any t l) (each x .1 p)
+    where
+      or-left : (a b : Bool) → T a → T (a || b)
+      or-left true b t = tt
+      or-left false b t = absurd t
+  any-at (x ∷ l) (suc i) h p = or-right (t x) (any t l) (any-at l i (le-of-suc-le-suc h) p)
+    where
+      or-right : (a b : Bool) → T b → T (a || b)
+      or-right true b t = tt
+      or-right false b t = t
+
+  some-found : (l : List ℕ) → T (any t l) ↔ Some l
+  some-found l = (some-forth l, λ s. any-at l (s .0) (s .1) (s .2))
+
+stray-bit : (f : Format) (b : ℕ) → T (stray f b) ↔ StrayBit f b
+stray-bit f b = (leb→le (2 ^ (f .W)) b, le→leb (2 ^ (f .W)) b)
 
 stray-found : (f : Format) (l : List ℕ) → T (any (stray f) l) ↔ Stray f l
-stray-found f l = (forth, λ s. any-at f l (s .0) (s .1) (s .2))
-  where
-    forth : T (any (stray f) l) → Stray f l
-    forth t = let s = first-stray f l t in (firstIndex (stray f) l, s .inside, leb→le _ _ (s .set))
+stray-found f = some-found (stray f) (StrayBit f) (stray-bit f)
 
 -- ---- sums and dots
 
@@ -263,30 +279,63 @@ entry-refused-exactly = (
 
 -- ---- pence
 
-pence-number : (a : Bool) (n : ℕ) (r : Pence) → (cond a (refusedPence n) r) .refusal ≡ refuseIf a n (r .refusal)
-pence-number true n r = refl
-pence-number false n r = refl
+pence-number : (a : Bool) (x r : Pence) → (cond a x r) .refusal ≡ refuseIf a (x .refusal) (r .refusal)
+pence-number true x r = refl
+pence-number false x r = refl
 
 range-number : (a : Bool) (n : ℕ) (r : Pence) → (cond a r (refusedPence n)) .refusal ≡ refuseIf (not a) n (r .refusal)
 range-number true n r = refl
 range-number false n r = refl
 
+-- a figure is refused where it reaches 2^63
+large-found : (n : ℕ) → T (not (ltb n (2 ^ 63))) ↔ 2 ^ 63 ≤ n
+large-found n = ((λ t. omega (arith, nltb→le n (2 ^ 63) t)), λ h. not-T (ltb n (2 ^ 63)) (λ t. omega (arith, h, ltb→lt n (2 ^ 63) t)))
+
 figure-tests : (d n : ℕ) (v : Unpacked) → Tests ((8, NoPence d n v) ∷ []) ((figureOf d n v) .refusal)
 figure-tests d n (zeroOf s) = test false ((λ t. t), λ t. t) last
-figure-tests d n (finite s k m) = rw (range-number (ltb (penceOf d (k + n) m) (2 ^ 63)) 8 _) (test (not (ltb (penceOf d (k + n) m) (2 ^ 63))) (forth, back) last)
-  where
-    forth : T (not (ltb (penceOf d (k + n) m) (2 ^ 63))) → NoPence d n (finite s k m)
-    forth t = omega (arith, nltb→le (penceOf d (k + n) m) (2 ^ 63) t)
-
-    back : NoPence d n (finite s k m) → T (not (ltb (penceOf d (k + n) m) (2 ^ 63)))
-    back h = not-T (ltb (penceOf d (k + n) m) (2 ^ 63)) (λ t. omega (arith, h, ltb→lt (penceOf d (k + n) m) (2 ^ 63) t))
+figure-tests d n (finite s k m) =
+    let x = penceOf d (k + n) m in
+    rw (range-number (ltb x (2 ^ 63)) 8 _) (test (not (ltb x (2 ^ 63))) (large-found x) last)
 figure-tests d n (infinity s) = test true ((λ t. t), λ t. t) last
 figure-tests d n (nan s g m) = test true ((λ t. t), λ t. t) last
 
 pub pence-refused-exactly : Pence-refused-exactly
 unfolding penceAnswer
 pence-refused-exactly f b n =
-    rw (pence-number (not (validFormat f)) 3 _, pence-number (stray f b) 7 _)
+    rw (pence-number (not (validFormat f)) _ _, pence-number (stray f b) _ _)
     (exactly (test (not (validFormat f)) (format-fails f)
-    (test (stray f b) (leb→le (2 ^ (f .W)) b, le→leb (2 ^ (f .W)) b)
+    (test (stray f b) (stray-bit f b)
     (figure-tests (depth f) (lift f) (decode f b)))) n)
+
+-- ---- the pence of a list
+
+no-number-found : (v : Unpacked) → T (not (isNumber v)) ↔ NoNumber v
+no-number-found (zeroOf s) = ((λ t. t), λ t. t)
+no-number-found (finite s k m) = ((λ t. t), λ t. t)
+no-number-found (infinity s) = ((λ t. t), λ t. t)
+no-number-found (nan s g m) = ((λ t. t), λ t. t)
+
+-- two tests for one number
+same-number : (a b : Bool) (n rest : ℕ) → refuseIf a n (refuseIf b n rest) ≡ refuseIf (a || b) n rest
+same-number true b n rest = refl
+same-number false b n rest = refl
+
+pub sum-pence-refused-exactly : Sum-pence-refused-exactly
+unfolding sumPence sumFigure
+sum-pence-refused-exactly f l n =
+    let x = penceOf (origin f false) (fall f false) (exactSum (sumTerms f noSettings value l) .mag) in
+    let odd = any (notNumber f) l in
+    let large = not (ltb x (2 ^ 63)) in
+    rw (
+      pence-number (not (validFormat f)) _ _,
+      pence-number (ltb limit (length l)) _ _,
+      pence-number (any (stray f) l) _ _,
+      pence-number odd _ _,
+      range-number (ltb x (2 ^ 63)) 8 _,
+      same-number odd large 8 0,
+    )
+    (exactly (test (not (validFormat f)) (format-fails f)
+    (test (ltb limit (length l)) (many-found l)
+    (test (any (stray f) l) (stray-found f l)
+    (test (odd || large) (either odd large (some-found (notNumber f) (λ b. NoNumber (decode f b)) (λ b. no-number-found (decode f b)) l) (large-found x))
+    last)))) n)

@@ -15,6 +15,7 @@ use Rattle.totals_spec.specs.Promises.{Dot-entry-order, Sum-limit, Dot-l
 use Rattle.totals_spec.specs.Promises.{Dot-ends, Sum-edges, Dot-edges, Low-bit, Sides-agree, Biases-agree, Named-own}
 use Rattle.totals_spec.specs.Promises.{Sum-zeros, Dot-zeros, Sum-refused-exactly, Dot-refused-exactly, Entry-refused-exactly, Pence-refused-exactly}
 use Rattle.totals_spec.specs.Promises.{Sum-fits, Dot-fits, Entry-read-back, Size-is-length, Rounded-back, Sum-pence-agree, Pence-place, One-pence, Pence-order}
+use Rattle.totals_spec.specs.Promises.{Sum-pence-refused-exactly}
 use Rattle.totals_spec.proofs.Bits.{low-divides, low-set, size-none, size-one-less}
 use Rattle.totals_spec.proofs.Good.{good-terms, good-pairs}
 use Rattle.totals_spec.proofs.Valid.{digits-le}
@@ -102,6 +103,9 @@ entry-refused-exactly = exactly.entry-refused-exactly
 
 pub pence-refused-exactly : Pence-refused-exactly
 pence-refused-exactly = exactly.pence-refused-exactly
+
+pub sum-pence-refused-exactly : Sum-pence-refused-exactly
+sum-pence-refused-exactly = exactly.sum-pence-refused-exactly
 
 -- ==== promise 1: the answer in its places (Fits, ReadBack)
 

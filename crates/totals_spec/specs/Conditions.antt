@@ -2,15 +2,18 @@
 -- definitions of the answers work with tests, which find just these (`Promises.antt`).
 use mathlib.Core.Path.{_≡_}
 use mathlib.Core.Logic.{_≢_, _⊎_}
+use mathlib.Core.Bool.{false}
 use mathlib.Core.List.{List, [], _∷_}
 use mathlib.Core.Option.{Option, none, some}
 use Prim.Native.Nat.{ℕ, _+_, _%_, _^_, _≤_, _<_}
 use lib.ListN.{length, getD}
 use lib.IntN.{ℤ, natAbs}
-use Rattle.totals_spec.specs.Format.{Format, digits, depth, lift}
-use Rattle.totals_spec.specs.Settings.{Settings}
+use Rattle.totals_spec.specs.Basics.{Signed}
+use Rattle.totals_spec.specs.Format.{Format, digits, depth, lift, origin, fall}
+use Rattle.totals_spec.specs.Settings.{Settings, noSettings, value}
 use Rattle.totals_spec.specs.Decode.{Unpacked, zeroOf, finite, infinity, nan, decode}
-use Rattle.totals_spec.specs.Totals.{limit}
+use Rattle.totals_spec.specs.Terms.{exactSum}
+use Rattle.totals_spec.specs.Totals.{limit, sumTerms}
 use Rattle.totals_spec.specs.Pence.{penceOf}
 
 -- ---- 1 and 2: a length in bytes that is no multiple of 8, an answer buffer under 24 bytes
@@ -76,6 +79,20 @@ NoPence d n (finite s k m) = 2 ^ 63 ≤ penceOf d (k + n) m
 NoPence d n (infinity s) = Unit {0}
 NoPence d n (nan s g m) = Unit {0}
 
+-- ---- 8 of a list: an element that is a NaN or an infinity, or a sum whose pence figure is beyond 2^63 − 1
+
+abbrev pub NoNumber : Unpacked → Type 0
+NoNumber (zeroOf s) = ⊥
+NoNumber (finite s k m) = ⊥
+NoNumber (infinity s) = Unit {0}
+NoNumber (nan s g m) = Unit {0}
+
+abbrev pub SomeNoNumber : Format → List ℕ → Type 0
+SomeNoNumber f l = (i : ℕ) × (i < length l) × NoNumber (decode f (getD l i 0))
+
+abbrev pub BeyondPence : Format → Signed → Type 0
+BeyondPence f x = 2 ^ 63 ≤ penceOf (origin f false) (fall f false) (x .mag)
+
 -- ---- the first that holds
 
 -- a number and its condition
@@ -112,3 +129,11 @@ entryConditions uneven old values = (1, uneven) ∷ (2, Short old) ∷ values
 
 abbrev pub penceConditions : Format → ℕ → List Condition
 penceConditions f b = (3, BadFormat f) ∷ (7, StrayBit f b) ∷ (8, NoPence (depth f) (lift f) (decode f b)) ∷ []
+
+abbrev pub sumPenceConditions : Format → List ℕ → List Condition
+sumPenceConditions f l =
+    (3, BadFormat f)
+    ∷ (6, TooMany l)
+    ∷ (7, Stray f l)
+    ∷ (8, SomeNoNumber f l ⊎ BeyondPence f (exactSum (sumTerms f noSettings value l)))
+    ∷ []

@@ -25,7 +25,7 @@ use Rattle.totals_spec.specs.Rearranged.{AsOften, samePair, holdsNan}
 use Rattle.totals_spec.specs.Limit.{lowBit, mostPasses}
 use Rattle.totals_spec.specs.Side.{sideOf}
 use Rattle.totals_spec.specs.Settled.{chainTotal}
-use Rattle.totals_spec.specs.Conditions.{Uneven, First, sumConditions, dotConditions, entryConditions, penceConditions}
+use Rattle.totals_spec.specs.Conditions.{Uneven, First, sumConditions, dotConditions, entryConditions, penceConditions, sumPenceConditions}
 use Rattle.totals_spec.specs.Places.{StrayAt, DotStrayAt}
 use Rattle.totals_spec.specs.Pence.{penceAnswer, sumPence}
 use Rattle.totals_spec.specs.Careers.{binary64, rounded, careers, margins, allAgree, sideExamples, refusals, entryExample}
@@ -74,7 +74,7 @@ abbrev pub Dot-refusal : Type 0
 Dot-refusal = (f : Format) (c : Settings) (xs ys : List ℕ) → (dotAnswer f c xs ys) .refusal ≡ dotRefusal f c xs ys
 
 -- a call has the number n exactly where n's condition holds and none that is tried before it does: 3, 4, 6, 7 of a sum, 3 to 7 of a dot, 1 and 2
--- before these of a byte entry (in the lowest byte of the number it returns), 3, 7, 8 of pence; and 0 exactly where none holds
+-- before these of a byte entry (in the lowest byte of the number it returns), 3, 7, 8 of pence, 3, 6, 7, 8 of a list's; and 0 exactly where none holds
 abbrev pub Sum-refused-exactly : Type 0
 Sum-refused-exactly = (f : Format) (c : Settings) (u : ℕ) (l : List ℕ) (n : ℕ) → (sumAnswer f c u l) .refusal ≡ n ↔ First (sumConditions f c u l) n
 
@@ -91,6 +91,9 @@ Entry-refused-exactly =
 
 abbrev pub Pence-refused-exactly : Type 0
 Pence-refused-exactly = (f : Format) (b n : ℕ) → (penceAnswer f b) .refusal ≡ n ↔ First (penceConditions f b) n
+
+abbrev pub Sum-pence-refused-exactly : Type 0
+Sum-pence-refused-exactly = (f : Format) (l : List ℕ) (n : ℕ) → (sumPence f l) .refusal ≡ n ↔ First (sumPenceConditions f l) n
 
 -- a refused record is 0 but for number and place
 abbrev pub Sum-refused : Type 0
