@@ -48,7 +48,8 @@ pub mod Fits
 pub mod ReadBack
 -- A named bias.
 pub mod Own
--- The pence of a list.
+-- The pence of a list, and how a chain finds them.
+pub mod Nearest
 pub mod SumPence
 -- The promises: what `specs/Promises.antt` states. Read this one first.
 pub mod Promises

@@ -3,8 +3,8 @@ use mathlib.Core.Path.{_≡_, refl, ap, ap₂, _∙_, subst}
 use mathlib.Core.Logic.{_≢_}
 use mathlib.Core.Bool.{Bool, true, false, not, _||_, cond}
 use mathlib.Core.List.{List, [], _∷_}
-use Prim.Native.Nat.{ℕ, suc, _+_, _*_, _/_, _^_, _<_}
-use native.Mathlib.Nat.{mul-pos, mul-div-mul-right, div-eq-of-lt, pow-succ'}
+use Prim.Native.Nat.{ℕ, suc, _+_, _*_, _/_, _^_}
+use native.Mathlib.Nat.{mul-pos, add-comm}
 use native.Mathlib.Omega.{arith}
 use lib.Dec.{T, ltb, eqb, eqb→eq, eqb-refl}
 use lib.ListN.{length}
@@ -24,6 +24,7 @@ use Rattle.totals_spec.proofs.Places.{first-stray}
 use Rattle.totals_spec.proofs.Good.{Decoded, decoded}
 use Rattle.totals_spec.proofs.Order.{plus-perm, minus-perm}
 use Rattle.totals_spec.proofs.Alike.{diff-plus, diff-minus}
+use Rattle.totals_spec.proofs.Nearest.{rescaled, none-up}
 
 -- ---- the record by its four tests: x is that of a list that passes them
 
@@ -104,21 +105,15 @@ pence-order f l₁ l₂ h k =
 -- a unit r positions lower, for both the number and 1
 lower-unit : (d k n m r : ℕ) → penceOf (r + d) n (m * 2 ^ (k + r)) ≡ penceOf d (k + n) m
 unfolding penceOf
-lower-unit d k n m r = ap₂ _/_ above below ∙ mul-div-mul-right (200 * m * 2 ^ (k + n) + 2 ^ d) (2 ^ suc d) (pow-pos r)
+lower-unit d k n m r = ap₂ (λ (y e : ℕ). (y + 2 ^ e) / 2 ^ suc e) twice (add-comm r d) ∙ rescaled (200 * m * 2 ^ (k + n)) d r
   where
-    above : 200 * (m * 2 ^ (k + r)) * 2 ^ n + 2 ^ (r + d) ≡ (200 * m * 2 ^ (k + n) + 2 ^ d) * 2 ^ r
-    above = rw (pow-add 2 k r, pow-add 2 k n, pow-add 2 r d) (omega arith)
-
-    below : 2 ^ suc (r + d) ≡ 2 ^ suc d * 2 ^ r
-    below = rw (pow-succ' 2 (r + d), pow-succ' 2 d, pow-add 2 r d) (omega arith)
+    twice : 200 * (m * 2 ^ (k + r)) * 2 ^ n ≡ 200 * m * 2 ^ (k + n) * 2 ^ r
+    twice = rw (pow-add 2 k r, pow-add 2 k n) (omega arith)
 
 -- the figure of 0
 no-pence : (d k : ℕ) → penceOf d k 0 ≡ 0
 unfolding penceOf
-no-pence d k = div-eq-of-lt half
-  where
-    half : 200 * 0 * 2 ^ k + 2 ^ d < 2 ^ suc d
-    half = omega (arith, pow-succ' 2 d, pow-pos d)
+no-pence d k = none-up (200 * 0 * 2 ^ k) d (omega arith)
 
 -- the figure of a decoded value, from its term
 figure-alone : (f : Format) (x : Unpacked) → Decoded f x
