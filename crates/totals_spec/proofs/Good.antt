@@ -99,7 +99,7 @@ mul-lt-pow m n =
     subst (λ (x : ℕ). m * n < x) (sym (pow-add 2 (size m) (size n)))
     (lt-of-le-of-lt (mul-le-mul-left m (le-of-lt (size-lt n))) (mul-lt-mul-of-pos-right (size-lt m) (pow-pos (size n))))
 
-good-product : (s : Bool) (k m j n : ℕ) → 0 < m → 0 < n → Good (product s k m j n)
+pub good-product : (s : Bool) (k m j n : ℕ) → 0 < m → 0 < n → Good (product s k m j n)
 unfolding product
 good-product s k m j n h g = record {
   positive = mul-pos (mul-pos h g) (pow-pos (k + j + room));

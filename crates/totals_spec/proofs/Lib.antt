@@ -51,6 +51,7 @@ pub mod Own
 -- The pence of a list, and how a chain finds them.
 pub mod Nearest
 pub mod SumPence
+pub mod Hundredfold
 -- The promises: what `specs/Promises.antt` states. Read this one first.
 pub mod Promises
 -- More of a pass: how near S is to the exact sum, and that a boundary need not be taken off.

@@ -15,7 +15,7 @@ use Rattle.totals_spec.specs.Promises.{Dot-entry-order, Sum-limit, Dot-l
 use Rattle.totals_spec.specs.Promises.{Dot-ends, Sum-edges, Dot-edges, Low-bit, Sides-agree, Biases-agree, Named-own}
 use Rattle.totals_spec.specs.Promises.{Sum-zeros, Dot-zeros, Sum-refused-exactly, Dot-refused-exactly, Entry-refused-exactly, Pence-refused-exactly}
 use Rattle.totals_spec.specs.Promises.{Sum-fits, Dot-fits, Entry-read-back, Size-is-length, Rounded-back, Sum-pence-agree, Pence-place, One-pence, Pence-order}
-use Rattle.totals_spec.specs.Promises.{Sum-pence-refused-exactly}
+use Rattle.totals_spec.specs.Promises.{Sum-pence-refused-exactly, Pence-by-chain}
 use Rattle.totals_spec.proofs.Bits.{low-divides, low-set, size-none, size-one-less}
 use Rattle.totals_spec.proofs.Good.{good-terms, good-pairs}
 use Rattle.totals_spec.proofs.Valid.{digits-le}
@@ -37,6 +37,7 @@ use Rattle.totals_spec.proofs.Passes as passes
 use Rattle.totals_spec.proofs.Binary64 as binary64s
 use Rattle.totals_spec.proofs.Own as biases
 use Rattle.totals_spec.proofs.SumPence as pence
+use Rattle.totals_spec.proofs.Hundredfold as hundredfold
 
 -- ==== the document's examples (specs/Careers, which computes them, and Careers)
 
@@ -194,13 +195,16 @@ binary64-square-limit = binary64s.binary64-square-limit
 pub binary64-dot-limit : Binary64-dot-limit
 binary64-dot-limit = binary64s.binary64-dot-limit
 
--- ==== document 02, A.2: the pence of a list (SumPence)
+-- ==== document 02, A.2: the pence of a list (SumPence, Hundredfold)
 
 pub pence-place : Pence-place
 pence-place = pence.pence-place
 
 pub one-pence : One-pence
 one-pence = pence.one-pence
+
+pub pence-by-chain : Pence-by-chain
+pence-by-chain = hundredfold.pence-by-chain
 
 pub pence-order : Pence-order
 pence-order = pence.pence-order

@@ -12,22 +12,23 @@ use lib.Dec.{T, eqb}
 use lib.Ieee.{size}
 use Rattle.totals_spec.specs.Basics.{any, flag}
 use Rattle.totals_spec.specs.Format.{Format, Kind, ieee, noInf, fnuz, finiteOnly, kindOf, biasOf, validFormat, digits, grid}
-use Rattle.totals_spec.specs.Settings.{Settings, validSettings, summandOf}
+use Rattle.totals_spec.specs.Settings.{Settings, validSettings, noSettings, value, summandOf}
 use Rattle.totals_spec.specs.Decode.{Unpacked, zeroOf, finite, infinity, nan, decode, isNumber, isSubnormal}
 use Rattle.totals_spec.specs.Encode.{encode}
 use Rattle.totals_spec.specs.Terms.{Item, Term, item, pairItem, isZero, exactSum, topOf}
 use Rattle.totals_spec.specs.Chain.{Outcome, zeroSum, exactly, nearly, beside, unfinished, lookAt, chain}
 use Rattle.totals_spec.specs.Round.{round}
-use Rattle.totals_spec.specs.Totals.{Answer, refused, sumRounded, reported, onGrid, towardsNegative, zeroSign, finiteTotal, isSquare, pairs}
+use Rattle.totals_spec.specs.Totals.{limit, Answer, refused, sumRounded, reported, onGrid, towardsNegative, zeroSign, finiteTotal, isSquare, pairs}
 use Rattle.totals_spec.specs.Totals.{sumRefusal, sumTerms, sumAnswer, dotRefusal, dotTerms, dotAnswer}
 use Rattle.totals_spec.specs.Bytes.{fromBytes, valuesIn, uneven, sumEntry, dotEntry}
 use Rattle.totals_spec.specs.Rearranged.{AsOften, samePair, holdsNan}
 use Rattle.totals_spec.specs.Limit.{lowBit, mostPasses}
 use Rattle.totals_spec.specs.Side.{sideOf}
-use Rattle.totals_spec.specs.Settled.{chainTotal}
+use Rattle.totals_spec.specs.Settled.{settled, chainTotal}
 use Rattle.totals_spec.specs.Conditions.{Uneven, First, sumConditions, dotConditions, entryConditions, penceConditions, sumPenceConditions}
 use Rattle.totals_spec.specs.Places.{StrayAt, DotStrayAt}
-use Rattle.totals_spec.specs.Pence.{penceAnswer, sumPence}
+use Rattle.totals_spec.specs.Pence.{penceAnswer, sumFigure, sumPence}
+use Rattle.totals_spec.specs.Hundredfold.{hundredTerms, wholeFigure}
 use Rattle.totals_spec.specs.Careers.{binary64, rounded, careers, margins, allAgree, sideExamples, refusals, entryExample}
 use Rattle.totals_spec.specs.Careers.{penceExamples, biases, sumPenceExamples, programRuns, programAgrees}
 
@@ -261,6 +262,11 @@ Dot-by-chain = (f : Format) (c : Settings) (xs ys : List ℕ) (sub products minu
 -- of one element they are the pence of its encoding, refused ones too
 abbrev pub One-pence : Type 0
 One-pence = (f : Format) (b : ℕ) → sumPence f (b ∷ []) ≡ penceAnswer f b
+
+-- what a chain at 64 digits over the terms, a hundred times each, ends with has the figure of the exact sum
+abbrev pub Pence-by-chain : Type 0
+Pence-by-chain = (f : Format) (l : List ℕ) → length l ≤ limit
+    → wholeFigure f (settled (chain 64 (hundredTerms f l) .outcome)) ≡ sumFigure f (exactSum (sumTerms f noSettings value l))
 
 -- ==== PROMISE 3: the order
 
