@@ -52,6 +52,7 @@ pub mod Own
 pub mod Nearest
 pub mod SumPence
 pub mod Hundredfold
+pub mod HundredTop
 -- The promises: what `specs/Promises.antt` states. Read this one first.
 pub mod Promises
 -- More of a pass: how near S is to the exact sum, and that a boundary need not be taken off.

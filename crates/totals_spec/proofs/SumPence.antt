@@ -2,7 +2,7 @@
 use mathlib.Core.Path.{_≡_, refl, ap, ap₂, _∙_, subst}
 use mathlib.Core.Logic.{_≢_}
 use mathlib.Core.Bool.{Bool, true, false, not, _||_, cond}
-use mathlib.Core.List.{List, [], _∷_}
+use mathlib.Core.List.{List, [], _∷_, map}
 use Prim.Native.Nat.{ℕ, suc, _+_, _*_, _/_, _^_}
 use native.Mathlib.Nat.{mul-pos, add-comm}
 use native.Mathlib.Omega.{arith}
@@ -14,7 +14,7 @@ use Rattle.totals_spec.specs.Basics.{Signed, difference, any, keep}
 use Rattle.totals_spec.specs.Format.{Format, validFormat, room, depth, lift, origin, fall}
 use Rattle.totals_spec.specs.Settings.{noSettings, value}
 use Rattle.totals_spec.specs.Decode.{Unpacked, zeroOf, finite, infinity, nan, decode, isNumber, operand}
-use Rattle.totals_spec.specs.Terms.{single, item, itemOf, termOf, plusSum, minusSum, exactSum}
+use Rattle.totals_spec.specs.Terms.{Item, Term, single, item, itemOf, isNanItem, isInfinite, termOf, plusSum, minusSum, exactSum}
 use Rattle.totals_spec.specs.Totals.{stray, limit, firstIndex, sumTerms}
 use Rattle.totals_spec.specs.Pence.{Pence, refusedPence, penceOf, inRange, figureOf, penceAnswer, notNumber, sumFigure, sumPence}
 use Rattle.totals_spec.specs.Places.{StrayAt}
@@ -142,3 +142,39 @@ unfolding sumPence penceAnswer item operand
 one-pence f b =
     alone (not (validFormat f)) (stray f b) (notNumber f b) (sumFigure f (sumOf f (b ∷ [])))
     ∙ ap (λ (x : Pence). cond (not (validFormat f)) (refusedPence 3) (cond (stray f b) (refusedPence 7) x)) (figure-alone f (decode f b) (decoded f b))
+
+-- ---- what a scan of the list tells
+
+-- a sum of no term is 0 pence
+pub none-figure : (f : Format) (ts : List Term) → ts ≡ [] → sumFigure f (exactSum ts) ≡ record { figure = pos 0; refusal = 0; place = 0 }
+unfolding sumFigure plusSum minusSum difference
+none-figure f ts e = rw e (ap (inRange false) (no-pence (origin f false) (fall f false)))
+
+-- a NaN or an infinity of either sign, among the items
+abbrev pub oddItems : List Item → Bool
+oddItems is = any isNanItem is || (any (isInfinite false) is || any (isInfinite true) is)
+
+pub odd-items : (f : Format) (l : List ℕ) → any (notNumber f) l ≡ oddItems (map (item f noSettings value) l)
+unfolding item operand
+odd-items f [] = refl
+odd-items f (b ∷ l) =
+    let is = map (item f noSettings value) l in
+    let i = itemOf value (decode f b) in
+    ap₂ _||_ (each (decode f b)) (odd-items f l)
+    ∙ joined (isNanItem i) (isInfinite false i) (isInfinite true i) (any isNanItem is) (any (isInfinite false) is) (any (isInfinite true) is)
+  where
+    each : (x : Unpacked) → let i = itemOf value x in not (isNumber x) ≡ (isNanItem i || (isInfinite false i || isInfinite true i))
+    each (zeroOf s) = refl
+    each (finite s k m) = refl
+    each (infinity true) = refl
+    each (infinity false) = refl
+    each (nan s g m) = refl
+
+    joined : (a b c x y z : Bool) → ((a || (b || c)) || (x || (y || z))) ≡ ((a || x) || ((b || y) || (c || z)))
+    joined true b c x y z = refl
+    joined false true c true y z = refl
+    joined false true c false y z = refl
+    joined false false true true y z = refl
+    joined false false true false true z = refl
+    joined false false true false false z = refl
+    joined false false false x y z = refl
