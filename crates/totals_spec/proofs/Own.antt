@@ -8,10 +8,10 @@ use native.Mathlib.Omega.{arith}
 use lib.Dec.{T, leb, leb→le}
 use lib.Pow.{pow-mono}
 use borrow.Author.Tests.{le-leb}
-use Rattle.totals_spec.specs.Basics.{Signed}
+use Rattle.totals_spec.specs.Basics.{Signed, any}
 use Rattle.totals_spec.specs.Format.{Format, Kind, ieee, noInf, fnuz, finiteOnly, kindOf, offered, validFormat, biasOf, bias, lift, exponentRange}
 use Rattle.totals_spec.specs.Format.{depth, origin, fall, grid, rise}
-use Rattle.totals_spec.specs.Settings.{Settings, validSettings, precisionOf, Summand, summandOf}
+use Rattle.totals_spec.specs.Settings.{Settings, noSettings, validSettings, precisionOf, Summand, value, summandOf}
 use Rattle.totals_spec.specs.Decode.{Unpacked, zeroOf, finite, infinity, nan, decodeFields, decode, isSubnormal, operand}
 use Rattle.totals_spec.specs.Terms.{Item, item, pairItem}
 use Rattle.totals_spec.specs.Chain.{Run}
@@ -20,7 +20,7 @@ use Rattle.totals_spec.specs.Encode.{zeroBits, nanBits, encode}
 use Rattle.totals_spec.specs.Totals.{special, reported, sumRounded, finiteTotal, withoutNan, accepted, sumRefusal, sumAccepted, sumAnswer}
 use Rattle.totals_spec.specs.Totals.{pairs, operands, dotRefusal, dotPlace, dotAccepted, dotAnswer}
 use Rattle.totals_spec.specs.Bytes.{valuesIn, sumEntry, dotEntry}
-use Rattle.totals_spec.specs.Pence.{penceAnswer}
+use Rattle.totals_spec.specs.Pence.{penceAnswer, notNumber, sumFigure, sumPence}
 use Rattle.totals_spec.specs.Promises.{namingOwn, namingNone, Named-own}
 
 -- ---- the definitions that read the name: the kind's own bias may be named, and is the bias
@@ -159,6 +159,14 @@ module _ (f : Format) where
   unfolding penceAnswer depth
   pence-own b = cc (valid-own, bias-own, lift-own, decode-own b)
 
+  numbers-own : (l : List ℕ) → any (notNumber (namingOwn f)) l ≡ any (notNumber (namingNone f)) l
+  numbers-own [] = refl
+  numbers-own (b ∷ l) = cc (decode-own b, numbers-own l)
+
+  sum-pence-own : (l : List ℕ) → sumPence (namingOwn f) l ≡ sumPence (namingNone f) l
+  unfolding sumPence sumFigure origin fall depth
+  sum-pence-own l = cc (valid-own, bias-own, lift-own, numbers-own l, fun-ext (item-own noSettings value))
+
 pub named-own : Named-own
 named-own f = record {
   sum = sum-own f;
@@ -166,4 +174,5 @@ named-own f = record {
   sum-entry = sum-entry-own f;
   dot-entry = dot-entry-own f;
   pence = pence-own f;
+  sum-pence = sum-pence-own f;
 }

@@ -332,6 +332,7 @@ pub record AnswerAlike (f g : Format) : Type 0 where
   pub sum-entry : (c : Settings) (u : ℕ) (bytes old : List ℕ) → sumEntry f c u bytes old ≡ sumEntry g c u bytes old
   pub dot-entry : (c : Settings) (left right old : List ℕ) → dotEntry f c left right old ≡ dotEntry g c left right old
   pub pence : (b : ℕ) → penceAnswer f b ≡ penceAnswer g b
+  pub sum-pence : (l : List ℕ) → sumPence f l ≡ sumPence g l
 
 -- naming the kind's own bias is the same as naming none
 abbrev pub Named-own : Type 0
