@@ -29,6 +29,8 @@ use Rattle.totals_spec.specs.Side.{leansOf, sideOf}
 use Rattle.totals_spec.specs.Totals.{Answer, special, sumRounded, reported, finiteTotal, withoutNan, accepted, sumRefusal, sumAccepted, sumAnswer, dotRefusal, dotPlace, dotAccepted, dotAnswer}
 use Rattle.totals_spec.specs.Bytes.{Entry, valuesIn, written, entered, sumEntry}
 use Rattle.totals_spec.specs.Pence.{Pence, penceOf, penceAnswer, sumFigure, sumPence}
+use Rattle.totals_spec.specs.Settled.{settled}
+use Rattle.totals_spec.specs.Hundredfold.{hundredItem, nearestWhole, wholeFigure, chainPence}
 use Rattle.totals_spec.specs.Program.{readFrom, hexText, decimalFrom, answerText, programText}
 
 unfoldable pub binary64 : Format
@@ -258,44 +260,52 @@ biases =
     && refusedAs 3 0 (dotAnswer (half16 (negsuc 268435456)) (rounded 0) [] [])
     && penceIs (pos 0) 3 (penceAnswer (half16 (pos 268435457)) 0)
 
--- ---- the pence of a list (document 02, A.2), from its exact sum
+-- ---- the pence of a list (document 02, A.2)
+
+-- by the exact sum, and by the chain
+abbrev pub bothAre : ℤ → ℕ → Format → List ℕ → Bool
+bothAre x n f l = penceIs x n (sumPence f l) && penceIs x n (chainPence f l)
 
 unfoldable pub sumPenceExamples : Bool
 sumPenceExamples =
-    -- 0.125 and −2^−60, which the sum rounded to binary64 would not show; 0.125 alone, which is a tie; both negated
-    penceIs (pos 12) 0 (sumPence binary64 (0x3fc0000000000000 ∷ 0xbc30000000000000 ∷ []))
-    && penceIs (pos 13) 0 (sumPence binary64 (0x3fc0000000000000 ∷ []))
-    && penceIs (negsuc 11) 0 (sumPence binary64 (0xbfc0000000000000 ∷ 0x3c30000000000000 ∷ []))
-    && penceIs (negsuc 12) 0 (sumPence binary64 (0xbfc0000000000000 ∷ []))
+    -- 0.125 and −2^−60, which the sum rounded to binary64 does not show; 0.125 alone, which is a tie; both negated
+    bothAre (pos 12) 0 binary64 (0x3fc0000000000000 ∷ 0xbc30000000000000 ∷ [])
+    && bothAre (pos 13) 0 binary64 (0x3fc0000000000000 ∷ [])
+    && bothAre (negsuc 11) 0 binary64 (0xbfc0000000000000 ∷ 0x3c30000000000000 ∷ [])
+    && bothAre (negsuc 12) 0 binary64 (0xbfc0000000000000 ∷ [])
+    -- beside a boundary of the chain: 0.125 and 2^−1000 less or more; 2^55 and 2^−1000 more, which a chain at 53 digits would know to 512 pence only
+    && bothAre (pos 12) 0 binary64 (0x3fc0000000000000 ∷ 0x8170000000000000 ∷ [])
+    && bothAre (pos 13) 0 binary64 (0x3fc0000000000000 ∷ 0x0170000000000000 ∷ [])
+    && bothAre (pos 3602879701896396800) 0 binary64 (0x4360000000000000 ∷ 0x0170000000000000 ∷ [])
     -- nothing; −2^−1074; 2^1000, 0.125, −2^1000
-    && penceIs (pos 0) 0 (sumPence binary64 [])
-    && penceIs (pos 0) 0 (sumPence binary64 (0x8000000000000001 ∷ []))
-    && penceIs (pos 13) 0 (sumPence binary64 (0x7e70000000000000 ∷ 0x3fc0000000000000 ∷ 0xfe70000000000000 ∷ []))
+    && bothAre (pos 0) 0 binary64 []
+    && bothAre (pos 0) 0 binary64 (0x8000000000000001 ∷ [])
+    && bothAre (pos 13) 0 binary64 (0x7e70000000000000 ∷ 0x3fc0000000000000 ∷ 0xfe70000000000000 ∷ [])
     -- sums beyond binary16: 57344 twice, and its largest number, 65504, twice
-    && penceIs (pos 11468800) 0 (sumPence binary16 (0x7b00 ∷ 0x7b00 ∷ []))
-    && penceIs (pos 13100800) 0 (sumPence binary16 (0x7bff ∷ 0x7bff ∷ []))
+    && bothAre (pos 11468800) 0 binary16 (0x7b00 ∷ 0x7b00 ∷ [])
+    && bothAre (pos 13100800) 0 binary16 (0x7bff ∷ 0x7bff ∷ [])
     -- 92233720368547744, 14 and 9/128 are 2^63 − 0.96875 pence, of either sign; with 77/1024 they are 2^63 − 0.48046875, which is 2^63
-    && penceIs (pos 9223372036854775807) 0 (sumPence binary64 (0x43747ae147ae147a ∷ 0x402c000000000000 ∷ 0x3fb2000000000000 ∷ []))
-    && penceIs (negsuc 9223372036854775806) 0 (sumPence binary64 (0xc3747ae147ae147a ∷ 0xc02c000000000000 ∷ 0xbfb2000000000000 ∷ []))
-    && penceIs (pos 0) 8 (sumPence binary64 (0x43747ae147ae147a ∷ 0x402c000000000000 ∷ 0x3fb3400000000000 ∷ []))
-    && penceIs (pos 0) 8 (sumPence binary64 (0xc3747ae147ae147a ∷ 0xc02c000000000000 ∷ 0xbfb3400000000000 ∷ []))
+    && bothAre (pos 9223372036854775807) 0 binary64 (0x43747ae147ae147a ∷ 0x402c000000000000 ∷ 0x3fb2000000000000 ∷ [])
+    && bothAre (negsuc 9223372036854775806) 0 binary64 (0xc3747ae147ae147a ∷ 0xc02c000000000000 ∷ 0xbfb2000000000000 ∷ [])
+    && bothAre (pos 0) 8 binary64 (0x43747ae147ae147a ∷ 0x402c000000000000 ∷ 0x3fb3400000000000 ∷ [])
+    && bothAre (pos 0) 8 binary64 (0xc3747ae147ae147a ∷ 0xc02c000000000000 ∷ 0xbfb3400000000000 ∷ [])
+    -- a bias of −3 and the kind's own: 8 and 24, 1/2 and 3/2
+    && bothAre (pos 3200) 0 (record { kind = 3; E = 2; W = 4; named = some (negsuc 2) }) (1 ∷ 3 ∷ [])
+    && bothAre (pos 200) 0 (record { kind = 3; E = 2; W = 4; named = none }) (1 ∷ 3 ∷ [])
+    -- a bias of −5: the least number, which is subnormal, is 1/16; once and twice
+    && bothAre (pos 6) 0 (half16 (negsuc 4)) (1 ∷ [])
+    && bothAre (pos 13) 0 (half16 (negsuc 4)) (1 ∷ 1 ∷ [])
+    -- a bias of −2000, where a penny lies below the unit: the least number, and with its negative
+    && bothAre (pos 0) 8 (half16 (negsuc 1999)) (1 ∷ [])
+    && bothAre (pos 0) 0 (half16 (negsuc 1999)) (1 ∷ 0x8001 ∷ [])
     -- a list with an infinity, with infinities of both signs, with a quiet and with a signaling NaN
     && penceIs (pos 0) 8 (sumPence binary64 (0x3fc0000000000000 ∷ 0x7ff0000000000000 ∷ []))
     && penceIs (pos 0) 8 (sumPence binary64 (0x7ff0000000000000 ∷ 0xfff0000000000000 ∷ []))
     && penceIs (pos 0) 8 (sumPence binary64 (0x3fc0000000000000 ∷ 0x7ff8000000000000 ∷ []))
     && penceIs (pos 0) 8 (sumPence binary64 (0x7ff0000000000001 ∷ 0x3fc0000000000000 ∷ []))
-    -- a stray bit behind a NaN; a format that is none, and a stray bit
+    -- a stray bit behind a NaN; a format that is none, and a stray bit; a bias that may not be named
     && penceAt (pos 0) 7 1 (sumPence binary16 (0x7e00 ∷ 0x10000 ∷ []))
     && penceIs (pos 0) 3 (sumPence (record { kind = 4; E = 5; W = 16; named = none }) (0x10000 ∷ []))
-    -- a bias of −3 and the kind's own: 8 and 24, 1/2 and 3/2
-    && penceIs (pos 3200) 0 (sumPence (record { kind = 3; E = 2; W = 4; named = some (negsuc 2) }) (1 ∷ 3 ∷ []))
-    && penceIs (pos 200) 0 (sumPence (record { kind = 3; E = 2; W = 4; named = none }) (1 ∷ 3 ∷ []))
-    -- a bias of −5: the least number, which is subnormal, is 1/16; once and twice
-    && penceIs (pos 6) 0 (sumPence (half16 (negsuc 4)) (1 ∷ []))
-    && penceIs (pos 13) 0 (sumPence (half16 (negsuc 4)) (1 ∷ 1 ∷ []))
-    -- a bias of −2000, where a penny lies below the unit: the least number, and with its negative
-    && penceIs (pos 0) 8 (sumPence (half16 (negsuc 1999)) (1 ∷ []))
-    && penceIs (pos 0) 0 (sumPence (half16 (negsuc 1999)) (1 ∷ 0x8001 ∷ []))
     && penceIs (pos 0) 3 (sumPence (half16 (pos 268435457)) [])
 
 -- ---- the program: what it reads and what it prints, as bytes. A hex digit d is the byte 48 + d, or 87 + d from a on; 10 ends a line
@@ -394,8 +404,12 @@ pence-agree = tt
 
 pub sum-pence-agree : T sumPenceExamples
 unfolding
-    sumPenceExamples half16 binary64 binary16 sumPence sumFigure penceOf
-    difference validFormat bias lift depth origin fall decode isSubnormal operand single item plusSum minusSum
+    sumPenceExamples half16 binary64 binary16 sumPence sumFigure penceAnswer penceOf hundredItem nearestWhole wholeFigure settled
+    difference raised validFormat bias lift exponentRange depth origin fall grid rise validSettings precisionOf
+    decode isSubnormal operand single product item pairItem plusSum minusSum topOf
+    lostEnd lookAt half wrapped decide sumOf pass run chain size span climb
+    dropped roundedAt overflows largest overflow numberOf finished tinySum roundTo round encode leansOf sideOf defaultNanOf selectAll
+    special sumRounded reported finiteTotal withoutNan accepted sumRefusal sumAccepted sumAnswer
 sum-pence-agree = tt
 
 pub biases-agree : T biases

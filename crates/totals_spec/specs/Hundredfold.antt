@@ -8,6 +8,8 @@ use Rattle.totals_spec.specs.Basics.{Signed}
 use Rattle.totals_spec.specs.Format.{Format, origin, fall}
 use Rattle.totals_spec.specs.Decode.{Unpacked, zeroOf, finite, infinity, nan, decode}
 use Rattle.totals_spec.specs.Terms.{Term, product, Item, nanItem, infinite, zeroItem, term, terms}
+use Rattle.totals_spec.specs.Chain.{chain}
+use Rattle.totals_spec.specs.Settled.{settled}
 use Rattle.totals_spec.specs.Pence.{Pence, inRange}
 
 -- a number m × 2^k is taken as its product with 100 × 2^0
@@ -30,3 +32,6 @@ nearestWhole d k x = (2 * (x * 2 ^ k) + 2 ^ d) / 2 ^ suc d
 -- the record of a sum of such terms, which is in pence already
 unfoldable pub wholeFigure : Format → Signed → Pence
 wholeFigure f x = inRange (x .neg) (nearestWhole (origin f false) (fall f false) (x .mag))
+
+abbrev pub chainPence : Format → List ℕ → Pence
+chainPence f l = wholeFigure f (settled (chain 64 (hundredTerms f l) .outcome))

@@ -24,11 +24,11 @@ use Rattle.totals_spec.specs.Bytes.{fromBytes, valuesIn, uneven, sumEntr
 use Rattle.totals_spec.specs.Rearranged.{AsOften, samePair, holdsNan}
 use Rattle.totals_spec.specs.Limit.{lowBit, mostPasses}
 use Rattle.totals_spec.specs.Side.{sideOf}
-use Rattle.totals_spec.specs.Settled.{settled, chainTotal}
+use Rattle.totals_spec.specs.Settled.{chainTotal}
 use Rattle.totals_spec.specs.Conditions.{Uneven, First, sumConditions, dotConditions, entryConditions, penceConditions, sumPenceConditions}
 use Rattle.totals_spec.specs.Places.{StrayAt, DotStrayAt}
 use Rattle.totals_spec.specs.Pence.{penceAnswer, sumFigure, sumPence}
-use Rattle.totals_spec.specs.Hundredfold.{hundredTerms, wholeFigure}
+use Rattle.totals_spec.specs.Hundredfold.{chainPence}
 use Rattle.totals_spec.specs.Careers.{binary64, rounded, careers, margins, allAgree, sideExamples, refusals, entryExample}
 use Rattle.totals_spec.specs.Careers.{penceExamples, biases, sumPenceExamples, programRuns, programAgrees}
 
@@ -50,7 +50,7 @@ Sides-agree = T sideExamples
 abbrev pub Biases-agree : Type 0
 Biases-agree = T biases
 
--- the pence of lists: beside a tie, beyond the format, at 2^63, with and without a named bias, and each refusal but 6
+-- the pence of lists: at a tie and beside one, beyond the format, at 2^63, with and without a named bias, and each refusal but 6
 abbrev pub Sum-pence-agree : Type 0
 Sum-pence-agree = T sumPenceExamples
 
@@ -265,8 +265,7 @@ One-pence = (f : Format) (b : ℕ) → sumPence f (b ∷ []) ≡ penceAnswer f b
 
 -- what a chain at 64 digits over the terms, a hundred times each, ends with has the figure of the exact sum
 abbrev pub Pence-by-chain : Type 0
-Pence-by-chain = (f : Format) (l : List ℕ) → length l ≤ limit
-    → wholeFigure f (settled (chain 64 (hundredTerms f l) .outcome)) ≡ sumFigure f (exactSum (sumTerms f noSettings value l))
+Pence-by-chain = (f : Format) (l : List ℕ) → length l ≤ limit → chainPence f l ≡ sumFigure f (exactSum (sumTerms f noSettings value l))
 
 -- ==== PROMISE 3: the order
 
