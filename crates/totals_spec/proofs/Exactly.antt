@@ -9,7 +9,7 @@ use native.Mathlib.Nat.{not-suc-le-zero, le-of-suc-le-suc}
 use native.Mathlib.Omega.{arith}
 use lib.Dec.{T, T-not, not-T, leb, ltb, eqb, leb→le, le→leb, ltb→lt, lt→ltb, nleb→lt, nltb→le, eqb→eq}
 use lib.ListN.{length, getD}
-use lib.IntN.{ℤ, natAbs}
+use lib.IntN.{ℤ, pos, negℤ, natAbs}
 use borrow.Author.Tests.{eq-eqb}
 use Rattle.totals_spec.specs.Basics.{any}
 use Rattle.totals_spec.specs.Bounds.{Offered, FormatBounds, SettingsBounds}
@@ -17,7 +17,7 @@ use Rattle.totals_spec.specs.Format.{Format, offered, validFormat, digit
 use Rattle.totals_spec.specs.Settings.{Settings, validSettings, noSettings, value}
 use Rattle.totals_spec.specs.Decode.{Unpacked, zeroOf, finite, infinity, nan, decode, isNumber}
 use Rattle.totals_spec.specs.Terms.{exactSum}
-use Rattle.totals_spec.specs.Totals.{Answer, stray, limit, refuseIf, sumTerms, sumRefusal, sumAnswer, dotRefusal, dotAnswer}
+use Rattle.totals_spec.specs.Totals.{Answer, stray, limit, refuseIf, firstIndex, sumTerms, sumRefusal, sumAnswer, dotRefusal, dotAnswer}
 use Rattle.totals_spec.specs.Bytes.{Entry, valuesIn, uneven, short, entered, written, sumEntry, dotEntry}
 use Rattle.totals_spec.specs.Pence.{Pence, refusedPence, penceOf, figureOf, penceAnswer, notNumber, sumFigure, sumPence}
 use Rattle.totals_spec.specs.Conditions.{Uneven, Short, FarBias, BadFormat, BadSettings, BadSummand, Unequal, TooMany, StrayBit, Stray, NoPence, NoNumber}
@@ -279,13 +279,17 @@ entry-refused-exactly = (
 
 -- ---- pence
 
-pence-number : (a : Bool) (x r : Pence) → (cond a x r) .refusal ≡ refuseIf a (x .refusal) (r .refusal)
-pence-number true x r = refl
-pence-number false x r = refl
+-- a test that refuses with the record x, and one that a figure z is in range
+refuses : {P : Type 0} {l : List Condition} (b : Bool) (x r : Pence) → T b ↔ P → Tests l (r .refusal) → Tests ((x .refusal, P) ∷ l) ((cond b x r) .refusal)
+refuses true x r t h = test true t h
+refuses false x r t h = test false t h
 
-range-number : (a : Bool) (n : ℕ) (r : Pence) → (cond a r (refusedPence n)) .refusal ≡ refuseIf (not a) n (r .refusal)
-range-number true n r = refl
-range-number false n r = refl
+abbrev ranged : Bool → ℤ → Pence
+ranged b z = cond b (record { figure = z; refusal = 0; place = 0 }) (refusedPence 8)
+
+range-tests : {P : Type 0} (b : Bool) (z : ℤ) → T (not b) ↔ P → Tests ((8, P) ∷ []) ((ranged b z) .refusal)
+range-tests true z t = test false t last
+range-tests false z t = test true t last
 
 -- a figure is refused where it reaches 2^63
 large-found : (n : ℕ) → T (not (ltb n (2 ^ 63))) ↔ 2 ^ 63 ≤ n
@@ -293,19 +297,16 @@ large-found n = ((λ t. omega (arith, nltb→le n (2 ^ 63) t)), λ h. not-T (ltb
 
 figure-tests : (d n : ℕ) (v : Unpacked) → Tests ((8, NoPence d n v) ∷ []) ((figureOf d n v) .refusal)
 figure-tests d n (zeroOf s) = test false ((λ t. t), λ t. t) last
-figure-tests d n (finite s k m) =
-    let x = penceOf d (k + n) m in
-    rw (range-number (ltb x (2 ^ 63)) 8 _) (test (not (ltb x (2 ^ 63))) (large-found x) last)
+figure-tests d n (finite s k m) = range-tests (ltb (penceOf d (k + n) m) (2 ^ 63)) _ (large-found (penceOf d (k + n) m))
 figure-tests d n (infinity s) = test true ((λ t. t), λ t. t) last
 figure-tests d n (nan s g m) = test true ((λ t. t), λ t. t) last
 
 pub pence-refused-exactly : Pence-refused-exactly
 unfolding penceAnswer
 pence-refused-exactly f b n =
-    rw (pence-number (not (validFormat f)) _ _, pence-number (stray f b) _ _)
-    (exactly (test (not (validFormat f)) (format-fails f)
-    (test (stray f b) (stray-bit f b)
-    (figure-tests (depth f) (lift f) (decode f b)))) n)
+    exactly (refuses (not (validFormat f)) (refusedPence 3) _ (format-fails f)
+    (refuses (stray f b) (refusedPence 7) _ (stray-bit f b)
+    (figure-tests (depth f) (lift f) (decode f b)))) n
 
 -- ---- the pence of a list
 
@@ -315,27 +316,19 @@ no-number-found (finite s k m) = ((λ t. t), λ t. t)
 no-number-found (infinity s) = ((λ t. t), λ t. t)
 no-number-found (nan s g m) = ((λ t. t), λ t. t)
 
--- two tests for one number
-same-number : (a b : Bool) (n rest : ℕ) → refuseIf a n (refuseIf b n rest) ≡ refuseIf (a || b) n rest
-same-number true b n rest = refl
-same-number false b n rest = refl
+-- two tests of number 8
+either-tests : {P Q : Type 0} (a b : Bool) (z : ℤ) → T a ↔ P → T (not b) ↔ Q → Tests ((8, P ⊎ Q) ∷ []) ((cond a (refusedPence 8) (ranged b z)) .refusal)
+either-tests true b z t u = test true (either true (not b) t u) last
+either-tests false true z t u = test false (either false false t u) last
+either-tests false false z t u = test true (either false true t u) last
 
 pub sum-pence-refused-exactly : Sum-pence-refused-exactly
 unfolding sumPence sumFigure
 sum-pence-refused-exactly f l n =
-    let x = penceOf (origin f false) (fall f false) (exactSum (sumTerms f noSettings value l) .mag) in
-    let odd = any (notNumber f) l in
-    let large = not (ltb x (2 ^ 63)) in
-    rw (
-      pence-number (not (validFormat f)) _ _,
-      pence-number (ltb limit (length l)) _ _,
-      pence-number (any (stray f) l) _ _,
-      pence-number odd _ _,
-      range-number (ltb x (2 ^ 63)) 8 _,
-      same-number odd large 8 0,
-    )
-    (exactly (test (not (validFormat f)) (format-fails f)
-    (test (ltb limit (length l)) (many-found l)
-    (test (any (stray f) l) (stray-found f l)
-    (test (odd || large) (either odd large (some-found (notNumber f) (λ b. NoNumber (decode f b)) (λ b. no-number-found (decode f b)) l) (large-found x))
-    last)))) n)
+    let sum = exactSum (sumTerms f noSettings value l) in
+    let x = penceOf (origin f false) (fall f false) (sum .mag) in
+    exactly (refuses (not (validFormat f)) (refusedPence 3) _ (format-fails f)
+    (refuses (ltb limit (length l)) (refusedPence 6) _ (many-found l)
+    (refuses (any (stray f) l) (record { figure = pos 0; refusal = 7; place = firstIndex (stray f) l }) _ (stray-found f l)
+    (either-tests (any (notNumber f) l) (ltb x (2 ^ 63)) (cond (sum .neg) (negℤ (pos x)) (pos x))
+    (some-found (notNumber f) (λ b. NoNumber (decode f b)) (λ b. no-number-found (decode f b)) l) (large-found x))))) n
