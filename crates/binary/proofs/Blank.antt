@@ -10,7 +10,7 @@ use Rattle.totals_spec.specs.Settings as env
 use Rattle.totals_spec.specs.Decode.{zeroOf, infinity, nan, number, topField, ones, decodeFields, decode, operand}
 use Rattle.totals_spec.specs.Decode.{isFinite, isSubnormal, signBit, fieldOf, fractionOf}
 use Rattle.totals_spec.proofs.Valid.{and-left, and-right}
-use Rattle.binary.specs.Joined.{topOf, isBlank}
+use Rattle.binary.specs.Joined.{topFieldOf, isBlank}
 use Rattle.binary.proofs.Cases.{number-zero}
 
 module _ (f : spec.Format) (b : ℕ) where
@@ -32,7 +32,7 @@ fields-blank spec.ieee f s x m e = either (topField f x)
     other true = refl
     other false = refl
 
-    either : (b : Bool) → isFinite (cond b (topOf (spec.fractionBits f) s m) (number (spec.fractionBits f) s x m)) ≡ false
+    either : (b : Bool) → isFinite (cond b (topFieldOf (spec.fractionBits f) s m) (number (spec.fractionBits f) s x m)) ≡ false
     either true = other (eqb m 0)
     either false = number-blank _ s x m e
 fields-blank spec.noInf f s x m e = nan-or (topField f x && ones f m)

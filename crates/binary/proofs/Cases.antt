@@ -16,7 +16,7 @@ use Rattle.totals_spec.specs.Decode.{Unpacked, zeroOf, finite, nan, number, dec
 use Rattle.totals_spec.specs.Bounds.{FormatBounds}
 use Rattle.totals_spec.specs.Encode.{zeroBits, nanBits, assembled}
 use Rattle.totals_spec.specs.Nan.{staysNan, quiet, defaultNanOf}
-use Rattle.binary.specs.Joined.{nanPattern, topOf, isPlain, selectedBy}
+use Rattle.binary.specs.Joined.{nanPattern, topFieldOf, isPlain, selectedBy}
 
 -- ---- numbers: t fraction bits, the sign s, the exponent field x, the fraction m
 
@@ -73,7 +73,7 @@ module _ (k : ℕ) (f : spec.Format) (s : Bool) (x m : ℕ) where
   pub fnuz-last : k ≡ 2 → s ≡ true → x ≡ 0 → eqb m 0 ≡ nanPattern (spec.kindOf k) f s x m
   fnuz-last h n e = rw (h, n, eq-eqb x 0 e)
 
-  pub decode-at-top : k ≡ 0 → x ≡ 2 ^ (f .E) - 1 → topOf (spec.fractionBits f) s m ≡ decodeFields (spec.kindOf k) f s x m
+  pub decode-at-top : k ≡ 0 → x ≡ 2 ^ (f .E) - 1 → topFieldOf (spec.fractionBits f) s m ≡ decodeFields (spec.kindOf k) f s x m
   decode-at-top h n = rw (h, eq-eqb x (2 ^ (f .E) - 1) n)
 
   pub decode-below-top : k ≡ 0 → (x ≡ 2 ^ (f .E) - 1 → ⊥) → number (spec.fractionBits f) s x m ≡ decodeFields (spec.kindOf k) f s x m

@@ -9,8 +9,8 @@ use Rattle.totals_spec.specs.Nan as nans
 use Rattle.binary.specs.declared.nan.Nan.{Nan}
 
 -- an exponent field of all ones, in Ieee: t fraction bits
-abbrev pub topOf : ℕ → Bool → ℕ → Unpacked
-topOf t s m = cond (eqb m 0) (infinity s) (nan s (ltb m (2 ^ (t - 1))) (m % 2 ^ (t - 1)))
+abbrev pub topFieldOf : ℕ → Bool → ℕ → Unpacked
+topFieldOf t s m = cond (eqb m 0) (infinity s) (nan s (ltb m (2 ^ (t - 1))) (m % 2 ^ (t - 1)))
 
 -- the NaN pattern of a kind other than Ieee
 abbrev pub nanPattern : spec.Kind → spec.Format → Bool → ℕ → ℕ → Bool

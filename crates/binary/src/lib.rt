@@ -20,7 +20,7 @@ ghost use Rattle.totals_spec.specs.Decode as dec;
 ghost use Rattle.totals_spec.specs.Encode as enc;
 ghost use Rattle.format.specs.Joined.{formatOf, settingsOf, unpackedOf};
 ghost use Rattle.format.specs.Fits.{Encodes};
-ghost use Rattle.binary.specs.Joined.{topOf, nanPattern, isBlank, isPlain};
+ghost use Rattle.binary.specs.Joined.{topFieldOf, nanPattern, isBlank, isPlain};
 
 // The sign bit.
 pub fn sign_of(f: Format, b: u64) -> bool
@@ -71,7 +71,7 @@ fn decode_finite(t: u64, negative: bool, field: u64, fraction: u64) -> Unpacked
 // An exponent field of all ones, in Ieee: an infinity, or a NaN whose first fraction bit says that it is quiet.
 fn decode_top(t: u64, negative: bool, fraction: u64) -> Unpacked
     requires { ⌜ (0 < t) × (t < 64) ⌝ }
-    ensures { λ r. ⌜ unpackedOf r ≡ topOf t negative fraction ⌝ }
+    ensures { λ r. ⌜ unpackedOf r ≡ topFieldOf t negative fraction ⌝ }
 {
     if fraction == 0 {
         return Unpacked::Infinity(negative);

@@ -81,17 +81,14 @@ module _ (f : Format) (q g k l : ℕ) (q0 : 1 ≤ q) (p0 : 1 ≤ digits f) (sz :
 
 -- ---- the largest number
 
-range-is : (p r : ℕ) → 0 + (p - 1) + r - (p - 1) ≡ r
-range-is p r = omega arith
-
 pub largest-plain : (f : Format) (q : ℕ) (s : Bool) → (isNoInf (kindOf (f .kind)) && eqb q (digits f)) ≡ false
     → largest f q s ≡ finite s (exponentRange f) ((2 ^ q - 1) * 2 ^ (digits f - q))
 unfolding largest
-largest-plain f q s h = rw (range-is (digits f) (exponentRange f), h)
+largest-plain f q s h = rw h
 
 pub largest-noinf : (f : Format) (q : ℕ) (s : Bool) → f .kind ≡ 1 → q ≡ digits f → largest f q s ≡ finite s (exponentRange f) (2 ^ digits f - 2)
 unfolding largest
-largest-noinf f q s k h = rw (range-is (digits f) (exponentRange f), k, eq-eqb q (digits f) h)
+largest-noinf f q s k h = rw (k, eq-eqb q (digits f) h)
 
 -- q ones at the top of p digits
 module _ (q p : ℕ) (q0 : 1 ≤ q) (qp : q ≤ p) where

@@ -22,7 +22,7 @@ use Rattle.arithmetic.specs.Joined.{itemOf, plainField, plainFields, fieldTop, 
 use Rattle.arithmetic.proofs.Elements.{field-none, field-max, fields-max, plain-field}
 use Rattle.arithmetic.proofs.Pairs.{pairs-at, plain-fields}
 use Rattle.scan.specs.declared.Scan.{Scan}
-use Rattle.scan.specs.Joined.{topOfItem, taken, seen, ifNan, Reads, Takes, TakesPair}
+use Rattle.scan.specs.Joined.{topOfItem, withItem, seen, ifNan, Reads, Takes, TakesPair}
 use Rattle.scan.proofs.Choice.{if-left, if-right, if-signaling, none-signaling, decoded-encodes, operand-held}
 use Rattle.scan.proofs.Step.{Reading, Plainly, over-taken}
 
@@ -91,10 +91,10 @@ module _ (f : spec.Format) (c : env.Settings) (u : env.Summand) where
 
   -- what `take` gives
   pub list-taken : (b : ℕ) (s t r : Scan) → Reads (c .nanPropagation) (dec.isSubnormal f b) (dec.operand f c b) s t
-      → r ≡ taken (itemOf (terms.item f c u b)) t → Takes f c u b s r
+      → r ≡ withItem (itemOf (terms.item f c u b)) t → Takes f c u b s r
   list-taken b s t r h e l apart =
       let k = reads-as (c .nanPropagation) (dec.isSubnormal f b) (dec.operand f c b) (dec.decode f b) s t (operand-held f c b) h in
-      over-taken f c list l b s r (t .nan) (e ∙ ap (taken (itemOf (terms.item f c u b))) (k .rest)) (k .nan) apart
+      over-taken f c list l b s r (t .nan) (e ∙ ap (withItem (itemOf (terms.item f c u b))) (k .rest)) (k .nan) apart
 
   -- what `plain_field` says
   pub list-plainly : (b n : ℕ) → FormatBounds f → n ≡ plainField f b → 0 < n → Plainly f c list b n
@@ -130,12 +130,12 @@ module _ (f : spec.Format) (c : env.Settings) where
 
   -- what `take_pair` gives
   pub pair-taken : (x y : ℕ) (s t q r : Scan) → Reads (c .nanPropagation) (dec.isSubnormal f x) (dec.operand f c x) s t
-      → Reads (c .nanPropagation) (dec.isSubnormal f y) (dec.operand f c y) t q → r ≡ taken (itemOf (terms.pairItem f c (x, y))) q → TakesPair f c (x, y) s r
+      → Reads (c .nanPropagation) (dec.isSubnormal f y) (dec.operand f c y) t q → r ≡ withItem (itemOf (terms.pairItem f c (x, y))) q → TakesPair f c (x, y) s r
   pair-taken x y s t q r h k e l apart =
       let a = reads-as (c .nanPropagation) (dec.isSubnormal f x) (dec.operand f c x) (dec.decode f x) s t (operand-held f c x) h in
       let b = reads-as (c .nanPropagation) (dec.isSubnormal f y) (dec.operand f c y) (dec.decode f y) t q (operand-held f c y) k in
       over-taken f c dot l (x, y) s r (q .nan)
-      (e ∙ ap (taken (itemOf (terms.pairItem f c (x, y)))) (twice-rest _ _ _ _ _ s t q a b)) (twice-nan _ _ _ _ _ s t q a b) apart
+      (e ∙ ap (withItem (itemOf (terms.pairItem f c (x, y)))) (twice-rest _ _ _ _ _ s t q a b)) (twice-nan _ _ _ _ _ s t q a b) apart
 
   -- what `plain_fields` says
   pub pair-plainly : (x y n : ℕ) → FormatBounds f → n ≡ plainFields f x y → 0 < n → Plainly f c dot (x, y) n

@@ -39,7 +39,7 @@ use Rattle.binary.proofs.nan.Nan as B
 use Rattle.binary.proofs.nan.Nan.Laws as B′
 use Rattle.scan.specs.declared.Scan.{Scan}
 use Rattle.scan.specs.declared.OfferedNan.{OfferedNan}
-use Rattle.scan.specs.Joined.{taken, raised, Offered}
+use Rattle.scan.specs.Joined.{withItem, withTop, Offered}
 use Rattle.scan.proofs.Scan as T
 use Rattle.scan.proofs.Scan.Laws as T′
 use Rattle.scan.proofs.OfferedNan as N
@@ -106,13 +106,13 @@ abbrev pub nan : Change
 nan = record { datum = nan-datum; laws = nan-laws; Made = λ s n r. Offered n s r }
 
 abbrev pub infinity : Change
-infinity = record { datum = bool-datum; laws = bool-laws; Made = λ s negative r. r ≡ taken (Infinite negative) s }
+infinity = record { datum = bool-datum; laws = bool-laws; Made = λ s negative r. r ≡ withItem (Infinite negative) s }
 
 abbrev pub zero : Change
-zero = record { datum = bool-datum; laws = bool-laws; Made = λ s negative r. r ≡ taken (Zero negative) s }
+zero = record { datum = bool-datum; laws = bool-laws; Made = λ s negative r. r ≡ withItem (Zero negative) s }
 
 abbrev pub top : Change
-top = record { datum = u64-datum; laws = u64-laws; Made = λ s position r. r ≡ raised position s }
+top = record { datum = u64-datum; laws = u64-laws; Made = λ s position r. r ≡ withTop position s }
 
 -- ---- the record: its machine value, and what whoever holds one knows
 

@@ -25,7 +25,7 @@ use types.Part.{whole, sub, store-in}
 use denote.Laws.{Is}
 use Rattle.arithmetic.specs.declared.Item.{Item}
 use Rattle.scan.specs.declared.Scan.{Scan}
-use Rattle.scan.specs.Joined.{taken, topOfItem}
+use Rattle.scan.specs.Joined.{withItem, topOfItem}
 use Rattle.scan.proofs.Scan.Laws as T′
 use Rattle.scan.proofs.Updates.{noting, taken-is}
 use Rattle.scan.proofs.Record.{Change, bool-datum, bool-laws, R, mach, parts, top-fits, nan-is, is-scan}
@@ -59,7 +59,7 @@ fails false t = refl
 
 module _ (item : Bool → Item) (i j : ℕ) (f : Flag (item true) i) (g : Flag (item false) j) where
   abbrev pub signed : Change
-  signed = record { datum = bool-datum; laws = bool-laws; Made = λ s negative r. r ≡ taken (item negative) s }
+  signed = record { datum = bool-datum; laws = bool-laws; Made = λ s negative r. r ≡ withItem (item negative) s }
 
   pub notes : {M : Type 1} (𝓤 : URA M) (H : Heap 𝓤) (A : Atoms 𝓤) (W : Given 𝓤 H A) (C : Calls 𝓤 H) (Λ : Loops 𝓤 H)
       → Stores signed temporaries 𝓤 H A W C Λ (body i j)
@@ -71,12 +71,12 @@ module _ (item : Bool → Item) (i j : ℕ) (f : Flag (item true) i) (g : Flag (
       assigns-last ! (of-opd ! (true-lit !)) (from ! (hop ! (look ! 3 refl) (fld ! (f .lies) (stop !)))) (store-in ! 2 (sub ! i (f .lies) (whole !)) (tt, tt)) $
       rewrite ! 2 (λ (v : Val). ‵ (fat fullShare T′.mir b o v)) (f .stored h) refl $
       exec ! C Λ (Locals signed temporaries 𝓤 H l₀ l₁ l₂ ls) last q $ forget ! 0 refl $
-      k (noted (item true)) (is (item true)) (subst (λ s. noted (item true) ≡ taken (item s) h) (holds x yes) (made (item true) (f .no-term))))
+      k (noted (item true)) (is (item true)) (subst (λ s. noted (item true) ≡ withItem (item s) h) (holds x yes) (made (item true) (f .no-term))))
       (λ no.
       assigns-last ! (of-opd ! (true-lit !)) (from ! (hop ! (look ! 3 refl) (fld ! (g .lies) (stop !)))) (store-in ! 2 (sub ! j (g .lies) (whole !)) (tt, tt)) $
       rewrite ! 2 (λ (v : Val). ‵ (fat fullShare T′.mir b o v)) (g .stored h) refl $
       exec ! C Λ (Locals signed temporaries 𝓤 H l₀ l₁ l₂ ls) last q $ forget ! 0 refl $
-      k (noted (item false)) (is (item false)) (subst (λ s. noted (item false) ≡ taken (item s) h) (fails x no) (made (item false) (g .no-term))))
+      k (noted (item false)) (is (item false)) (subst (λ s. noted (item false) ≡ withItem (item s) h) (fails x no) (made (item false) (g .no-term))))
     where
       noted : Item → Scan
       noted m = noting m (h .top) h
@@ -84,5 +84,5 @@ module _ (item : Bool → Item) (i j : ℕ) (f : Flag (item true) i) (g : Flag (
       is : (m : Item) → Is R (noted m) (mach (noted m) ∷ [])
       is m = is-scan (noted m) (top-fits h hs) (nan-is h hs)
 
-      made : (m : Item) → topOfItem m ≡ 0 → noted m ≡ taken m h
+      made : (m : Item) → topOfItem m ≡ 0 → noted m ≡ withItem m h
       made m e = taken-is h m (h .top) (rw e (sym (max-zero (h .top))))

@@ -22,7 +22,7 @@ use Rattle.binary.specs.declared.nan.Nan.{Nan}
 use Rattle.arithmetic.specs.declared.Item.{Item}
 use Rattle.scan.specs.declared.Scan.{Scan}
 use Rattle.scan.specs.declared.OfferedNan.{OfferedNan}
-use Rattle.scan.specs.Joined.{topOfItem, invalidOf, infiniteOf, zeroOf, taken, ifNan, Reads, Offered, Gathered, nanDecides}
+use Rattle.scan.specs.Joined.{topOfItem, isInvalidItem, isInfiniteOf, isZeroOf, withItem, ifNan, Reads, Offered, Gathered, nanDecides}
 use Rattle.scan.proofs.Choice.{held-if, choose-none, none-signaling}
 
 -- ---- the scan of nothing
@@ -67,24 +67,24 @@ abbrev pub noting : Item → ℕ → Scan → Scan
 noting i t s = record {
   subnormal = s .subnormal;
   signaling = s .signaling;
-  invalid = cond (invalidOf i) true (s .invalid);
-  «positive_infinity» = cond (infiniteOf false i) true (s .«positive_infinity»);
-  «negative_infinity» = cond (infiniteOf true i) true (s .«negative_infinity»);
-  «positive_zero» = cond (zeroOf false i) true (s .«positive_zero»);
-  «negative_zero» = cond (zeroOf true i) true (s .«negative_zero»);
+  invalid = cond (isInvalidItem i) true (s .invalid);
+  «positive_infinity» = cond (isInfiniteOf false i) true (s .«positive_infinity»);
+  «negative_infinity» = cond (isInfiniteOf true i) true (s .«negative_infinity»);
+  «positive_zero» = cond (isZeroOf false i) true (s .«positive_zero»);
+  «negative_zero» = cond (isZeroOf true i) true (s .«negative_zero»);
   top = t;
   nan = s .nan;
 }
 
-pub taken-is : (s : Scan) (i : Item) (t : ℕ) → t ≡ max (s .top) (topOfItem i) → noting i t s ≡ taken i s
+pub taken-is : (s : Scan) (i : Item) (t : ℕ) → t ≡ max (s .top) (topOfItem i) → noting i t s ≡ withItem i s
 taken-is s i t e = λ j. record {
   subnormal = s .subnormal;
   signaling = s .signaling;
-  invalid = set-or (invalidOf i) (s .invalid) j;
-  «positive_infinity» = set-or (infiniteOf false i) (s .«positive_infinity») j;
-  «negative_infinity» = set-or (infiniteOf true i) (s .«negative_infinity») j;
-  «positive_zero» = set-or (zeroOf false i) (s .«positive_zero») j;
-  «negative_zero» = set-or (zeroOf true i) (s .«negative_zero») j;
+  invalid = set-or (isInvalidItem i) (s .invalid) j;
+  «positive_infinity» = set-or (isInfiniteOf false i) (s .«positive_infinity») j;
+  «negative_infinity» = set-or (isInfiniteOf true i) (s .«negative_infinity») j;
+  «positive_zero» = set-or (isZeroOf false i) (s .«positive_zero») j;
+  «negative_zero» = set-or (isZeroOf true i) (s .«negative_zero») j;
   top = e j;
   nan = s .nan;
 }

@@ -31,46 +31,46 @@ topOfItem (item.Infinite s) = 0
 topOfItem (item.Zero s) = 0
 topOfItem (item.Top n) = n
 
-abbrev pub invalidOf : Item → Bool
-invalidOf item.Nan = false
-invalidOf item.Invalid = true
-invalidOf (item.Infinite s) = false
-invalidOf (item.Zero s) = false
-invalidOf (item.Top n) = false
+abbrev pub isInvalidItem : Item → Bool
+isInvalidItem item.Nan = false
+isInvalidItem item.Invalid = true
+isInvalidItem (item.Infinite s) = false
+isInvalidItem (item.Zero s) = false
+isInvalidItem (item.Top n) = false
 
-abbrev pub infiniteOf : Bool → Item → Bool
-infiniteOf b item.Nan = false
-infiniteOf b item.Invalid = false
-infiniteOf b (item.Infinite s) = Bool·beq b s
-infiniteOf b (item.Zero s) = false
-infiniteOf b (item.Top n) = false
+abbrev pub isInfiniteOf : Bool → Item → Bool
+isInfiniteOf b item.Nan = false
+isInfiniteOf b item.Invalid = false
+isInfiniteOf b (item.Infinite s) = Bool·beq b s
+isInfiniteOf b (item.Zero s) = false
+isInfiniteOf b (item.Top n) = false
 
-abbrev pub zeroOf : Bool → Item → Bool
-zeroOf b item.Nan = false
-zeroOf b item.Invalid = false
-zeroOf b (item.Infinite s) = false
-zeroOf b (item.Zero s) = Bool·beq b s
-zeroOf b (item.Top n) = false
+abbrev pub isZeroOf : Bool → Item → Bool
+isZeroOf b item.Nan = false
+isZeroOf b item.Invalid = false
+isZeroOf b (item.Infinite s) = false
+isZeroOf b (item.Zero s) = Bool·beq b s
+isZeroOf b (item.Top n) = false
 
 -- ---- a scan with more
 
 -- one item
-abbrev pub taken : Item → Scan → Scan
-taken i s = record {
+abbrev pub withItem : Item → Scan → Scan
+withItem i s = record {
   subnormal = s .subnormal;
   signaling = s .signaling;
-  invalid = s .invalid || invalidOf i;
-  «positive_infinity» = s .«positive_infinity» || infiniteOf false i;
-  «negative_infinity» = s .«negative_infinity» || infiniteOf true i;
-  «positive_zero» = s .«positive_zero» || zeroOf false i;
-  «negative_zero» = s .«negative_zero» || zeroOf true i;
+  invalid = s .invalid || isInvalidItem i;
+  «positive_infinity» = s .«positive_infinity» || isInfiniteOf false i;
+  «negative_infinity» = s .«negative_infinity» || isInfiniteOf true i;
+  «positive_zero» = s .«positive_zero» || isZeroOf false i;
+  «negative_zero» = s .«negative_zero» || isZeroOf true i;
   top = max (s .top) (topOfItem i);
   nan = s .nan;
 }
 
 -- a position that counts for T
-abbrev pub raised : ℕ → Scan → Scan
-raised t s = record {
+abbrev pub withTop : ℕ → Scan → Scan
+withTop t s = record {
   subnormal = s .subnormal;
   signaling = s .signaling;
   invalid = s .invalid;
@@ -144,10 +144,10 @@ Fresh s = ((f : spec.Format) (c : env.Settings) (u : env.Summand) → Scanned f 
 
 -- r is s with one element more, whatever s is the scan of, and whatever position is kept apart from it
 abbrev pub Takes : spec.Format → env.Settings → env.Summand → ℕ → Scan → Scan → Type 0
-Takes f c u b s r = (l : List ℕ) (apart : ℕ) → Scanned f c u l (raised apart s) → Scanned f c u (l ++ (b ∷ [])) (raised apart r)
+Takes f c u b s r = (l : List ℕ) (apart : ℕ) → Scanned f c u l (withTop apart s) → Scanned f c u (l ++ (b ∷ [])) (withTop apart r)
 
 abbrev pub TakesPair : spec.Format → env.Settings → ℕ × ℕ → Scan → Scan → Type 0
-TakesPair f c x s r = (l : List (ℕ × ℕ)) (apart : ℕ) → ScannedPairs f c l (raised apart s) → ScannedPairs f c (l ++ (x ∷ [])) (raised apart r)
+TakesPair f c x s r = (l : List (ℕ × ℕ)) (apart : ℕ) → ScannedPairs f c l (withTop apart s) → ScannedPairs f c (l ++ (x ∷ [])) (withTop apart r)
 
 -- ---- what a scan decides, whatever it is the scan of
 

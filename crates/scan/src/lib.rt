@@ -19,7 +19,7 @@ ghost use mathlib.Core.Bool.{true, false, _||_};
 ghost use Rattle.totals_spec.specs.Settings as env;
 ghost use Rattle.totals_spec.specs.Bounds.{FormatBounds};
 ghost use Rattle.format.specs.Joined.{formatOf, settingsOf, unpackedOf};
-ghost use Rattle.scan.specs.Joined.{raised, taken, Offered, Reads, Fresh, Takes, TakesPair, nanDecides, Decides};
+ghost use Rattle.scan.specs.Joined.{withTop, withItem, Offered, Reads, Fresh, Takes, TakesPair, nanDecides, Decides};
 
 pub struct Scan {
     pub subnormal: bool,
@@ -91,7 +91,7 @@ impl Scan {
 
     // An infinity.
     fn infinity(&mut self, negative: bool)
-        ensures { λ _. ⌜ now (self .exit) ≡ taken (Item.Infinite negative) (now (self .entry)) ⌝ }
+        ensures { λ _. ⌜ now (self .exit) ≡ withItem (Item.Infinite negative) (now (self .entry)) ⌝ }
     {
         if negative {
             self.negative_infinity = true;
@@ -102,7 +102,7 @@ impl Scan {
 
     // A zero.
     fn zero(&mut self, negative: bool)
-        ensures { λ _. ⌜ now (self .exit) ≡ taken (Item.Zero negative) (now (self .entry)) ⌝ }
+        ensures { λ _. ⌜ now (self .exit) ≡ withItem (Item.Zero negative) (now (self .entry)) ⌝ }
     {
         if negative {
             self.negative_zero = true;
@@ -113,7 +113,7 @@ impl Scan {
 
     // A term whose highest bit lies at a position.
     fn top(&mut self, position: u64)
-        ensures { λ _. ⌜ now (self .exit) ≡ raised position (now (self .entry)) ⌝ }
+        ensures { λ _. ⌜ now (self .exit) ≡ withTop position (now (self .entry)) ⌝ }
     {
         if self.top < position {
             self.top = position;
@@ -131,21 +131,21 @@ impl Scan {
     }
 
     fn noted_infinity(mut self, negative: bool) -> Scan
-        ensures { λ r. ⌜ r ≡ taken (Item.Infinite negative) self ⌝ }
+        ensures { λ r. ⌜ r ≡ withItem (Item.Infinite negative) self ⌝ }
     {
         self.infinity(negative);
         self
     }
 
     fn noted_zero(mut self, negative: bool) -> Scan
-        ensures { λ r. ⌜ r ≡ taken (Item.Zero negative) self ⌝ }
+        ensures { λ r. ⌜ r ≡ withItem (Item.Zero negative) self ⌝ }
     {
         self.zero(negative);
         self
     }
 
     fn noted_top(mut self, position: u64) -> Scan
-        ensures { λ r. ⌜ r ≡ raised position self ⌝ }
+        ensures { λ r. ⌜ r ≡ withTop position self ⌝ }
     {
         self.top(position);
         self
@@ -178,7 +178,7 @@ impl Scan {
 
     // What an element or a pair is.
     fn item(mut self, i: Item) -> Scan
-        ensures { λ r. ⌜ r ≡ taken i self ⌝ }
+        ensures { λ r. ⌜ r ≡ withItem i self ⌝ }
     {
         match i {
             Item::Nan => self,

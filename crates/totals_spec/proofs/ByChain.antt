@@ -51,7 +51,8 @@ finite-by-chain f c sub products minus ts b k g len =
     let y = exactly f products ts in
     cc (rounds, same-side f c (grid f products) (towardsNegative c) x y b (precision-least f c b) (precision-most f c k) rounds)
   where
-    rounds : sumRounded f c (grid f products) (towardsNegative c) (ended f products ts) ≡ sumRounded f c (grid f products) (towardsNegative c) (exactly f products ts)
+    rounds : sumRounded f c (grid f products) (towardsNegative c) (ended f products ts)
+        ≡ sumRounded f c (grid f products) (towardsNegative c) (exactly f products ts)
     rounds = chain-rounds (digits f) ts (omega (arith, b .p-le)) g len f c (grid f products) (rise f products) (towardsNegative c) (precision-most f c k)
 
 -- ---- what an accepted call has shown

@@ -100,7 +100,8 @@ module _ (f : Format) (c : Settings) (b : FormatBounds f) (q : SettingsBounds f 
       by-passes : encode f (r .value) < 2 ^ (f .W)
       by-passes =
           encode-fits f (b .range) (r .value)
-          (held-encodes f (b .range) (r .value) (sum-held f (b .range) c least most (grid f products) (towardsNegative c) (onGrid f products (exactSum (terms l)))))
+          (held-encodes f (b .range) (r .value)
+          (sum-held f (b .range) c least most (grid f products) (towardsNegative c) (onGrid f products (exactSum (terms l)))))
 
   accepted-fit : (sub products first signaling : Bool) (v : Unpacked) (l : List Item) → Encodes f v → AllGood (terms l) → topOf (terms l) ≤ topProduct f
       → FieldsFit f (accepted f c sub products first signaling v l)

@@ -14,7 +14,7 @@ use lib.Ieee.Digits.{size-lt, size-reaches, size-le}
 use Rattle.totals_spec.specs.Basics.{Signed}
 use Rattle.totals_spec.specs.Format.{room}
 use Rattle.totals_spec.specs.Terms.{Term, topOf}
-use Rattle.totals_spec.specs.Chain.{Look, lookAt, half, residue, signedOf, wrapped, Boundary, noBoundary, boundary, Outcome, zeroSum, exactly, nearly}
+use Rattle.totals_spec.specs.Chain.{Look, lookAt, half, residue, signedFrom, wrapped, Boundary, noBoundary, boundary, Outcome, zeroSum, exactly, nearly}
 use Rattle.totals_spec.specs.Chain.{beside, unfinished, sideOf, Step, done, next, nextEdge, finalOrBoundary, decide, sumOf, pass}
 use Rattle.totals_spec.proofs.Good.{AllGood}
 use Rattle.totals_spec.proofs.Limit.{fair-look, lost-deep}
@@ -45,8 +45,8 @@ KeptStep p top (next b v) = Kept p top b v
 
 -- ---- S has at most 768 bits
 
-signed-le : (x : ℕ) → x < half + half → (signedOf half x) .mag ≤ half
-unfolding signedOf
+signed-le : (x : ℕ) → x < half + half → (signedFrom half x) .mag ≤ half
+unfolding signedFrom
 signed-le x h = go (ltb x half) (ltb→lt x half) (nltb→le x half)
   where
     back : half ≤ x → half + half - x ≤ half

@@ -30,10 +30,7 @@ module _ (f : Format) (b : RangeBounds f) (q : ℕ) (q0 : 1 ≤ q) (qp : q ≤ d
 
   pub largest-is : (s : Bool) → largest f q s ≡ finite s (exponentRange f) (greatest-of is-nan)
   unfolding largest
-  largest-is s = ap (λ (k : ℕ). finite s k (greatest-of is-nan)) shift
-    where
-      shift : 0 + (digits f - 1) + exponentRange f - (digits f - 1) ≡ exponentRange f
-      shift = omega arith
+  largest-is s = refl
 
   two : 2 ≤ digits f
   two = omega (arith, b .w-ge)

@@ -37,7 +37,8 @@ finite-side f c sub products minus (t ∷ ts) b = refl
 
 pub sum-side : Sum-side
 sum-side f c u l r h =
-    subst (SideAt f (grid f (isSquare (summandOf u))) (onGrid f (isSquare (summandOf u)) (exactSum (sumTerms f c (summandOf u) l)))) (sym (sum-finite f c u l r h))
+    let products = isSquare (summandOf u) in
+    subst (SideAt f (grid f products) (onGrid f products (exactSum (sumTerms f c (summandOf u) l)))) (sym (sum-finite f c u l r h))
     (finite-side f c _ _ _ (sumTerms f c (summandOf u) l) (sum-accepts f c u l r .format .range))
 
 pub dot-side : Dot-side

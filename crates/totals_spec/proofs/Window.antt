@@ -1,5 +1,5 @@
 -- A window as a pass fills it: the residue of the parts so far by 2h, one part at a time, in any order. What a program holds in its twelve words
--- is `residue half plus minus`; `signedOf half` of it is S.
+-- is `residue half plus minus`; `signedFrom half` of it is S.
 use mathlib.Core.Path.{_≡_, sym, ap, _∙_}
 use Prim.Native.Nat.{ℕ, _+_, _-_, _*_, _/_, _%_, _<_}
 use native.Mathlib.Nat.{add-mul, one-mul, mod-add-mod, mod-lt, mod-self, zero-mod, add-right-comm, div-add-mod', add-mul-mod-self-right, mod-mod}

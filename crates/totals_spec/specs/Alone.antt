@@ -1,7 +1,7 @@
 -- What a kind of format has beside numbers. Contracts of the code cite it: a value that comes from a list is one that the list's format has.
 use mathlib.Core.Bool.{Bool, true, false}
 use mathlib.Core.List.{List, [], _∷_}
-use lib.Dec.{T}
+use lib.Dec.{T as Holds}
 use Rattle.totals_spec.specs.Format.{Kind, ieee, noInf, fnuz, finiteOnly}
 use Rattle.totals_spec.specs.Decode.{Unpacked, zeroOf, finite, infinity, nan}
 use Rattle.totals_spec.specs.Terms.{Item, nanItem, invalidItem, infinite, zeroItem, term}
@@ -20,9 +20,9 @@ hasNan finiteOnly = false
 
 -- an element or a pair is i
 abbrev pub Gives : Kind → Item → Type 0
-Gives k nanItem = T (hasNan k)
-Gives k invalidItem = T (hasInfinity k)
-Gives k (infinite s) = T (hasInfinity k)
+Gives k nanItem = Holds (hasNan k)
+Gives k invalidItem = Holds (hasInfinity k)
+Gives k (infinite s) = Holds (hasInfinity k)
 Gives k (zeroItem s) = Unit {0}
 Gives k (term t) = Unit {0}
 
@@ -34,5 +34,5 @@ AllGive k (i ∷ l) = Gives k i × AllGive k l
 abbrev pub Alone : Kind → Unpacked → Type 0
 Alone k (zeroOf s) = Unit {0}
 Alone k (finite s e m) = ⊥
-Alone k (infinity s) = T (hasInfinity k)
-Alone k (nan s g m) = T (hasNan k)
+Alone k (infinity s) = Holds (hasInfinity k)
+Alone k (nan s g m) = Holds (hasNan k)

@@ -12,7 +12,7 @@ use Prim.Native.Nat.{ℕ, _+_}
 use mathlib.Core.Bool.{Bool, true, false, _&&_}
 use mathlib.Core.List.{List, [], _∷_, _++_}
 use mathlib.Core.Option.{none, some}
-use lib.Dec.{T, eqb}
+use lib.Dec.{T as Holds, eqb}
 use lib.ListN.{replicate}
 use lib.IntN.{ℤ, pos, negsuc}
 use lib.Ieee.{size, span, climb}
@@ -26,7 +26,8 @@ use Rattle.totals_spec.specs.Round.{dropped, roundedAt, overflows, large
 use Rattle.totals_spec.specs.Encode.{encode}
 use Rattle.totals_spec.specs.Nan.{defaultNanOf, selectAll}
 use Rattle.totals_spec.specs.Side.{leansOf, sideOf}
-use Rattle.totals_spec.specs.Totals.{Answer, special, sumRounded, reported, finiteTotal, withoutNan, accepted, sumRefusal, sumAccepted, sumAnswer, dotRefusal, dotPlace, dotAccepted, dotAnswer}
+use Rattle.totals_spec.specs.Totals.{Answer, special, sumRounded, reported, finiteTotal, withoutNan, accepted, sumRefusal, sumAccepted}
+use Rattle.totals_spec.specs.Totals.{sumAnswer, dotRefusal, dotPlace, dotAccepted, dotAnswer}
 use Rattle.totals_spec.specs.Bytes.{Entry, valuesIn, written, entered, sumEntry}
 use Rattle.totals_spec.specs.Pence.{Pence, penceOf, penceAnswer, sumFigure, sumPence}
 use Rattle.totals_spec.specs.Settled.{settled}
@@ -40,8 +41,8 @@ unfoldable pub binary16 : Format
 binary16 = record { kind = 0; E = 5; W = 16; named = none }
 
 -- every setting 0 but the rounding
-unfoldable pub rounded : ℕ → Settings
-rounded m =
+unfoldable pub withRounding : ℕ → Settings
+withRounding m =
     record { rounding = m; tininess = 0; nanPropagation = 0; defaultNanSign = 0; flushToZero = 0; denormalsAreZero = 0; saturate = 0; precision = 0 }
 
 -- ---- C1 to C12. Modes: 0 ties to even, 4 toward negative, 5 toward zero. Summands: 0 value, 1 magnitude, 2 square
@@ -56,32 +57,36 @@ pub record Row : Type 0 where
   pub lastEdge : ℤ
   pub side : ℕ
 
+-- a row of a table, its columns in the order of the fields
+abbrev pub row : (mode summand : ℕ) (list : List ℕ) (result flags passes : ℕ) (lastEdge : ℤ) (side : ℕ) → Row
+row m u l r f n e s = record { mode = m; summand = u; list = l; result = r; flags = f; passes = n; lastEdge = e; side = s }
+
 unfoldable pub careers : List Row
 careers =
     -- C1: empty, toward negative
-    record { mode = 4; summand = 0; list = []; result = 0; flags = 0x00; passes = 0; lastEdge = pos 0; side = 0 }
+    row 4 0 [] 0 0x00 0 (pos 0) 0
     -- C2: −0
-    ∷ record { mode = 0; summand = 0; list = 0x8000000000000000 ∷ []; result = 0x8000000000000000; flags = 0x00; passes = 0; lastEdge = pos 0; side = 0 }
+    ∷ row 0 0 (0x8000000000000000 ∷ []) 0x8000000000000000 0x00 0 (pos 0) 0
     -- C3: +0, −0, toward negative
-    ∷ record { mode = 4; summand = 0; list = 0 ∷ 0x8000000000000000 ∷ []; result = 0x8000000000000000; flags = 0x00; passes = 0; lastEdge = pos 0; side = 0 }
+    ∷ row 4 0 (0 ∷ 0x8000000000000000 ∷ []) 0x8000000000000000 0x00 0 (pos 0) 0
     -- C4: 1, −1
-    ∷ record { mode = 0; summand = 0; list = 0x3ff0000000000000 ∷ 0xbff0000000000000 ∷ []; result = 0; flags = 0x00; passes = 1; lastEdge = negsuc 701; side = 0 }
+    ∷ row 0 0 (0x3ff0000000000000 ∷ 0xbff0000000000000 ∷ []) 0 0x00 1 (negsuc 701) 0
     -- C5: 2^1000, 1, −2^1000
-    ∷ record { mode = 0; summand = 0; list = 0x7e70000000000000 ∷ 0x3ff0000000000000 ∷ 0xfe70000000000000 ∷ []; result = 0x3ff0000000000000; flags = 0x00; passes = 2; lastEdge = negsuc 467; side = 0 }
+    ∷ row 0 0 (0x7e70000000000000 ∷ 0x3ff0000000000000 ∷ 0xfe70000000000000 ∷ []) 0x3ff0000000000000 0x00 2 (negsuc 467) 0
     -- C6: 1, 2^−53
-    ∷ record { mode = 0; summand = 0; list = 0x3ff0000000000000 ∷ 0x3ca0000000000000 ∷ []; result = 0x3ff0000000000000; flags = 0x10; passes = 1; lastEdge = negsuc 701; side = 1 }
+    ∷ row 0 0 (0x3ff0000000000000 ∷ 0x3ca0000000000000 ∷ []) 0x3ff0000000000000 0x10 1 (negsuc 701) 1
     -- C7: 1, 2^−53, 2^−1000
-    ∷ record { mode = 0; summand = 0; list = 0x3ff0000000000000 ∷ 0x3ca0000000000000 ∷ 0x0170000000000000 ∷ []; result = 0x3ff0000000000001; flags = 0x50; passes = 2; lastEdge = negsuc 1402; side = 2 }
+    ∷ row 0 0 (0x3ff0000000000000 ∷ 0x3ca0000000000000 ∷ 0x0170000000000000 ∷ []) 0x3ff0000000000001 0x50 2 (negsuc 1402) 2
     -- C8: 7fefffffffffffff twice
-    ∷ record { mode = 0; summand = 0; list = 0x7fefffffffffffff ∷ 0x7fefffffffffffff ∷ []; result = 0x7ff0000000000000; flags = 0x54; passes = 1; lastEdge = pos 321; side = 3 }
+    ∷ row 0 0 (0x7fefffffffffffff ∷ 0x7fefffffffffffff ∷ []) 0x7ff0000000000000 0x54 1 (pos 321) 3
     -- C9: C8 toward zero
-    ∷ record { mode = 5; summand = 0; list = 0x7fefffffffffffff ∷ 0x7fefffffffffffff ∷ []; result = 0x7fefffffffffffff; flags = 0x14; passes = 1; lastEdge = pos 321; side = 1 }
+    ∷ row 5 0 (0x7fefffffffffffff ∷ 0x7fefffffffffffff ∷ []) 0x7fefffffffffffff 0x14 1 (pos 321) 1
     -- C10: 0000000000000001
-    ∷ record { mode = 0; summand = 0; list = 1 ∷ []; result = 1; flags = 0xa0; passes = 1; lastEdge = negsuc 1775; side = 0 }
+    ∷ row 0 0 (1 ∷ []) 1 0xa0 1 (negsuc 1775) 0
     -- C11: square of 2^−600
-    ∷ record { mode = 0; summand = 2; list = 0x1a70000000000000 ∷ []; result = 0; flags = 0x38; passes = 1; lastEdge = negsuc 1900; side = 1 }
+    ∷ row 0 2 (0x1a70000000000000 ∷ []) 0 0x38 1 (negsuc 1900) 1
     -- C12: magnitude of −∞, quiet NaN
-    ∷ record { mode = 0; summand = 1; list = 0xfff0000000000000 ∷ 0x7ff8000000000000 ∷ []; result = 0x7ff0000000000000; flags = 0x00; passes = 0; lastEdge = pos 0; side = 3 }
+    ∷ row 0 1 (0xfff0000000000000 ∷ 0x7ff8000000000000 ∷ []) 0x7ff0000000000000 0x00 0 (pos 0) 3
     ∷ []
 
 -- ---- rows at the margins of the passes' rules, worked out from document 01's text; binary64 has p = 53
@@ -89,30 +94,30 @@ careers =
 unfoldable pub margins : List Row
 margins =
     -- 1, 2^−638, 2^−1000: at −702 n = 703, r = 649 and d = 2^64, under the margin of 2^65: a boundary, and the next pass at −1403 is exact
-    record { mode = 0; summand = 0; list = 0x3ff0000000000000 ∷ 0x1810000000000000 ∷ 0x0170000000000000 ∷ []; result = 0x3ff0000000000000; flags = 0x10; passes = 2; lastEdge = negsuc 1402; side = 1 }
+    row 0 0 (0x3ff0000000000000 ∷ 0x1810000000000000 ∷ 0x0170000000000000 ∷ []) 0x3ff0000000000000 0x10 2 (negsuc 1402) 1
     -- 1, 2^−637, 2^−1000: d = 2^65, so the first pass is final
-    ∷ record { mode = 0; summand = 0; list = 0x3ff0000000000000 ∷ 0x1820000000000000 ∷ 0x0170000000000000 ∷ []; result = 0x3ff0000000000000; flags = 0x10; passes = 1; lastEdge = negsuc 701; side = 1 }
+    ∷ row 0 0 (0x3ff0000000000000 ∷ 0x1820000000000000 ∷ 0x0170000000000000 ∷ []) 0x3ff0000000000000 0x10 1 (negsuc 701) 1
     -- 1, 2^−53, −2^−702, −2^−1000: d = 2^649 − 1, near the multiple above, which is a tie; the sum lies below it
-    ∷ record { mode = 0; summand = 0; list = 0x3ff0000000000000 ∷ 0x3ca0000000000000 ∷ 0x9410000000000000 ∷ 0x8170000000000000 ∷ []; result = 0x3ff0000000000000; flags = 0x10; passes = 2; lastEdge = negsuc 1402; side = 1 }
+    ∷ row 0 0 (0x3ff0000000000000 ∷ 0x3ca0000000000000 ∷ 0x9410000000000000 ∷ 0x8170000000000000 ∷ []) 0x3ff0000000000000 0x10 2 (negsuc 1402) 1
     -- 1, −1, 2^−580, 2^−1000: n = 123 = p + 70, d = 0: a boundary
-    ∷ record { mode = 0; summand = 0; list = 0x3ff0000000000000 ∷ 0xbff0000000000000 ∷ 0x1bb0000000000000 ∷ 0x0170000000000000 ∷ []; result = 0x1bb0000000000000; flags = 0x10; passes = 2; lastEdge = negsuc 1402; side = 1 }
+    ∷ row 0 0 (0x3ff0000000000000 ∷ 0xbff0000000000000 ∷ 0x1bb0000000000000 ∷ 0x0170000000000000 ∷ []) 0x1bb0000000000000 0x10 2 (negsuc 1402) 1
     -- 1, −1, 2^−581, 2^−1000: n = 122, so it goes on at −702 + 122 − 766
-    ∷ record { mode = 0; summand = 0; list = 0x3ff0000000000000 ∷ 0xbff0000000000000 ∷ 0x1ba0000000000000 ∷ 0x0170000000000000 ∷ []; result = 0x1ba0000000000000; flags = 0x10; passes = 2; lastEdge = negsuc 1345; side = 1 }
+    ∷ row 0 0 (0x3ff0000000000000 ∷ 0xbff0000000000000 ∷ 0x1ba0000000000000 ∷ 0x0170000000000000 ∷ []) 0x1ba0000000000000 0x10 2 (negsuc 1345) 1
     -- 2^1000, 2^−338, 2^−1074: a boundary at 298, and at −403 S = 2^65, n = 66: the side is known
-    ∷ record { mode = 0; summand = 0; list = 0x7e70000000000000 ∷ 0x2ad0000000000000 ∷ 1 ∷ []; result = 0x7e70000000000000; flags = 0x90; passes = 2; lastEdge = negsuc 402; side = 1 }
+    ∷ row 0 0 (0x7e70000000000000 ∷ 0x2ad0000000000000 ∷ 1 ∷ []) 0x7e70000000000000 0x90 2 (negsuc 402) 1
     -- 2^1000, 2^−339, 2^−1074: n = 65, so it goes on at −403 + 65 − 766, and that pass is exact
-    ∷ record { mode = 0; summand = 0; list = 0x7e70000000000000 ∷ 0x2ac0000000000000 ∷ 1 ∷ []; result = 0x7e70000000000000; flags = 0x90; passes = 3; lastEdge = negsuc 1103; side = 1 }
+    ∷ row 0 0 (0x7e70000000000000 ∷ 0x2ac0000000000000 ∷ 1 ∷ []) 0x7e70000000000000 0x90 3 (negsuc 1103) 1
     -- 2^1000, −2^−338, 2^−1074: below the boundary
-    ∷ record { mode = 0; summand = 0; list = 0x7e70000000000000 ∷ 0xaad0000000000000 ∷ 1 ∷ []; result = 0x7e70000000000000; flags = 0xd0; passes = 2; lastEdge = negsuc 402; side = 2 }
+    ∷ row 0 0 (0x7e70000000000000 ∷ 0xaad0000000000000 ∷ 1 ∷ []) 0x7e70000000000000 0xd0 2 (negsuc 402) 2
     -- C5 in another order
-    ∷ record { mode = 0; summand = 0; list = 0x3ff0000000000000 ∷ 0x7e70000000000000 ∷ 0xfe70000000000000 ∷ []; result = 0x3ff0000000000000; flags = 0x00; passes = 2; lastEdge = negsuc 467; side = 0 }
-    -- squares of 2^−538 twice and of 2^−600: 2^−1075 + 2^−1200, just above half of the least number; rounded to 53 digits first it would be a tie
-    ∷ record { mode = 0; summand = 2; list = 0x1e50000000000000 ∷ 0x1e50000000000000 ∷ 0x1a70000000000000 ∷ []; result = 1; flags = 0x78; passes = 1; lastEdge = negsuc 1776; side = 2 }
+    ∷ row 0 0 (0x3ff0000000000000 ∷ 0x7e70000000000000 ∷ 0xfe70000000000000 ∷ []) 0x3ff0000000000000 0x00 2 (negsuc 467) 0
+    -- squares of 2^−538 twice and of 2^−600: 2^−1075 + 2^−1200, just above half of the least number; withRounding to 53 digits first it would be a tie
+    ∷ row 0 2 (0x1e50000000000000 ∷ 0x1e50000000000000 ∷ 0x1a70000000000000 ∷ []) 1 0x78 1 (negsuc 1776) 2
     -- −0, 1, −1: a zero in the list has no say where terms cancel
-    ∷ record { mode = 0; summand = 0; list = 0x8000000000000000 ∷ 0x3ff0000000000000 ∷ 0xbff0000000000000 ∷ []; result = 0; flags = 0x00; passes = 1; lastEdge = negsuc 701; side = 0 }
+    ∷ row 0 0 (0x8000000000000000 ∷ 0x3ff0000000000000 ∷ 0xbff0000000000000 ∷ []) 0 0x00 1 (negsuc 701) 0
     -- C6 and C7 negated: what lay below lies above, and the other way round
-    ∷ record { mode = 0; summand = 0; list = 0xbff0000000000000 ∷ 0xbca0000000000000 ∷ []; result = 0xbff0000000000000; flags = 0x10; passes = 1; lastEdge = negsuc 701; side = 2 }
-    ∷ record { mode = 0; summand = 0; list = 0xbff0000000000000 ∷ 0xbca0000000000000 ∷ 0x8170000000000000 ∷ []; result = 0xbff0000000000001; flags = 0x50; passes = 2; lastEdge = negsuc 1402; side = 1 }
+    ∷ row 0 0 (0xbff0000000000000 ∷ 0xbca0000000000000 ∷ []) 0xbff0000000000000 0x10 1 (negsuc 701) 2
+    ∷ row 0 0 (0xbff0000000000000 ∷ 0xbca0000000000000 ∷ 0x8170000000000000 ∷ []) 0xbff0000000000001 0x50 2 (negsuc 1402) 1
     ∷ []
 
 abbrev pub sameInt : ℤ → ℤ → Bool
@@ -129,7 +134,7 @@ agrees r a =
 -- each row is what the definitions give
 unfoldable pub allAgree : List Row → Bool
 allAgree [] = true
-allAgree (r ∷ rs) = agrees r (sumAnswer binary64 (rounded (r .mode)) (r .summand) (r .list)) && allAgree rs
+allAgree (r ∷ rs) = agrees r (sumAnswer binary64 (withRounding (r .mode)) (r .summand) (r .list)) && allAgree rs
 
 -- ---- which way a result leans, in binary16, in two formats of few bits, and in binary64
 
@@ -144,20 +149,20 @@ small f d =
 unfoldable pub sideExamples : Bool
 sideExamples =
     -- 1 and 2^−11 toward positive; their negatives toward positive and toward negative
-    leansTo 0x3c01 0x50 2 (sumAnswer binary16 (rounded 3) 0 (0x3c00 ∷ 0x1000 ∷ []))
-    && leansTo 0xbc00 0x10 2 (sumAnswer binary16 (rounded 3) 0 (0xbc00 ∷ 0x9000 ∷ []))
-    && leansTo 0xbc01 0x50 1 (sumAnswer binary16 (rounded 4) 0 (0xbc00 ∷ 0x9000 ∷ []))
+    leansTo 0x3c01 0x50 2 (sumAnswer binary16 (withRounding 3) 0 (0x3c00 ∷ 0x1000 ∷ []))
+    && leansTo 0xbc00 0x10 2 (sumAnswer binary16 (withRounding 3) 0 (0xbc00 ∷ 0x9000 ∷ []))
+    && leansTo 0xbc01 0x50 1 (sumAnswer binary16 (withRounding 4) 0 (0xbc00 ∷ 0x9000 ∷ []))
     -- the largest number twice: toward zero, of either sign, and to an infinity; NoInf's NaN, and in Finite the largest number itself
-    && leansTo 0x7bff 0x14 1 (sumAnswer binary16 (rounded 5) 0 (0x7bff ∷ 0x7bff ∷ []))
-    && leansTo 0xfbff 0x14 2 (sumAnswer binary16 (rounded 5) 0 (0xfbff ∷ 0xfbff ∷ []))
-    && leansTo 0x7c00 0x54 3 (sumAnswer binary16 (rounded 0) 0 (0x7bff ∷ 0x7bff ∷ []))
-    && leansTo 0x7f 0x14 3 (sumAnswer (record { kind = 1; E = 4; W = 8; named = none }) (rounded 0) 0 (0x7e ∷ 0x7e ∷ []))
-    && leansTo 0x7 0x14 1 (sumAnswer (record { kind = 3; E = 2; W = 4; named = none }) (rounded 0) 0 (0x7 ∷ 0x7 ∷ []))
+    && leansTo 0x7bff 0x14 1 (sumAnswer binary16 (withRounding 5) 0 (0x7bff ∷ 0x7bff ∷ []))
+    && leansTo 0xfbff 0x14 2 (sumAnswer binary16 (withRounding 5) 0 (0xfbff ∷ 0xfbff ∷ []))
+    && leansTo 0x7c00 0x54 3 (sumAnswer binary16 (withRounding 0) 0 (0x7bff ∷ 0x7bff ∷ []))
+    && leansTo 0x7f 0x14 3 (sumAnswer (record { kind = 1; E = 4; W = 8; named = none }) (withRounding 0) 0 (0x7e ∷ 0x7e ∷ []))
+    && leansTo 0x7 0x14 1 (sumAnswer (record { kind = 3; E = 2; W = 4; named = none }) (withRounding 0) 0 (0x7 ∷ 0x7 ∷ []))
     -- −2^−1074 flushed to −0; 1 and 2^−1074, taken as zero
     && leansTo 0x8000000000000000 0xb8 2 (sumAnswer binary64 (small 1 0) 0 (0x8000000000000001 ∷ []))
     && leansTo 0x3ff0000000000000 0x80 0 (sumAnswer binary64 (small 0 1) 0 (0x3ff0000000000000 ∷ 1 ∷ []))
     -- 1 × 1 and 2^−1074 × −2^−1074
-    && leansTo 0x3ff0000000000000 0xd0 2 (dotAnswer binary64 (rounded 0) (0x3ff0000000000000 ∷ 1 ∷ []) (0x3ff0000000000000 ∷ 0x8000000000000001 ∷ []))
+    && leansTo 0x3ff0000000000000 0xd0 2 (dotAnswer binary64 (withRounding 0) (0x3ff0000000000000 ∷ 1 ∷ []) (0x3ff0000000000000 ∷ 0x8000000000000001 ∷ []))
 
 -- ---- the examples of the refusals 1 to 5 and 7 (6 is in `Promises.antt`)
 
@@ -178,30 +183,30 @@ enteredAs n old e = eqb (e .code) n && sameList (e .buffer) old
 unfoldable pub refusals : Bool
 refusals =
     -- 1: 7 bytes
-    enteredAs 1 (replicate 24 7) (sumEntry binary64 (rounded 0) 0 (replicate 7 0) (replicate 24 7))
+    enteredAs 1 (replicate 24 7) (sumEntry binary64 (withRounding 0) 0 (replicate 7 0) (replicate 24 7))
     -- 2: 23 bytes
-    && enteredAs 2 (replicate 23 7) (sumEntry binary64 (rounded 0) 0 [] (replicate 23 7))
+    && enteredAs 2 (replicate 23 7) (sumEntry binary64 (withRounding 0) 0 [] (replicate 23 7))
     -- 3: E 11, W 12
-    && refusedAs 3 0 (sumAnswer (record { kind = 0; E = 11; W = 12; named = none }) (rounded 0) 0 [])
+    && refusedAs 3 0 (sumAnswer (record { kind = 0; E = 11; W = 12; named = none }) (withRounding 0) 0 [])
     -- 4: rounding 8; a summand above 2
-    && refusedAs 4 0 (sumAnswer binary64 (rounded 8) 0 [])
-    && refusedAs 4 0 (sumAnswer binary64 (rounded 0) 3 [])
+    && refusedAs 4 0 (sumAnswer binary64 (withRounding 8) 0 [])
+    && refusedAs 4 0 (sumAnswer binary64 (withRounding 0) 3 [])
     -- 5: 2 and 3 values
-    && refusedAs 5 0 (dotAnswer binary64 (rounded 0) (0 ∷ 0 ∷ []) (0 ∷ 0 ∷ 0 ∷ []))
+    && refusedAs 5 0 (dotAnswer binary64 (withRounding 0) (0 ∷ 0 ∷ []) (0 ∷ 0 ∷ 0 ∷ []))
     -- 7: W 16, value 10000 hex
-    && refusedAs 7 1 (sumAnswer binary16 (rounded 0) 0 (0 ∷ 0x10000 ∷ []))
-    && refusedAs 7 0 (dotAnswer binary16 (rounded 0) (0 ∷ 0 ∷ []) (0x10000 ∷ 0 ∷ []))
+    && refusedAs 7 1 (sumAnswer binary16 (withRounding 0) 0 (0 ∷ 0x10000 ∷ []))
+    && refusedAs 7 0 (dotAnswer binary16 (withRounding 0) (0 ∷ 0 ∷ []) (0x10000 ∷ 0 ∷ []))
     -- several: the first; in a dot the first of the left list, even where the right list has one at a lower index
-    && refusedAs 7 1 (sumAnswer binary16 (rounded 0) 0 (0x3c00 ∷ 0x20000 ∷ 0x3c00 ∷ 0x10000 ∷ []))
-    && refusedAs 7 1 (dotAnswer binary16 (rounded 0) (0 ∷ 0x20000 ∷ 0x10000 ∷ []) (0x10000 ∷ 0 ∷ 0 ∷ []))
-    && refusedAs 7 1 (dotAnswer binary16 (rounded 0) (0 ∷ 0 ∷ 0 ∷ 0 ∷ []) (0 ∷ 0x10000 ∷ 0 ∷ 0x10000 ∷ []))
-    && enteredAs (7 + 256) (replicate 24 7) (sumEntry binary16 (rounded 0) 0 (replicate 10 0 ++ (1 ∷ replicate 5 0)) (replicate 24 7))
+    && refusedAs 7 1 (sumAnswer binary16 (withRounding 0) 0 (0x3c00 ∷ 0x20000 ∷ 0x3c00 ∷ 0x10000 ∷ []))
+    && refusedAs 7 1 (dotAnswer binary16 (withRounding 0) (0 ∷ 0x20000 ∷ 0x10000 ∷ []) (0x10000 ∷ 0 ∷ 0 ∷ []))
+    && refusedAs 7 1 (dotAnswer binary16 (withRounding 0) (0 ∷ 0 ∷ 0 ∷ 0 ∷ []) (0 ∷ 0x10000 ∷ 0 ∷ 0x10000 ∷ []))
+    && enteredAs (7 + 256) (replicate 24 7) (sumEntry binary16 (withRounding 0) 0 (replicate 10 0 ++ (1 ∷ replicate 5 0)) (replicate 24 7))
     -- two at once: the smaller number
-    && enteredAs 1 (replicate 23 7) (sumEntry binary64 (rounded 0) 0 (replicate 7 0) (replicate 23 7))
-    && enteredAs 2 (replicate 23 7) (sumEntry binary64 (rounded 8) 0 [] (replicate 23 7))
-    && refusedAs 3 0 (sumAnswer (record { kind = 4; E = 5; W = 16; named = none }) (rounded 8) 0 (0x10000 ∷ []))
-    && refusedAs 4 0 (dotAnswer binary16 (rounded 8) (0x10000 ∷ []) [])
-    && refusedAs 5 0 (dotAnswer binary16 (rounded 0) (0x10000 ∷ []) [])
+    && enteredAs 1 (replicate 23 7) (sumEntry binary64 (withRounding 0) 0 (replicate 7 0) (replicate 23 7))
+    && enteredAs 2 (replicate 23 7) (sumEntry binary64 (withRounding 8) 0 [] (replicate 23 7))
+    && refusedAs 3 0 (sumAnswer (record { kind = 4; E = 5; W = 16; named = none }) (withRounding 8) 0 (0x10000 ∷ []))
+    && refusedAs 4 0 (dotAnswer binary16 (withRounding 8) (0x10000 ∷ []) [])
+    && refusedAs 5 0 (dotAnswer binary16 (withRounding 0) (0x10000 ∷ []) [])
 
 -- ---- an accepted byte entry: 1 and 2^−53 (C6), and two bytes behind the 24
 
@@ -209,7 +214,7 @@ unfoldable pub entryExample : Bool
 entryExample =
     enteredAs 0
     (0 ∷ 0 ∷ 0 ∷ 0 ∷ 0 ∷ 0 ∷ 0xf0 ∷ 0x3f ∷ 0x10 ∷ 0 ∷ 1 ∷ 0 ∷ 0 ∷ 0 ∷ 0 ∷ 0 ∷ 1 ∷ 0 ∷ 0 ∷ 0 ∷ 0 ∷ 0 ∷ 0 ∷ 0 ∷ 7 ∷ 7 ∷ [])
-    (sumEntry binary64 (rounded 0) 0 (0 ∷ 0 ∷ 0 ∷ 0 ∷ 0 ∷ 0 ∷ 0xf0 ∷ 0x3f ∷ 0 ∷ 0 ∷ 0 ∷ 0 ∷ 0 ∷ 0 ∷ 0xa0 ∷ 0x3c ∷ []) (replicate 26 7))
+    (sumEntry binary64 (withRounding 0) 0 (0 ∷ 0 ∷ 0 ∷ 0 ∷ 0 ∷ 0 ∷ 0xf0 ∷ 0x3f ∷ 0 ∷ 0 ∷ 0 ∷ 0 ∷ 0 ∷ 0 ∷ 0xa0 ∷ 0x3c ∷ []) (replicate 26 7))
 
 -- ---- pence: 0.125 is 13, −0.125 is −13; refusal 8: an infinity
 
@@ -237,27 +242,27 @@ answers result flags side edge a =
 unfoldable pub biases : Bool
 biases =
     -- 8 and 24 are 32, where 1 is no number of the format; and the same with its kind's own bias, of 1/2 and 3/2
-    answers 4 0x80 0 (negsuc 697) (sumAnswer (record { kind = 3; E = 2; W = 4; named = some (negsuc 2) }) (rounded 0) 0 (1 ∷ 3 ∷ []))
-    && answers 4 0x80 0 (negsuc 701) (sumAnswer (record { kind = 3; E = 2; W = 4; named = none }) (rounded 0) 0 (1 ∷ 3 ∷ []))
+    answers 4 0x80 0 (negsuc 697) (sumAnswer (record { kind = 3; E = 2; W = 4; named = some (negsuc 2) }) (withRounding 0) 0 (1 ∷ 3 ∷ []))
+    && answers 4 0x80 0 (negsuc 701) (sumAnswer (record { kind = 3; E = 2; W = 4; named = none }) (withRounding 0) 0 (1 ∷ 3 ∷ []))
     -- the kind's own, and 0: 3c00 twice is twice 1, and twice 2^15
-    && answers 0x4000 0 0 (negsuc 701) (sumAnswer (half16 (pos 15)) (rounded 0) 0 (0x3c00 ∷ 0x3c00 ∷ []))
-    && answers 0x4000 0 0 (negsuc 686) (sumAnswer (half16 (pos 0)) (rounded 0) 0 (0x3c00 ∷ 0x3c00 ∷ []))
+    && answers 0x4000 0 0 (negsuc 701) (sumAnswer (half16 (pos 15)) (withRounding 0) 0 (0x3c00 ∷ 0x3c00 ∷ []))
+    && answers 0x4000 0 0 (negsuc 686) (sumAnswer (half16 (pos 0)) (withRounding 0) 0 (0x3c00 ∷ 0x3c00 ∷ []))
     -- the farthest that may be named: 2^(15 − bias) twice
-    && answers 0x4000 0 0 (negsuc 268436142) (sumAnswer (half16 (pos 268435456)) (rounded 0) 0 (0x3c00 ∷ 0x3c00 ∷ []))
-    && answers 0x4000 0 0 (pos 268434769) (sumAnswer (half16 (negsuc 268435455)) (rounded 0) 0 (0x3c00 ∷ 0x3c00 ∷ []))
+    && answers 0x4000 0 0 (negsuc 268436142) (sumAnswer (half16 (pos 268435456)) (withRounding 0) 0 (0x3c00 ∷ 0x3c00 ∷ []))
+    && answers 0x4000 0 0 (pos 268434769) (sumAnswer (half16 (negsuc 268435455)) (withRounding 0) 0 (0x3c00 ∷ 0x3c00 ∷ []))
     -- the square of 2^(1 − bias): 2^−78, far below the least number 2^−49; 2^82, above 2^71
-    && answers 0 0x38 1 (negsuc 778) (sumAnswer (half16 (pos 40)) (rounded 0) 2 (0x0400 ∷ []))
-    && answers 0x7c00 0x54 3 (negsuc 618) (sumAnswer (half16 (negsuc 39)) (rounded 0) 2 (0x0400 ∷ []))
+    && answers 0 0x38 1 (negsuc 778) (sumAnswer (half16 (pos 40)) (withRounding 0) 2 (0x0400 ∷ []))
+    && answers 0x7c00 0x54 3 (negsuc 618) (sumAnswer (half16 (negsuc 39)) (withRounding 0) 2 (0x0400 ∷ []))
     -- the square of the least number, 2^1991, whose grid lies below the products' unit; toward zero the largest number, below it
-    && answers 0x7c00 0xd4 3 (pos 3281) (sumAnswer (half16 (negsuc 1999)) (rounded 0) 2 (1 ∷ []))
-    && answers 0x7bff 0x94 1 (pos 3281) (sumAnswer (half16 (negsuc 1999)) (rounded 5) 2 (1 ∷ []))
+    && answers 0x7c00 0xd4 3 (pos 3281) (sumAnswer (half16 (negsuc 1999)) (withRounding 0) 2 (1 ∷ []))
+    && answers 0x7bff 0x94 1 (pos 3281) (sumAnswer (half16 (negsuc 1999)) (withRounding 5) 2 (1 ∷ []))
     -- in Fnuz the named bias takes the place of 2^(E − 1): 30 is 3000 pence, and with the kind's own 8 it is 24000
     && penceIs (pos 3000) 0 (penceAnswer (record { kind = 2; E = 4; W = 8; named = some (pos 11) }) 0x7f)
     && penceIs (pos 24000) 0 (penceAnswer (record { kind = 2; E = 4; W = 8; named = none }) 0x7f)
     && penceIs (pos 800) 0 (penceAnswer (record { kind = 3; E = 2; W = 4; named = some (negsuc 2) }) 1)
     -- one beyond
-    && refusedAs 3 0 (sumAnswer (half16 (pos 268435457)) (rounded 0) 0 [])
-    && refusedAs 3 0 (dotAnswer (half16 (negsuc 268435456)) (rounded 0) [] [])
+    && refusedAs 3 0 (sumAnswer (half16 (pos 268435457)) (withRounding 0) 0 [])
+    && refusedAs 3 0 (dotAnswer (half16 (negsuc 268435456)) (withRounding 0) [] [])
     && penceIs (pos 0) 3 (penceAnswer (half16 (pos 268435457)) 0)
 
 -- ---- the pence of a list (document 02, A.2)
@@ -268,7 +273,7 @@ bothAre x n f l = penceIs x n (sumPence f l) && penceIs x n (chainPence f l)
 
 unfoldable pub sumPenceExamples : Bool
 sumPenceExamples =
-    -- 0.125 and −2^−60, which the sum rounded to binary64 does not show; 0.125 alone, which is a tie; both negated
+    -- 0.125 and −2^−60, which the sum withRounding to binary64 does not show; 0.125 alone, which is a tie; both negated
     bothAre (pos 12) 0 binary64 (0x3fc0000000000000 ∷ 0xbc30000000000000 ∷ [])
     && bothAre (pos 13) 0 binary64 (0x3fc0000000000000 ∷ [])
     && bothAre (negsuc 11) 0 binary64 (0xbfc0000000000000 ∷ 0x3c30000000000000 ∷ [])
@@ -310,7 +315,7 @@ sumPenceExamples =
 
 -- ---- the program: what it reads and what it prints, as bytes. A hex digit d is the byte 48 + d, or 87 + d from a on; 10 ends a line
 
-pub record Run : Type 0 where
+pub record ProgramRun : Type 0 where
   pub input : List ℕ
   pub output : List ℕ
 
@@ -322,7 +327,7 @@ refusedLine n = 114 ∷ 101 ∷ 102 ∷ 117 ∷ 115 ∷ 101 ∷ 100 ∷ 32 ∷ 1
 unfoldable pub oneWith : ℕ → List ℕ
 oneWith b = 51 ∷ 102 ∷ 102 ∷ 48 ∷ 48 ∷ 48 ∷ 48 ∷ 48 ∷ 48 ∷ 48 ∷ 48 ∷ 48 ∷ 48 ∷ 48 ∷ 48 ∷ b ∷ []
 
-unfoldable pub programRuns : List Run
+unfoldable pub programRuns : List ProgramRun
 programRuns =
     -- document 01's example: `3ff0000000000000`, `3fd0000000000000` prints `3ff4000000000000`, `00`, `1`, `125`
     record {
@@ -347,15 +352,15 @@ programRuns =
     ∷ record { input = oneWith 10 ++ (10 ∷ []); output = refusedLine 1 }
     ∷ []
 
-unfoldable pub programAgrees : List Run → Bool
+unfoldable pub programAgrees : List ProgramRun → Bool
 programAgrees [] = true
 programAgrees (r ∷ rs) = sameList (programText (r .input)) (r .output) && programAgrees rs
 
 -- ==== THE THEOREMS: each test computes to true. The lines under `unfolding` name every definition that takes part
 
-pub careers-agree : T (allAgree careers)
+pub careers-agree : Holds (allAgree careers)
 unfolding
-    binary64 rounded careers allAgree
+    binary64 withRounding careers allAgree
     difference raised validFormat bias lift exponentRange depth origin fall grid rise validSettings precisionOf
     decode isSubnormal operand single product item pairItem plusSum minusSum topOf
     lostEnd lookAt half wrapped decide sumOf pass run chain size span climb
@@ -363,9 +368,9 @@ unfolding
     special sumRounded reported finiteTotal withoutNan accepted sumRefusal sumAccepted sumAnswer
 careers-agree = tt
 
-pub margins-agree : T (allAgree margins)
+pub margins-agree : Holds (allAgree margins)
 unfolding
-    binary64 rounded margins allAgree
+    binary64 withRounding margins allAgree
     difference raised validFormat bias lift exponentRange depth origin fall grid rise validSettings precisionOf
     decode isSubnormal operand single product item pairItem plusSum minusSum topOf
     lostEnd lookAt half wrapped decide sumOf pass run chain size span climb
@@ -373,9 +378,9 @@ unfolding
     special sumRounded reported finiteTotal withoutNan accepted sumRefusal sumAccepted sumAnswer
 margins-agree = tt
 
-pub sides-agree : T sideExamples
+pub sides-agree : Holds sideExamples
 unfolding
-    sideExamples small binary64 binary16 rounded
+    sideExamples small binary64 binary16 withRounding
     difference raised validFormat bias lift exponentRange depth origin fall grid rise validSettings precisionOf
     decode isSubnormal operand single product item pairItem plusSum minusSum topOf
     lostEnd lookAt half wrapped decide sumOf pass run chain size span climb
@@ -383,14 +388,14 @@ unfolding
     special sumRounded reported finiteTotal withoutNan accepted sumRefusal sumAccepted sumAnswer dotRefusal dotAccepted dotAnswer
 sides-agree = tt
 
-pub refusals-agree : T refusals
+pub refusals-agree : Holds refusals
 unfolding
-    refusals binary64 binary16 rounded validFormat validSettings sumRefusal sumAnswer dotRefusal dotAnswer dotPlace valuesIn entered sumEntry
+    refusals binary64 binary16 withRounding validFormat validSettings sumRefusal sumAnswer dotRefusal dotAnswer dotPlace valuesIn entered sumEntry
 refusals-agree = tt
 
-pub entry-agrees : T entryExample
+pub entry-agrees : Holds entryExample
 unfolding
-    entryExample valuesIn written entered sumEntry binary64 rounded
+    entryExample valuesIn written entered sumEntry binary64 withRounding
     difference raised validFormat bias lift exponentRange depth origin fall grid rise validSettings precisionOf
     decode isSubnormal operand single product item pairItem plusSum minusSum topOf
     lostEnd lookAt half wrapped decide sumOf pass run chain size span climb
@@ -398,11 +403,11 @@ unfolding
     special sumRounded reported finiteTotal withoutNan accepted sumRefusal sumAccepted sumAnswer
 entry-agrees = tt
 
-pub pence-agree : T penceExamples
+pub pence-agree : Holds penceExamples
 unfolding penceExamples penceAnswer penceOf validFormat depth bias lift decode binary64
 pence-agree = tt
 
-pub sum-pence-agree : T sumPenceExamples
+pub sum-pence-agree : Holds sumPenceExamples
 unfolding
     sumPenceExamples half16 binary64 binary16 sumPence sumFigure penceAnswer penceOf hundredItem nearestWhole wholeFigure settled
     difference raised validFormat bias lift exponentRange depth origin fall grid rise validSettings precisionOf
@@ -412,9 +417,9 @@ unfolding
     special sumRounded reported finiteTotal withoutNan accepted sumRefusal sumAccepted sumAnswer
 sum-pence-agree = tt
 
-pub biases-agree : T biases
+pub biases-agree : Holds biases
 unfolding
-    biases half16 rounded penceAnswer penceOf
+    biases half16 withRounding penceAnswer penceOf
     difference raised validFormat bias lift exponentRange depth origin fall grid rise validSettings precisionOf
     decode isSubnormal operand single product item pairItem plusSum minusSum topOf
     lostEnd lookAt half wrapped decide sumOf pass run chain size span climb
@@ -422,7 +427,7 @@ unfolding
     special sumRounded reported finiteTotal withoutNan accepted sumRefusal sumAccepted sumAnswer dotRefusal dotAnswer
 biases-agree = tt
 
-pub program-agrees : T (programAgrees programRuns)
+pub program-agrees : Holds (programAgrees programRuns)
 unfolding
     programAgrees programRuns refusedLine oneWith programText readFrom hexText decimalFrom answerText penceAnswer penceOf
     difference raised validFormat bias lift exponentRange depth origin fall grid rise validSettings precisionOf

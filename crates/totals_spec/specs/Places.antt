@@ -4,7 +4,7 @@ use mathlib.Core.List.{List}
 use mathlib.Core.Path.{_≡_}
 use Prim.Native.Nat.{ℕ, _<_}
 use lib.ListN.{length, getD}
-use lib.Dec.{T}
+use lib.Dec.{T as Holds}
 use Rattle.totals_spec.specs.Basics.{any}
 use Rattle.totals_spec.specs.Format.{Format}
 use Rattle.totals_spec.specs.Totals.{stray}
@@ -12,7 +12,7 @@ use Rattle.totals_spec.specs.Totals.{stray}
 -- i is the lowest index of an element of l with a stray bit
 pub record StrayAt (f : Format) (l : List ℕ) (i : ℕ) : Type 0 where
   pub inside : i < length l
-  pub set : T (stray f (getD l i 0))
+  pub set : Holds (stray f (getD l i 0))
   pub lowest : (k : ℕ) → k < i → stray f (getD l k 0) ≡ false
 
 -- by whether the left list holds a stray bit

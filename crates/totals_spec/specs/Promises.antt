@@ -8,7 +8,7 @@ use mathlib.Core.Option.{none, some}
 use Prim.Native.Nat.{ℕ, _+_, _-_, _/_, _%_, _^_, _≤_, _<_, max}
 use lib.ListN.{length, replicate, take, drop, getD}
 use lib.IntN.{pos}
-use lib.Dec.{T, eqb}
+use lib.Dec.{T as Holds, eqb}
 use lib.Ieee.{size}
 use Rattle.totals_spec.specs.Basics.{any, flag}
 use Rattle.totals_spec.specs.Format.{Format, Kind, ieee, noInf, fnuz, finiteOnly, kindOf, biasOf, validFormat, digits, grid}
@@ -29,41 +29,41 @@ use Rattle.totals_spec.specs.Conditions.{Uneven, First, sumConditions, d
 use Rattle.totals_spec.specs.Places.{StrayAt, DotStrayAt}
 use Rattle.totals_spec.specs.Pence.{penceAnswer, sumFigure, sumPence}
 use Rattle.totals_spec.specs.Hundredfold.{chainPence}
-use Rattle.totals_spec.specs.Careers.{binary64, rounded, careers, margins, allAgree, sideExamples, refusals, entryExample}
+use Rattle.totals_spec.specs.Careers.{binary64, withRounding, careers, margins, allAgree, sideExamples, refusals, entryExample}
 use Rattle.totals_spec.specs.Careers.{penceExamples, biases, sumPenceExamples, programRuns, programAgrees}
 
 -- ==== the document's examples
 
 -- C1 to C12
 abbrev pub Careers-agree : Type 0
-Careers-agree = T (allAgree careers)
+Careers-agree = Holds (allAgree careers)
 
 -- rows at the margins of the passes' rules
 abbrev pub Margins-agree : Type 0
-Margins-agree = T (allAgree margins)
+Margins-agree = Holds (allAgree margins)
 
 -- which way results lean: directed roundings, overflow, flush-to-zero and denormals-are-zero, of sums of either sign
 abbrev pub Sides-agree : Type 0
-Sides-agree = T sideExamples
+Sides-agree = Holds sideExamples
 
 -- named biases: the farthest, the kind's own, where 1 is no number of the format, and where the grid of products lies below their unit
 abbrev pub Biases-agree : Type 0
-Biases-agree = T biases
+Biases-agree = Holds biases
 
 -- the pence of lists: at a tie and beside one, beyond the format, at 2^63, with and without a named bias, and each refusal but 6
 abbrev pub Sum-pence-agree : Type 0
-Sum-pence-agree = T sumPenceExamples
+Sum-pence-agree = Holds sumPenceExamples
 
 -- the examples of the refusals, of a byte entry, of pence and of the program
 abbrev pub Examples-agree : Type 0
-Examples-agree = T refusals × T entryExample × T penceExamples × T (programAgrees programRuns)
+Examples-agree = Holds refusals × Holds entryExample × Holds penceExamples × Holds (programAgrees programRuns)
 
 -- as many zeros as the limit allows are summed, and one more gets 6
 abbrev pub Zeros-accepted : Type 0
-Zeros-accepted = (n : ℕ) → n ≤ 1048576 → (sumAnswer binary64 (rounded 0) 0 (replicate n 0)) .refusal ≡ 0
+Zeros-accepted = (n : ℕ) → n ≤ 1048576 → (sumAnswer binary64 (withRounding 0) 0 (replicate n 0)) .refusal ≡ 0
 
 abbrev pub Zeros-refused : Type 0
-Zeros-refused = (n : ℕ) → 1048576 < n → sumAnswer binary64 (rounded 0) 0 (replicate n 0) ≡ refused 6 0
+Zeros-refused = (n : ℕ) → 1048576 < n → sumAnswer binary64 (withRounding 0) 0 (replicate n 0) ≡ refused 6 0
 
 -- ==== PROMISE 1: refusals
 
@@ -169,7 +169,7 @@ Entry-read-back =
 -- every value is finite
 abbrev pub AllFinite : Format → List ℕ → Type 0
 AllFinite f [] = Unit {0}
-AllFinite f (b ∷ l) = T (isNumber (decode f b)) × AllFinite f l
+AllFinite f (b ∷ l) = Holds (isNumber (decode f b)) × AllFinite f l
 
 -- of finite values with a non-zero term the result and the flags are those of the exact sum rounded once, the passes those of the chain
 abbrev pub Sum-exact : Type 0
@@ -217,7 +217,8 @@ Dot-zeros = (f : Format) (c : Settings) (xs ys : List ℕ) → dotRefusal f c xs
 abbrev pub Sum-side : Type 0
 Sum-side = (f : Format) (c : Settings) (u : ℕ) (l : List ℕ) → sumRefusal f c u l ≡ 0 → AllFinite f l
     → (sumAnswer f c u l) .side
-    ≡ sideOf (grid f (isSquare (summandOf u))) (decode f ((sumAnswer f c u l) .result)) (onGrid f (isSquare (summandOf u)) (exactSum (sumTerms f c (summandOf u) l)))
+    ≡ sideOf (grid f (isSquare (summandOf u))) (decode f ((sumAnswer f c u l) .result))
+    (onGrid f (isSquare (summandOf u)) (exactSum (sumTerms f c (summandOf u) l)))
 
 abbrev pub Dot-side : Type 0
 Dot-side = (f : Format) (c : Settings) (xs ys : List ℕ) → dotRefusal f c xs ys ≡ 0 → AllFinite f xs → AllFinite f ys
@@ -244,7 +245,7 @@ keptAs finiteOnly v = v
 
 -- what a rounding gives, encoded and decoded again, is itself, but for those two signs: wherever the grid is, of every sign and magnitude
 abbrev pub Rounded-back : Type 0
-Rounded-back = (f : Format) (c : Settings) (g : ℕ) (s : Bool) (m : ℕ) → T (validFormat f) → T (validSettings f c)
+Rounded-back = (f : Format) (c : Settings) (g : ℕ) (s : Bool) (m : ℕ) → Holds (validFormat f) → Holds (validSettings f c)
     → decode f (encode f (round f c g s m .value)) ≡ keptAs (kindOf (f .kind)) (round f c g s m .value)
 
 -- what a chain ends with, rounded once, is the exact sum rounded once: near a tie too, for every format, setting and precision. (For every place
@@ -348,10 +349,10 @@ Finished (beside x s m w) = Unit {0}
 Finished unfinished = ⊥
 
 abbrev pub Sum-ends : Type 0
-Sum-ends = (f : Format) (c : Settings) (u : ℕ) (l : List ℕ) → T (validFormat f) → Finished (chain (digits f) (sumTerms f c (summandOf u) l) .outcome)
+Sum-ends = (f : Format) (c : Settings) (u : ℕ) (l : List ℕ) → Holds (validFormat f) → Finished (chain (digits f) (sumTerms f c (summandOf u) l) .outcome)
 
 abbrev pub Dot-ends : Type 0
-Dot-ends = (f : Format) (c : Settings) (xs ys : List ℕ) → T (validFormat f) → Finished (chain (digits f) (dotTerms f c xs ys) .outcome)
+Dot-ends = (f : Format) (c : Settings) (xs ys : List ℕ) → Holds (validFormat f) → Finished (chain (digits f) (dotTerms f c xs ys) .outcome)
 
 -- no edge lies below the unit from which positions are counted, so each `-` in an edge's definition is a true difference: in T − 702, and after a
 -- pass that has lost something in w − 701, and in max(w + n, lost + 64) − 766

@@ -19,7 +19,7 @@ use Rattle.limbs_window.specs.Compared.{orderOf, compared}
 use Rattle.window.specs.Joined.{nearBy}
 use Rattle.window.specs.declared.Nearness.the-variants.{Low, High, Between}
 use Rattle.totals_spec.specs.Basics.{Signed}
-use Rattle.totals_spec.specs.Chain.{half, signedOf}
+use Rattle.totals_spec.specs.Chain.{half, signedFrom}
 
 -- ---- the window's numbers. Its size is kept as a variable, H or 2h: `omega` reads no number so large
 
@@ -49,8 +49,8 @@ top-bit h x h0 u = go (ltb x h) (ltb→lt x h) (nltb→le x h)
 
 -- S by its highest bit: itself, or the complement
 pub signed-is : (h x m : ℕ) (b : Bool) → 0 < h → x < h + h → b ≡ eqb (x / h % 2) 1 → m ≡ cond b ((h + h - x) % (h + h)) x
-    → _≡_ {A = Signed} (record { neg = b; mag = m }) (signedOf h x)
-unfolding signedOf
+    → _≡_ {A = Signed} (record { neg = b; mag = m }) (signedFrom h x)
+unfolding signedFrom
 signed-is h x m b h0 u e f = go (ltb x h) (ltb→lt x h) (nltb→le x h) (e ∙ top-bit h x h0 u)
   where
     back : h ≤ x → (h + h - x) % (h + h) ≡ h + h - x
@@ -65,7 +65,7 @@ signed-is h x m b h0 u e f = go (ltb x h) (ltb→lt x h) (nltb→le x h) (e ∙ 
     go false k g q = λ i. record { neg = q i; mag = (f ∙ ap (λ (c : Bool). cond c ((h + h - x) % (h + h)) x) q ∙ back (g tt)) i }
 
 pub signed-at : (x m : ℕ) (b : Bool) → x < 2 ^ 768 → b ≡ eqb (x / 2 ^ 767 % 2) 1 → m ≡ cond b ((2 ^ 768 - x) % 2 ^ 768) x
-    → _≡_ {A = Signed} (record { neg = b; mag = m }) (signedOf half x)
+    → _≡_ {A = Signed} (record { neg = b; mag = m }) (signedFrom half x)
 unfolding half
 signed-at x m b u e f = signed-is (2 ^ 767) x m b (pow-pos 767) u e f
 

@@ -38,8 +38,8 @@ total-seen p ts b w q i h = vanishes b w _ _ p (chain.lookAt ts w) (i .placed) �
   where
     free : chain.sumOf chain.noBoundary w (chain.lookAt ts w) ≡ totalOf q
     free = unfold chain.sumOf chain.wrapped in
-        ap₂ (λ (x y : ℕ). chain.signedOf chain.half (chain.residue chain.half x y)) (add-zero (chain.lookAt ts w .plus)) (add-zero (chain.lookAt ts w .minus))
-        ∙ ap (chain.signedOf chain.half) (sym (h .total))
+        ap₂ (λ (x y : ℕ). chain.signedFrom chain.half (chain.residue chain.half x y)) (add-zero (chain.lookAt ts w .plus)) (add-zero (chain.lookAt ts w .minus))
+        ∙ ap (chain.signedFrom chain.half) (sym (h .total))
 
 -- so what the code decides by is the pass of the definitions
 pass-seen : (p : ℕ) (ts : List terms.Term) (b : chain.Boundary) (w : ℕ) (q : Pass) → Inv p (terms.plusSum ts) (terms.minusSum ts) b w → Passed ts w q

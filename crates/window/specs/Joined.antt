@@ -142,7 +142,7 @@ Follows Next s k c r = (s ≡ chain.next (boundOf r) (r .edge + 766 * (k - 1))) 
 
 -- S as the code has it, without the boundary: `vanishes` of totals_spec says that this is no other
 abbrev pub totalOf : Pass → words.Signed
-totalOf q = chain.signedOf chain.half (value (q .total))
+totalOf q = chain.signedFrom chain.half (value (q .total))
 
 abbrev pub widthOf : Pass → ℕ
 widthOf q = size (totalOf q .mag)

@@ -74,7 +74,7 @@ pub struct Signed {
 }
 
 fn signed_of(total: [u64; 12]) -> Signed
-    ensures { λ r. ⌜ signedOf r ≡ spec.signedOf spec.half (value total) ⌝ }
+    ensures { λ r. ⌜ signedOf r ≡ spec.signedFrom spec.half (value total) ⌝ }
 {
     if window::bit(total, 767) {
         Signed {

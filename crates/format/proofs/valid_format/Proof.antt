@@ -34,7 +34,8 @@ returns-6 c =
     let d = w .before .before .before in
     let b = d .before .before in
     let a = b .before .before in
-    rw (le-leb _ _ (a .if1 .left), le-leb _ _ (b .if2 .left), le-leb _ _ (d .if3 .left), le-leb _ _ (w .if4 .left), le-leb _ _ (v .if5 .left)) (c .offered .ensures)
+    rw (le-leb _ _ (a .if1 .left), le-leb _ _ (b .if2 .left), le-leb _ _ (d .if3 .left), le-leb _ _ (w .if4 .left), le-leb _ _ (v .if5 .left))
+    (c .offered .ensures)
 
 pub valid-format-spec : {M : Type 1} → statement M
 valid-format-spec = tie.close (tie.spec returns returns-2 returns-3 (λ c. search needs) returns-4 returns-5 (λ c κs. search needs) returns-6)

@@ -1,4 +1,4 @@
--- `scan::walk::scan_list` meets its contract. The invariant: the scan, raised to the position of the field kept apart, is that of the first i elements.
+-- `scan::walk::scan_list` meets its contract. The invariant: the scan, withTop to the position of the field kept apart, is that of the first i elements.
 use mathlib.Core.Path.{_≡_}
 use mathlib.Core.List.{List}
 use Prim.Native.Nat.{ℕ, _≤_, _-_, _<_}
@@ -13,7 +13,7 @@ use Rattle.arithmetic.specs.Joined.{fieldTop}
 use Rattle.arithmetic.proofs.Elements.{plain-field-small}
 use Rattle.values.specs.Sources.{elements}
 use Rattle.values.proofs.Sources.{elements-length}
-use Rattle.scan.specs.Joined.{raised, Scanned}
+use Rattle.scan.specs.Joined.{withTop, Scanned}
 use Rattle.scan.proofs.Step.{Reading, Plainly, Turn, walk-start, walk-taken, walk-plain, walk-done}
 use Rattle.scan.proofs.Lists.{list, list-plainly}
 use Rattle.scan.proofs.walk.scan_list.Statement.{statement}
@@ -22,7 +22,7 @@ use Rattle.scan.proofs.walk.scan_list.Tie as tie
 abbrev Inv-loop : tie.InvT-loop
 Inv-loop f c u source words bytes s₀ greatest₀ i₀ s greatest i =
     (i ≤ source .count) × (greatest < 268435456)
-    × Scanned (formatOf f) (settingsOf c) (summandOf u) (take i (elements source words bytes)) (raised (fieldTop (formatOf f) (summandOf u) greatest) s)
+    × Scanned (formatOf f) (settingsOf c) (summandOf u) (take i (elements source words bytes)) (withTop (fieldTop (formatOf f) (summandOf u) greatest) s)
 
 abbrev μ-loop : tie.MeasureT-loop
 μ-loop f c u source words bytes s₀ greatest₀ i₀ s greatest i = source .count - i

@@ -1,4 +1,4 @@
--- `scan::walk::scan_pairs` meets its contract. The invariant: the scan, raised to the position of the fields kept apart, is that of the first i pairs.
+-- `scan::walk::scan_pairs` meets its contract. The invariant: the scan, withTop to the position of the fields kept apart, is that of the first i pairs.
 use mathlib.Core.Path.{_≡_, sym, _∙_}
 use mathlib.Core.List.{List}
 use Prim.Native.Nat.{ℕ, _≤_, _-_, _<_}
@@ -15,7 +15,7 @@ use Rattle.arithmetic.specs.Joined.{fieldsTop}
 use Rattle.arithmetic.proofs.Pairs.{plain-fields-small}
 use Rattle.values.specs.Sources.{elements}
 use Rattle.values.proofs.Sources.{elements-length}
-use Rattle.scan.specs.Joined.{raised, ScannedPairs}
+use Rattle.scan.specs.Joined.{withTop, ScannedPairs}
 use Rattle.scan.proofs.Step.{Reading, Plainly, Turn, walk-start, walk-taken, walk-plain, walk-done}
 use Rattle.scan.proofs.Lists.{dot, pair-here, pair-plainly}
 use Rattle.scan.proofs.walk.scan_pairs.Statement.{statement}
@@ -24,7 +24,7 @@ use Rattle.scan.proofs.walk.scan_pairs.Tie as tie
 abbrev Inv-loop : tie.InvT-loop
 Inv-loop f c source lw lb rw' rb s₀ greatest₀ i₀ s greatest i =
     (i ≤ source .count) × (greatest < 536870912)
-    × ScannedPairs (formatOf f) (settingsOf c) (take i (pairs (elements source lw lb) (elements source rw' rb))) (raised (fieldsTop (formatOf f) greatest) s)
+    × ScannedPairs (formatOf f) (settingsOf c) (take i (pairs (elements source lw lb) (elements source rw' rb))) (withTop (fieldsTop (formatOf f) greatest) s)
 
 abbrev μ-loop : tie.MeasureT-loop
 μ-loop f c source lw lb rw' rb s₀ greatest₀ i₀ s greatest i = source .count - i

@@ -47,7 +47,9 @@ returns-4 c =
     let t = r .before .before in
     let s = t .before in
     let e = s .before .before in
-    rw (format (s .before), s .settings .ensures) at (dot-enters _ _ _ _ _ (e .before .before .if1 .left) (e .before .if2 .left) (e .if3 .left) _ (t .dot-bytes .ensures) _ _ (r .enter .ensures))
+    let left = e .before .before .if1 .left in
+    let right = e .before .if2 .left in
+    rw (format (s .before), s .settings .ensures) at (dot-enters _ _ _ _ _ left right (e .if3 .left) _ (t .dot-bytes .ensures) _ _ (r .enter .ensures))
 
 pub enter-dot-spec : {M : Type 1} → statement M
 enter-dot-spec =

@@ -41,7 +41,8 @@ returns-3 c =
     let t = r .before .before in
     let s = t .before in
     let e = s .before .before in
-    rw (format (s .before), s .settings .ensures) at (sum-enters _ _ _ _ _ (e .before .if1 .left) (e .if2 .left) _ (t .sum-bytes .ensures) _ _ (r .enter .ensures))
+    let even = e .before .if1 .left in
+    rw (format (s .before), s .settings .ensures) at (sum-enters _ _ _ _ _ even (e .if2 .left) _ (t .sum-bytes .ensures) _ _ (r .enter .ensures))
 
 pub enter-sum-spec : {M : Type 1} → statement M
 enter-sum-spec =
