@@ -14,9 +14,8 @@ use Rattle.totals_spec.specs.Promises.{Dot-side, Sum-no-side, Dot-no-sid
 use Rattle.totals_spec.specs.Promises.{Dot-entry-order, Sum-limit, Dot-limit, Binary64-sum-limit, Binary64-square-limit, Binary64-dot-limit, Sum-ends}
 use Rattle.totals_spec.specs.Promises.{Dot-ends, Sum-edges, Dot-edges, Low-bit, Sides-agree, Biases-agree, Named-own}
 use Rattle.totals_spec.specs.Promises.{Sum-zeros, Dot-zeros, Sum-refused-exactly, Dot-refused-exactly, Entry-refused-exactly, Pence-refused-exactly}
-use Rattle.totals_spec.specs.Promises.{Sum-fits, Dot-fits, Entry-read-back, Size-is-length, Rounded-back, Sum-pence-agree, Pence-place, One-pence}
-use Rattle.totals_spec.specs.Promises.{Pence-order}
-use Rattle.totals_spec.specs.Promises.{Sum-pence-refused-exactly, Pence-by-chain}
+use Rattle.totals_spec.specs.Promises.{Sum-fits, Dot-fits, Entry-read-back, Size-is-length, Rounded-back}
+use Rattle.totals_spec.specs.Promises.{Sum-pence-agree, Sum-pence-refused-exactly, Sum-pence-refused, Pence-place, One-pence, Pence-by-chain, Pence-order}
 use Rattle.totals_spec.proofs.Bits.{low-divides, low-set, size-none, size-one-less}
 use Rattle.totals_spec.proofs.Good.{good-terms, good-pairs}
 use Rattle.totals_spec.proofs.Valid.{digits-le}
@@ -197,6 +196,9 @@ pub binary64-dot-limit : Binary64-dot-limit
 binary64-dot-limit = binary64s.binary64-dot-limit
 
 -- ==== document 02, A.2: the pence of a list (SumPence, Hundredfold)
+
+pub sum-pence-refused : Sum-pence-refused
+sum-pence-refused = pence.sum-pence-refused
 
 pub pence-place : Pence-place
 pence-place = pence.pence-place

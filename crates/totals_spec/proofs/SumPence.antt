@@ -1,4 +1,4 @@
--- The pence of a list (document 02, A.2): the place of refusal 7, the order, and lists of one element.
+-- The pence of a list (document 02, A.2): refused records, the place of refusal 7, the order, and lists of one element.
 use mathlib.Core.Path.{_≡_, refl, ap, ap₂, _∙_, subst}
 use mathlib.Core.Logic.{_≢_}
 use mathlib.Core.Bool.{Bool, true, false, not, _||_, cond}
@@ -18,7 +18,7 @@ use Rattle.totals_spec.specs.Terms.{Item, Term, single, item, itemOf, is
 use Rattle.totals_spec.specs.Totals.{stray, limit, firstIndex, sumTerms}
 use Rattle.totals_spec.specs.Pence.{Pence, refusedPence, penceOf, inRange, figureOf, penceAnswer, notNumber, sumFigure, sumPence}
 use Rattle.totals_spec.specs.Places.{StrayAt}
-use Rattle.totals_spec.specs.Promises.{Pence-place, One-pence, Pence-order}
+use Rattle.totals_spec.specs.Promises.{Sum-pence-refused, Pence-place, One-pence, Pence-order}
 use Rattle.totals_spec.proofs.Perm.{any-perm, length-perm, picked-perm, map-perm, perm-of-counts}
 use Rattle.totals_spec.proofs.Places.{first-stray}
 use Rattle.totals_spec.proofs.Good.{Decoded, decoded}
@@ -35,22 +35,30 @@ tested a b c d at x =
     (cond c (record { figure = pos 0; refusal = 7; place = at })
     (cond d (refusedPence 8) x)))
 
-record Placeless (x : Pence) : Type 0 where
+record Plain (x : Pence) : Type 0 where
   pub number : x .refusal ≢ 7
   pub place : x .place ≡ 0
+  pub none : x .refusal ≢ 0 → x .figure ≡ pos 0
 
-range-placeless : (s : Bool) (n : ℕ) → Placeless (inRange s n)
-range-placeless s n = go (ltb n (2 ^ 63)) (cond s (negℤ (pos n)) (pos n))
+range-plain : (s : Bool) (n : ℕ) → Plain (inRange s n)
+range-plain s n = go (ltb n (2 ^ 63)) (cond s (negℤ (pos n)) (pos n))
   where
-    go : (b : Bool) (z : ℤ) → Placeless (cond b (record { figure = z; refusal = 0; place = 0 }) (refusedPence 8))
-    go true z = record { number = λ e. omega (arith, e); place = refl }
-    go false z = record { number = λ e. omega (arith, e); place = refl }
+    go : (b : Bool) (z : ℤ) → Plain (cond b (record { figure = z; refusal = 0; place = 0 }) (refusedPence 8))
+    go true z = record { number = λ e. omega (arith, e); place = refl; none = λ h. absurd (h refl) }
+    go false z = record { number = λ e. omega (arith, e); place = refl; none = λ h. refl }
 
-figure-placeless : (f : Format) (x : Signed) → Placeless (sumFigure f x)
+figure-plain : (f : Format) (x : Signed) → Plain (sumFigure f x)
 unfolding sumFigure
-figure-placeless f x = range-placeless (x .neg) (penceOf (origin f false) (fall f false) (x .mag))
+figure-plain f x = range-plain (x .neg) (penceOf (origin f false) (fall f false) (x .mag))
 
-module _ (at : ℕ) (x : Pence) (h : Placeless x) where
+module _ (at : ℕ) (x : Pence) (h : Plain x) where
+  no-figure : (a b c d : Bool) → (tested a b c d at x) .refusal ≢ 0 → (tested a b c d at x) .figure ≡ pos 0
+  no-figure true b c d k = refl
+  no-figure false true c d k = refl
+  no-figure false false true d k = refl
+  no-figure false false false true k = refl
+  no-figure false false false false k = h .none k
+
   no-place : (a b c d : Bool) → (tested a b c d at x) .refusal ≢ 7 → (tested a b c d at x) .place ≡ 0
   no-place true b c d k = refl
   no-place false true c d k = refl
@@ -72,16 +80,21 @@ module _ (at : ℕ) (x : Pence) (h : Placeless x) where
   other-place false false true d at′ k = absurd (k refl)
   other-place false false false d at′ k = refl
 
--- ---- the place
+-- ---- refused records, and the place
 
 abbrev sumOf : Format → List ℕ → Signed
 sumOf f l = exactSum (sumTerms f noSettings value l)
+
+pub sum-pence-refused : Sum-pence-refused
+unfolding sumPence
+sum-pence-refused f l =
+    no-figure (firstIndex (stray f) l) _ (figure-plain f (sumOf f l)) (not (validFormat f)) (ltb limit (length l)) (any (stray f) l) (any (notNumber f) l)
 
 pub pence-place : Pence-place
 unfolding sumPence
 pence-place f l =
     let at = firstIndex (stray f) l in
-    let h = figure-placeless f (sumOf f l) in
+    let h = figure-plain f (sumOf f l) in
     let many = ltb limit (length l) in
     let some = any (stray f) l in
     let odd = any (notNumber f) l in (
@@ -96,7 +109,7 @@ unfolding sumPence
 pence-order f l₁ l₂ h k =
     let d = perm-of-counts eqb eqb→eq eqb-refl l₁ l₂ h in
     let t = picked-perm termOf (map-perm (item f noSettings value) d) in
-    other-place (firstIndex (stray f) l₁) _ (figure-placeless f (sumOf f l₁)) (not (validFormat f)) (ltb limit (length l₁)) (any (stray f) l₁)
+    other-place (firstIndex (stray f) l₁) _ (figure-plain f (sumOf f l₁)) (not (validFormat f)) (ltb limit (length l₁)) (any (stray f) l₁)
     (any (notNumber f) l₁) (firstIndex (stray f) l₂) k
     ∙ cc (length-perm d, any-perm (stray f) d, any-perm (notNumber f) d, plus-perm t, minus-perm t)
 

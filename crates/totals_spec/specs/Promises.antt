@@ -105,6 +105,9 @@ abbrev pub Dot-refused : Type 0
 Dot-refused = (f : Format) (c : Settings) (xs ys : List ℕ) → dotRefusal f c xs ys ≢ 0
     → dotAnswer f c xs ys ≡ refused (dotRefusal f c xs ys) ((dotAnswer f c xs ys) .place)
 
+abbrev pub Sum-pence-refused : Type 0
+Sum-pence-refused = (f : Format) (l : List ℕ) → (sumPence f l) .refusal ≢ 0 → (sumPence f l) .figure ≡ pos 0
+
 -- the place is 0 but for number 7, and there that of an element with a stray bit
 abbrev pub Sum-place : Type 0
 Sum-place = (f : Format) (c : Settings) (u : ℕ) (l : List ℕ)
