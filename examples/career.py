@@ -11,7 +11,8 @@ an earlier payment is taken back; and in some with interest credited to a
 hundredth of a penny.
 
 career.expected has result, flags, passes and pence. They come from exact
-fractions: the sum of the 480 numbers, rounded once.
+fractions: the sum of the 480 numbers, rounded once, and a hundred times that
+sum, not rounded before, to the nearest penny.
 """
 
 import pathlib
@@ -76,8 +77,7 @@ def expected(months):
     units = [Fraction(x) * 2 ** 1074 for x in months]
     lowest = min(int(u) & -int(u) for u in units)
     assert exact != 0 and Fraction(highest) * 2 ** 1074 < lowest * 2 ** 702
-    assert pence(rounded) == pence(exact)
-    return [hex_of(result), f'{flags:02x}', '1', str(pence(rounded))]
+    return [hex_of(result), f'{flags:02x}', '1', str(pence(exact))]
 
 
 def running(months):

@@ -55,6 +55,18 @@ column  0      p
 Behind these stand the rows of pence that name a bias, their number first in the same way. Such a row has 67 bytes, the first 48 of them as above:
 
 column 49      the bias: a sign and 16 digits
+
+Then come the rows of the pence of lists, without and with a named bias, each part with its number first. Such a row is as long as that of a sum, and has
+its format, its values and its bias where that has them:
+
+column  0      p
+        2      kind, E, W, as above
+       10      number of values
+       12      the figure: a sign and 16 digits
+       30      refusal and place
+       34      a note of what the list is, 44 bytes
+       79      twelve values, 16 digits each
+      283      the bias, in a row that names one
 """
 
 import os
@@ -1144,10 +1156,19 @@ def texts(made):
     stdout += agreed('all of these', sum(len(cases) for _, cases in made))
     # asked by the program itself, which knows the twelve answers from the table of refusals
     stdout += dots('refusals by the number of elements') + ' 12 of 12 agree\n'
-    for name, rows in (('pence of one encoding', pence_rows()), ('pence of one encoding, a bias named', biased_pence_rows())):
+    for name, rows in pence_parts():
         stdin += '%04x\n' % len(rows) + ''.join(rows)
         stdout += dots(name) + ' %d of %d agree\n' % (len(rows), len(rows))
+    # the program asks the entry with biases that are named by no 1 and are not 0, or by another number: each is refused with 3
+    stdout += dots('pence of lists, a bias misnamed') + ' 8 of 8 agree\n'
     return stdin, stdout
+
+
+def pence_parts():
+    """The parts behind the sections, each with its name and its rows."""
+    rows_of = lambda lists: [made.row() for made in lists]
+    return [('pence of one encoding', pence_rows()), ('pence of one encoding, a bias named', biased_pence_rows()),
+            ('pence of lists', rows_of(pence_lists())), ('pence of lists, a bias named', rows_of(biased_pence_lists()))]
 
 
 def asked(binary, cases):
@@ -1193,13 +1214,14 @@ def check():
                 wrong += 1
                 print('%s, row %d (line %d):\n  listed %s\n  model  %s' % (name, i + 1, at + 2 + i, row[32:78], case.answer()))
         at += 1 + n
-    for made in (pence_rows(), biased_pence_rows()):
+    for name, other in (('pence of one encoding', pence_again), ('pence of one encoding, a bias named', pence_again),
+                        ('pence of lists', lambda row: list_of(row, False).row()), ('pence of lists, a bias named', lambda row: list_of(row, True).row())):
         n = int(lines[at], 16)
-        for i, (row, other) in enumerate(zip(lines[at + 1:at + 1 + n], made, strict=True)):
+        for i, row in enumerate(lines[at + 1:at + 1 + n]):
             rows += 1
-            if row != other:
+            if row != other(row):
                 wrong += 1
-                print('pence, row %d (line %d):\n  listed %s  model  %s' % (i + 1, at + 2 + i, row, other), end='')
+                print('%s, row %d (line %d):\n  listed %s  model  %s' % (name, i + 1, at + 2 + i, row, other(row)), end='')
         at += 1 + n
     assert at == len(lines)
     print(rows - wrong, 'of', rows, 'rows agree with the model')
@@ -1238,6 +1260,8 @@ def cover():
     rows = [case for _, cases in sections() for case in cases]
     cover_plain([case for case in rows if case.named is None])
     cover_biased([case for case in rows if case.named is not None])
+    cover_pence(pence_lists())
+    cover_biased_pence(biased_pence_lists())
 
 
 def cover_plain(every):
@@ -1307,15 +1331,61 @@ def cover_biased(every):
            lambda c: tuple(c.holds), (1, 2, 3, 4, 5, 7))
 
 
+def cover_pence_of(every):
+    """What is asked of the lists without a bias and of those with one."""
+    accepted = [made for made in every if made.refusal == 0]
+    where = lambda test: [made for made in accepted if test(made)]
+    holds = lambda made, what: any(made.format().decode(b)[0] == what for b in made.values)
+    ties = [made for made in accepted if made.note.startswith('a tie')]
+    kinds, two = range(4), (False, True)
+    fewest('sign, side of a tie (on, less, more)', ties, lambda m: (m.figure < 0, m.note.split()[-1]), two, ('tie', 'less', 'more'))
+    fewest('2^63 - 1 either way, by kind', where(lambda m: abs(m.figure) == LARGEST_PENCE), lambda m: (m.kind, m.figure < 0), kinds, two)
+    fewest('a sum beyond the format that has a figure, by kind', where(List.is_beyond), lambda m: (m.kind,), kinds)
+    fewest('another figure if the sum was rounded to the format first, by kind', where(lambda m: m.rounded_first() != m.answer), lambda m: (m.kind,), kinds)
+    fewest('another figure if subnormal numbers were zeros, by kind', where(lambda m: m.without_subnormals() != m.answer), lambda m: (m.kind,), kinds)
+    fewest('a sum below zero with the figure 0, by kind', where(lambda m: m.figure == 0 and m.total()[0] < 0), lambda m: (m.kind,), kinds)
+    numbers = [made for made in every if made.refusal == 8 and not holds(made, 'nan') and not holds(made, 'infinity')]
+    fewest('8 for the figure, by kind', numbers, lambda m: (m.kind,), kinds)
+    fewest('8 for a NaN, by kind', [m for m in every if m.refusal == 8 and holds(m, 'nan')], lambda m: (m.kind,), (IEEE, NOINF, FNUZ))
+    fewest('8 for an infinity and no NaN', [m for m in every if m.refusal == 8 and not holds(m, 'nan') and holds(m, 'infinity')], lambda m: (m.kind,), (IEEE,))
+    fewest('3, 7', every, lambda m: (m.refusal,), (3, 7))
+    return accepted
+
+
+def cover_pence(every):
+    print('%5d  lists with pence, %d of them accepted' % (len(every), sum(made.refusal == 0 for made in every)))
+    accepted = cover_pence_of(every)
+    fewest('kind and E from 2 to 28', accepted, lambda m: (m.kind, m.e), range(4), range(2, 29))
+    fewest('number of values, 0 to 12', accepted, lambda m: (len(m.values),), range(13))
+
+
+def cover_biased_pence(every):
+    print('%5d  lists with pence and a named bias, %d of them accepted' % (len(every), sum(made.refusal == 0 for made in every)))
+    accepted = cover_pence_of(every)
+    fewest('1 below all numbers, subnormal, normal, above all numbers; by kind', [m for m in every if m.refusal in (0, 8)],
+           lambda m: (one_in(m.format()), m.kind), ('below', 'subnormal', 'normal', 'above'), range(4))
+    fewest('the greatest bias, by kind', accepted, lambda m: (m.named, m.kind), (2 ** 28,), range(4))
+    fewest('the least bias, by kind, a sum of zero and refusal 8', every, lambda m: (m.named, m.kind, m.refusal), (-2 ** 28,), range(4), (0, 8))
+    fewest("the kind's own, by kind", [m for m in accepted if m.named == own_bias(m.kind, m.e)], lambda m: (m.kind,), range(4))
+    fewest('3 for the bias alone, and beside 7', [m for m in every if abs(m.named) > LARGEST_BIAS], lambda m: (bool(stray(m.w, m.values)),), (False, True))
+
+
 # ---- pence
 
 def pence_row(f, b):
     """An encoding with its figure in pence, refusal and place."""
     kind, e, w, bias = (*f, None)[:4] if isinstance(f, tuple) else (f.kind, f.e, f.w, f.named)
     figure, refusal, place = pence(kind, e, w, b, bias)
+    assert sum_pence(kind, e, w, [b], bias) == (figure, refusal, place)
     text = 'p %x %02x %02x %016x %s %x %x' % (kind, e, w, b, signed(figure, 16), refusal, place)
     assert len(text) == 48
     return text + ('\n' if bias is None else ' %s\n' % signed(bias, 16))
+
+
+def pence_again(row):
+    """The row of the same encoding, with the model's answer."""
+    number = lambda at, digits: int(row[at:at + digits], 16)
+    return pence_row((number(2, 1), number(4, 2), number(7, 2), number(49, 17) if row[48] == ' ' else None), number(10, 16))
 
 
 def pence_beside(f, m, x):
@@ -1407,6 +1477,360 @@ def biased_pence_rows():
                  ((3, 2, 4, -3), 16)):
         add(f, b)
     return rows
+
+
+# ---- the pence of lists
+
+class List:
+    """A list with its figure in pence, refusal and place, and a note of what it is."""
+
+    def __init__(self, f, values, note):
+        self.f = (*f, None)[:4] if isinstance(f, tuple) else (f.kind, f.e, f.w, f.named)
+        self.kind, self.e, self.w, self.named = self.f
+        self.values, self.note = values, note
+        self.answer = sum_pence(*self.f[:3], values, self.named)
+        self.figure, self.refusal, self.place = self.answer
+        # one element has the pence of its encoding
+        assert len(values) != 1 or self.answer == pence(*self.f[:3], values[0], self.named)
+
+    def format(self):
+        return Format(*self.f)
+
+    def total(self):
+        """The exact sum, as a whole number and the position of its unit."""
+        terms, _ = sum_terms(VALUE, [self.format().decode(b) for b in self.values])
+        low = min((x for _, _, x in terms), default=0)
+        return sum((-m if negative else m) << (x - low) for negative, m, x in terms), low
+
+    def rounded(self):
+        """The sum, rounded to the format, and the flags of that."""
+        total, low = self.total()
+        return round_once(self.format(), PLAIN, int(total < 0), abs(total), low)[:2] if total else (0, 0)
+
+    def is_beyond(self):
+        return bool(self.rounded()[1] & OVERFLOW)
+
+    def rounded_first(self):
+        """The pence of the rounded sum, which is document 01's way."""
+        return pence(*self.f[:3], self.rounded()[0], self.named)
+
+    def without_subnormals(self):
+        f = self.format()
+        return sum_pence(*self.f[:3], [b for b in self.values if not f.is_subnormal(f.decode(b))], self.named)
+
+    def row(self):
+        assert len(self.values) <= VALUES and len(self.note) <= NAME
+        text = 'p %x %02x %02x %x %s %x %x %-*s' % (
+            self.kind, self.e, self.w, len(self.values), signed(self.figure, 16), self.refusal, self.place, NAME, self.note)
+        text = ' '.join([text] + ['%016x' % v for v in self.values + [0] * (VALUES - len(self.values))])
+        assert len(text) == BIAS - 1
+        return text + ('\n' if self.named is None else ' %s\n' % signed(self.named, 16))
+
+
+def list_of(row, biased):
+    """The list of a row, with the model's answer."""
+    number = lambda at, digits: int(row[at:at + digits], 16)
+    values = [number(at, 16) for at in range(HEAD, HEAD + 17 * number(10, 1), 17)]
+    return List((number(2, 1), number(4, 2), number(7, 2), number(BIAS, 17) if biased else None), values, row[34:34 + NAME].rstrip())
+
+
+def pieces(f, negative, n, x):
+    """n * 2^x as numbers of the format, the highest digits first."""
+    values = []
+    while n:
+        drop = max(0, n.bit_length() - f.p)
+        values.append(f.number(negative, n >> drop, x + drop))
+        n %= 1 << drop
+    return values
+
+
+def can_have(f, x):
+    """Whether 2^x is a number of the format."""
+    return f.low <= x <= f.emax - (f.kind == NOINF)
+
+
+def pence_examples():
+    """Worked out by hand; the first is document 02's."""
+    at = lambda n, negative=0: power(DOUBLE, n, negative)
+    eighth, big, minus, inf = at(-3), 0x7fefffffffffffff, 1 << 63, 0x7ff0000000000000
+    rows = [
+        (DOUBLE, [eighth, at(-60, 1)], 'document 02', (12, 0, 0)),
+        (DOUBLE, [eighth], '0.125 alone', (13, 0, 0)),
+        (DOUBLE, [eighth, at(-60)], '0.125 and 2^-60', (13, 0, 0)),
+        (DOUBLE, [eighth + minus, at(-60)], '-0.125 and 2^-60', (-12, 0, 0)),
+        (DOUBLE, [eighth + minus], '-0.125 alone', (-13, 0, 0)),
+        (DOUBLE, [eighth, inf], '0.125 and an infinity', (0, 8, 0)),
+        (HALF, [0x7bff, 0x7bff], 'beyond binary16', (13100800, 0, 0)),
+        (HALF, [0x7b00, 0x7b00], 'beyond binary16', (11468800, 0, 0)),
+        (HALF, [0xfbff] * 12, 'beyond binary16, twelve times', (-78604800, 0, 0)),
+        (HALF, [0x7e00, STRAY], 'a NaN, and a stray bit behind it', (0, 7, 1)),
+        (DOUBLE, [], 'nothing', (0, 0, 0)),
+        (DOUBLE, [0, minus, minus], 'zeros', (0, 0, 0)),
+        (DOUBLE, [minus], '-0', (0, 0, 0)),
+        (DOUBLE, [minus + 1], '-2^-1074', (0, 0, 0)),
+        (DOUBLE, [1], '2^-1074', (0, 0, 0)),
+        (DOUBLE, [at(0), at(0, 1)], '1 and -1', (0, 0, 0)),
+        (DOUBLE, [at(1000), eighth, at(1000, 1)], '0.125 beside huge amounts that cancel', (13, 0, 0)),
+        (DOUBLE, [at(1000), eighth, at(1000, 1), minus + 1], 'the same, and 2^-1074 less', (12, 0, 0)),
+        (DOUBLE, [big, minus + big, eighth + minus], '-0.125 beside the largest that cancel', (-13, 0, 0)),
+        (DOUBLE, [big, big, minus + big, minus + big, eighth], 'a sum beyond binary64 on the way', (13, 0, 0)),
+        (DOUBLE, [big], 'the largest number', (0, 8, 0)),
+        (DOUBLE, [big, big], 'beyond binary64', (0, 8, 0)),
+        (DOUBLE, [at(56)], '2^56, a figure of 100 x 2^56', (7205759403792793600, 0, 0)),
+        (DOUBLE, [at(56), at(56)], '2^57, too large', (0, 8, 0)),
+        (DOUBLE, [at(57), at(56, 1)], '2^57 - 2^56', (7205759403792793600, 0, 0)),
+        (DOUBLE, [power(DOUBLE, -8, 1, 0x47ae147ae147b)], 'more than half a penny, negative', (-1, 0, 0)),
+        (DOUBLE, [power(DOUBLE, -8, 1, 0x47ae147ae147a)], 'less than half a penny, negative', (0, 0, 0)),
+        ((3, 2, 4), [1, 3], '0.5 and 1.5', (200, 0, 0)),
+        ((3, 2, 4), [1] * 12, 'twelve times a subnormal number', (600, 0, 0)),
+        ((2, 4, 8), [0x7f, 0x7f], '240 twice, beyond E4M3FNUZ', (48000, 0, 0)),
+        ((1, 4, 8), [0x7e, 0x7e], '448 twice, beyond E4M3', (89600, 0, 0)),
+        ((3, 2, 4), [7] * 12, '6 twelve times, beyond E2M1', (7200, 0, 0)),
+    ]
+    lists = []
+    for f, values, note, answer in rows:
+        lists.append(List(f, values, note))
+        assert lists[-1].answer == answer, (note, lists[-1].answer)
+    return lists
+
+
+# positions below a tie: beside a format's digits, the 64 of the chain and its margins, and the window's ends
+TRACES = (4, 5, 10, 24, 53, 57, 60, 61, 62, 63, 64, 65, 66, 67, 70, 71, 72, 128, 130, 131, 134, 135, 500, 565, 566, 570, 573, 574, 635, 636, 637, 638, 639,
+          640, 641, 698, 699, 700, 701, 702, 703, 704, 705, 706, 764, 765, 766, 767, 768, 769, 1000, 1022, 1023, 1073, 1074)
+
+
+def pence_ties(formats, traces):
+    """Odd multiples of 1/8, which are ties: alone, and with a trace that makes them more or less. Every trace is a number of the format."""
+    lists = []
+    for i, f in enumerate(formats):
+        if not can_have(f, -3):
+            continue
+        multiples = [m for m in (1, 3, 5, 1001, 2 ** 40 + 1, 2 ** 57 + 5, 2 ** 59 - 7) if can_have(f, m.bit_length() - 4)]
+        for negative, m in product(range(2), multiples if f is DOUBLE else sorted({multiples[0], multiples[-1]})):
+            lists.append(List(f, pieces(f, negative, m, -3), 'a tie'))
+        down = [j for j in traces if can_have(f, -3 - j)] + [-3 - f.low] * (f.low < -3)
+        for j, less in product(down, range(2)):
+            turn = len(lists)
+            negative, m = turn // 2 % 2, multiples[(turn // 4 + i) % len(multiples)]
+            values = pieces(f, negative, m, -3) + [f.number(negative ^ less, 1, -3 - j)]
+            values = values[::-1] if turn % 3 == 0 else values
+            lists.append(List(f, values, 'a tie, and 2^-%d %s' % (3 + j, 'less' if less else 'more')))
+            assert abs(lists[-1].figure) == (100 * m + 4 >> 3) - less or j <= 10
+    return lists
+
+
+def pence_limits(formats):
+    """The figures 2^63 - 1 and 2^63 - 2 of either sign, on grids of 2^-k: the greatest sum and the least that round to the first, and the sums
+    beside them. And the greatest below 2^64 pence: to the nearest it is 2^64, which is no word."""
+    lists = []
+    for f, k in formats:
+        # 100 times n * 2^-k lies below 2^63 - 1/2; and is 2^63 - 3/2 or more
+        most, least = ((2 ** 64 - 1 << k) - 1) // 200, -(-(2 ** 64 - 3 << k) // 200)
+        wide = ((2 ** 64 << k) - 1) // 100
+        for negative in range(2):
+            for n, note in ((most, 'the greatest figure, 2^63 - 1'), (most + 1, 'one more'), (least, 'the least that rounds to it'), (least - 1, 'one less'),
+                            (wide, 'the greatest below 2^64 pence')):
+                lists.append(List(f, pieces(f, negative, n, -k), note))
+                figure = {most + 1: 0, least - 1: LARGEST_PENCE - 1, wide: 0}.get(n, LARGEST_PENCE)
+                assert lists[-1].answer == (-figure if negative else figure, 8 * (figure == 0), 0)
+    return lists
+
+
+def pence_beyond(formats):
+    """Sums beyond the format that have a figure, and one of largest numbers that cancel but for a tie."""
+    lists = []
+    for i, f in enumerate(formats):
+        large, n = f.largest(i % 2, f.p), (2, 3, 12)[i % 3]
+        lists.append(List(f, [large] * n, 'the largest number, %d times' % n))
+        least = [f.number(0, 1, max(-3, f.low))] if max(-3, f.low) < f.emax else []
+        lists.append(List(f, [large] * 5 + least + [large ^ f.sign] * 5, 'the largest numbers cancel'))
+        lists.append(List(f, [large ^ f.sign, large, large], 'one more than cancels'))
+    return lists
+
+
+def pence_subnormal(formats):
+    """Subnormal numbers alone and beside others; a setting that takes them as zeros would change the figure of some."""
+    lists = []
+    for i, f in enumerate(formats):
+        greatest = (1 << f.fraction) - 1
+        lists.append(List(f, [greatest, 1, greatest], 'subnormal numbers'))
+        lists.append(List(f, [greatest + f.sign] * (i % 12 + 1), 'a subnormal number, %d times' % (i % 12 + 1)))
+        lists.append(List(f, [power(f, f.emin), greatest + f.sign], 'normal less subnormal'))
+    return lists
+
+
+def pence_cancelling(formats):
+    """Terms that cancel at both ends of a format, with nothing left, with half a penny, and with less."""
+    lists = []
+    for i, f in enumerate(formats):
+        high, low = power(f, f.emax - 1, i % 2, 1), [1, f.sign + 1]
+        lists.append(List(f, [high, *low, high ^ f.sign], 'all cancels'))
+        if can_have(f, -3):
+            tie = f.number(i // 2 % 2, 1, -3)
+            lists.append(List(f, [high, tie, high ^ f.sign], 'huge amounts cancel beside a tie'))
+            lists.append(List(f, [high, tie, low[1 - (i // 2 % 2)], high ^ f.sign], 'huge amounts cancel beside less than a tie'))
+        lists.append(List(f, [high, low[1], high ^ f.sign], 'a negative trace is left'))
+    return lists
+
+
+def pence_orders(draw, formats):
+    """Lists in five orders, one figure for each."""
+    lists = []
+    for i, f in enumerate(formats):
+        values = []
+        while len(set(values)) < 3:
+            values = (pence_near_tie, pence_sum, pence_amounts)[i % 3](draw, f)
+        group = [List(f, order, 'five orders, list %d' % (i + 1))
+                 for order in (values, values[::-1], sorted(values), draw.shuffled(values), draw.shuffled(values))]
+        assert len({other.answer for other in group}) == 1
+        lists += group
+    return lists
+
+
+def pence_refusals(bias):
+    """3 in each way, 7 at the lowest index, 7 before 8, 8 for NaNs and infinities of each kind and beside huge amounts. (A figure too large stands with the
+    limits.)"""
+    lists = []
+    add = lambda f, values, note: lists.append(List((*f[:3], bias if len(f) == 3 else f[3]), values, note))
+    for i, f in enumerate(((4, 11, 64), (15, 5, 16), (0, 1, 16), (0, 0, 0), (1, 29, 64), (2, 29, 31), (3, 11, 12), (0, 2, 3), (0, 11, 65), (2, 28, 255),
+                           (1, 255, 64), (4, 1, 65))):
+        add(f, ([], [ONE], [ONE, (1 << 64) - 1])[i % 3], 'no such format')
+    if bias is not None:
+        for far in (2 ** 28 + 1, -2 ** 28 - 1, 2 ** 63 - 1, 1 - 2 ** 63, 2 ** 32 + 15, -2 ** 32 - 15):
+            for values in ([], [ONE, ONE], [STRAY, 0x7e00]):
+                add((*HALF, far), values, 'a bias out of its range')
+    for kind, (e, w) in product(range(4), ((4, 8), (5, 16), (11, 63))):
+        nan = (1 << w) - 1 if kind != FNUZ else 1 << w - 1
+        add((kind, e, w), [1, 1 << w], 'a stray bit, and a number before it')
+        add((kind, e, w), [nan, 1 << w, nan, 1 << 63, (1 << w) + 1], 'stray bits: the lowest index; NaNs')
+        add((kind, e, w), [0] * 11 + [1 << 63], 'a stray bit in the last place')
+        add((kind, e, w), [nan] * 3 + [(1 << 64) - 1], 'a stray bit behind NaNs')
+    for e, w in ((2, 4), (5, 16), (11, 64), (28, 30)):
+        f = Format(IEEE, e, w, bias)
+        inf, big = f.infinity(0), f.largest(0, f.p)
+        some = [([inf], 'an infinity'), ([big, f.infinity(1)], 'a negative infinity'), ([inf, f.infinity(1)], 'infinities of both signs'),
+                ([f.nan(0, 0)], 'a quiet NaN'), ([0, 0, f.nan(1, 0)], 'a negative NaN'), ([big, inf + 1, big ^ f.sign], 'a NaN amid what cancels'),
+                ([f.infinity(1) + 1, inf], 'a NaN and an infinity')]
+        for values, note in some:
+            add((IEEE, e, w), values, note)
+    for (kind, nans), (e, w) in product(((NOINF, 2), (FNUZ, 1)), ((2, 4), (4, 8), (11, 64))):
+        f = Format(kind, e, w, bias)
+        for negative in range(nans):
+            b = f.nan(negative, 0)
+            add((kind, e, w), [b], 'the NaN')
+            add((kind, e, w), [f.largest(0, f.p), f.largest(1, f.p), b], 'the NaN behind what cancels')
+    # all ones are a number of these
+    for kind in (FNUZ, FINITE):
+        add((kind, 4, 8), [0x7f, 0xff], 'all ones are numbers')
+        add((kind, 4, 8), [0x7f, 0x7f, 0x7f], 'all ones are numbers')
+    return lists
+
+
+def pence_amounts(draw, f):
+    """Amounts in the range of a figure."""
+    low = min(max(f.emin, -9), f.emax - 1)
+    top = draw.choice([8, 16, 30, 57])
+    return [power(f, draw.between(low, max(low, min(f.emax - 1, top))), draw.bits(1), draw.bits(f.fraction)) for _ in range(draw.below(VALUES + 1))]
+
+
+def pence_near_tie(draw, f):
+    """A multiple of an eighth, odd or even, what is a little more or less, and what cancels."""
+    if not can_have(f, -3):
+        return pence_amounts(draw, f)
+    bits = draw.between(1, max(1, min(56, f.emax + 2)))
+    values = pieces(f, draw.bits(1), draw.bits(bits) | draw.bits(1) | 1 << bits - 1, -3)[:5]
+    at = -3
+    for _ in range(draw.below(4)):
+        at -= draw.choice(STEPS + (draw.between(1, 2000),))
+        values.append(power(f, at, draw.bits(1), draw.choice([0, 0, draw.bits(f.fraction)])))
+    if draw.bits(1):
+        huge = power(f, f.emax - 1 - draw.below(40), draw.bits(1), draw.bits(f.fraction))
+        values += [huge, huge ^ f.sign]
+    return draw.shuffled(values)
+
+
+def pence_sum(draw, f):
+    """Any values, most of them with their negatives."""
+    near = draw.choice([0, 1, f.ones - 1, f.bias, draw.bits(f.e)])
+    values = [any_value(draw, f, near) for _ in range(draw.below(6))]
+    values += [v ^ f.sign for v in values if draw.chance(60)]
+    return draw.shuffled(values + pence_amounts(draw, f)[:draw.below(2)])
+
+
+def pence_drawn(draw, f):
+    """A list of one of the three, none with terms too far apart."""
+    while True:
+        values = draw.choice((pence_amounts, pence_near_tie, pence_near_tie, pence_sum))(draw, f)
+        terms, top = sum_terms(VALUE, [f.decode(v) for v in values])
+        if top - min((x for _, _, x in terms), default=top) <= WIDEST:
+            return List(f, values, 'drawn')
+
+
+def pence_lists():
+    draw = Draw(200)
+    every = lambda *pairs: [Format(kind, *pair) for kind in range(4) for pair in pairs]
+    lists = pence_examples()
+    lists += pence_ties([DOUBLE], TRACES)
+    lists += pence_ties(every((4, 8), (5, 16), (8, 32), (7, 64), (3, 64), (2, 64)), (4, 53, 64))
+    lists += pence_ties([Format(kind, 11, 64) for kind in (1, 2, 3)] + every((11, 24), (15, 64)), (53, 64, 66, 702))
+    # down to 2^-134217728 and below: the farthest from a penny without a named bias
+    lists += pence_ties(every((28, 64)), (60, 1400))
+    lists += pence_limits([(f, k) for f in every((11, 64)) for k in (7, 400)] + [(Format(i % 4, *pair), k) for i, (*pair, k) in enumerate(
+        ((7, 64, 8), (8, 32, 60), (15, 41, 100), (28, 64, 60), (8, 32, 8), (15, 41, 8), (28, 64, 300), (7, 64, 60)))])
+    lists += pence_beyond(every((2, 4), (3, 6), (4, 8), (5, 16), (2, 64), (5, 64), (6, 24), (6, 64)))
+    lists += pence_subnormal(every((2, 4), (2, 64), (3, 6), (4, 8), (5, 16), (11, 64)))
+    lists += pence_cancelling(every((4, 8), (5, 16), (8, 32), (11, 64), (15, 64), (20, 53)))
+    lists += pence_orders(draw, [Format(i % 4, *((11, 64), (8, 32), (5, 16), (7, 64), (15, 47))[i % 5]) for i in range(24)])
+    lists += pence_refusals(None)
+    lists += [pence_drawn(draw, Format(kind, e, w)) for kind in range(4) for e in range(2, 29) for w in (e + 2, 64, draw.choice(widths(e)))]
+    lists += [pence_drawn(draw, Format(i % 4, *PAIRS[i % 7])) for i in range(140)]
+    return lists
+
+
+def biased_pence_lists():
+    """The same with a named bias."""
+    draw = Draw(300)
+    lists = []
+    for f, values, note, answer in (
+            ((2, 4, 8, 11), [0x7f, 0x7f], '30 twice', (6000, 0, 0)),
+            ((3, 2, 4, -3), [1, 3], '8 and 24', (3200, 0, 0)),
+            ((0, 5, 16, -5), [1], 'the least number is 1/16', (6, 0, 0)),
+            ((0, 5, 16, -5), [1, 1], 'twice 1/16: a tie', (13, 0, 0)),
+            ((0, 5, 16, -5), [0x8001, 0x8001], 'twice -1/16', (-13, 0, 0)),
+            ((0, 5, 16, -2000), [1], 'the least number is 2^1991', (0, 8, 0)),
+            ((0, 5, 16, -2000), [1, 0x8001], '2^1991 and its negative', (0, 0, 0)),
+            ((0, 5, 16, 0), [0x7bff, 0x7bff], 'the largest number, 2^15 times that of binary16', (429287014400, 0, 0)),
+            ((0, 5, 16, 60), [0xfbff] * 12, 'less than half a penny', (0, 0, 0))):
+        lists.append(List(f, values, note[:NAME]))
+        assert lists[-1].answer == answer, (note, lists[-1].answer)
+    # the greatest and the least: a sum that is not zero is less than half a penny, or too large
+    for kind, bias, (e, w) in product(range(4), (2 ** 28, -2 ** 28), ((11, 64), (5, 16), (28, 30))):
+        f = Format(kind, e, w, bias)
+        large, sign = f.largest(kind % 2, f.p), f.sign
+        for values, note in (([large, large], 'the largest number twice'), ([sign + 1], 'the least number, negative'),
+                             ([1, large, large ^ sign, 1], 'the least number is left'), ([1, large, sign + 1, large ^ sign], 'all cancels')):
+            lists.append(List(f, values, note))
+            if e < 28:
+                zero = bias > 0 or note == 'all cancels'
+                assert lists[-1].answer == (0, 0 if zero else 8, 0)
+    # at the kind's own, what the list has without a name
+    for kind, i in product(range(4), range(6)):
+        f = Format(kind, *((11, 64), (5, 16), (8, 32))[i % 3])
+        plain = pence_drawn(draw, f)
+        lists.append(List((*plain.f[:3], f.bias), plain.values, "the kind's own"))
+        assert lists[-1].answer == plain.answer
+    some = lambda *pairs: [Format(i % 4, *pair) for i, pair in enumerate(pairs)]
+    near = ((5, 16, 0), (4, 8, 1), (11, 64, -40), (8, 32, 3), (4, 8, 11), (5, 16, 40), (11, 64, 2000), (7, 64, 20), (2, 64, 4), (3, 6, 5), (8, 24, 100))
+    lists += pence_ties(some(*near), (5, 53, 64, 66, 700))
+    lists += pence_limits([(f, k) for f in some((11, 64, 40), (7, 64, 20), (11, 64, 1500), (8, 32, 190), (15, 64, -900), (12, 64, 500)) for k in (8, 52)
+                           if f.low <= -k and f.emax > 57])
+    lists += pence_beyond(some((4, 8, 7), (5, 16, 20), (3, 6, -1), (2, 4, 0), (5, 16, -20), (4, 8, -9), (5, 64, 3), (2, 64, -40)))
+    lists += pence_subnormal(some((5, 16, -5), (4, 8, -4), (11, 64, -1000), (11, 64, 900), (3, 6, -30), (2, 4, -3), (8, 32, -55), (2, 64, -2)))
+    lists += pence_cancelling(some((4, 8, 1), (5, 16, 0), (11, 64, -40), (11, 64, 1900), (8, 32, -300), (15, 64, 9000), (5, 16, -2000), (4, 8, 2000)))
+    lists += pence_orders(draw, some(*near))
+    lists += pence_refusals(-7)
+    lists += [pence_drawn(draw, Format(i % 4, e, w, bias)) for i, (e, w, bias) in enumerate(near * 8)]
+    return lists
 
 
 def main():

@@ -1,4 +1,4 @@
-"""What document 01 says of a total, and document 02 of which way its result leans and of a named bias, in whole numbers of any length.
+"""What document 01 says of a total, and document 02 of which way its result leans, of a named bias and of a list's pence, in whole numbers of any length.
 
 Written from the text of document 01, and from the Rust's where document 01
 names a function of it (the choice among NaNs, overflow, the largest number).
@@ -380,3 +380,28 @@ def pence(kind, e, w, b, bias=None):
     if figure > LARGEST_PENCE:
         return 0, 8, 0
     return -figure if negative else figure, 0, 0
+
+
+def sum_pence(kind, e, w, values, bias=None):
+    """The same of a list: a hundred times its exact sum, which is rounded to no format."""
+    if not valid_format(kind, e, w, bias):
+        return 0, 3, 0
+    if len(values) > LIMIT:
+        return 0, 6, 0
+    if stray(w, values):
+        return 0, 7, stray(w, values)[0]
+    vs = [Format(kind, e, w, bias).decode(b) for b in values]
+    if any(v[0] in ('nan', 'infinity') for v in vs):
+        return 0, 8, 0
+    terms, _ = sum_terms(VALUE, vs)
+    low = min((x for _, _, x in terms), default=0)
+    total = 100 * sum((-m if negative else m) << (x - low) for negative, m, x in terms)
+    # the whole pence of the magnitude, and what is left of a penny: half of one or more goes up
+    if low < 0:
+        figure, rest = divmod(abs(total), 1 << -low)
+        figure += 2 * rest >= 1 << -low
+    else:
+        figure = abs(total) << low
+    if figure > LARGEST_PENCE:
+        return 0, 8, 0
+    return -figure if total < 0 else figure, 0, 0

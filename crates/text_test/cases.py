@@ -7,14 +7,17 @@
 stdin is the number of cases in 4 hex digits and a line end, then the cases. A case has 589 bytes: 512 of which
 the first P, over and over, make the A bytes of input, 64 of which the first T are the text expected and the others 0, and a line AAAAA PPP TT in hex.
 
-The expected texts follow document 01. The sums of the good inputs are worked out in exact fractions; the few that
-are no finite numbers, and the passes, are written out by hand from document 01's table of careers.
+The expected texts follow document 01, and in the fourth line document 02. The sums of the good inputs are worked out in exact fractions, and so
+are their pence, which are those of the exact sum; the few sums that are no finite numbers or none above zero, and the passes, are written out by hand
+from document 01's table of careers and its rule of the passes.
 """
 
+import math
 import pathlib
 import struct
 import sys
 from fractions import Fraction
+from itertools import product
 
 HERE = pathlib.Path(__file__).resolve().parent
 
@@ -23,10 +26,17 @@ def number(line):
     return struct.unpack('>d', bytes.fromhex(line))[0]
 
 
-def pence(x):
-    """A hundred times x, rounded to an integer, halves away from zero."""
-    n = (200 * abs(x) + 1) // 2
-    return int(n) if x >= 0 else -int(n)
+def pence(lines):
+    """A hundred times the exact sum, rounded to an integer, halves away from zero; or none, where it is 2^63 or more or there is no sum."""
+    if not all(math.isfinite(number(line)) for line in lines):
+        return 'none'
+    x = sum(Fraction(number(line)) for line in lines)
+    n = int((200 * abs(x) + 1) // 2)
+    return 'none' if n >= 2 ** 63 else str(n if x >= 0 else -n)
+
+
+def is_subnormal(line):
+    return 0 < int(line, 16) % 2 ** 63 < 2 ** 52
 
 
 def summed(lines, passes):
@@ -35,9 +45,8 @@ def summed(lines, passes):
     result = float(exact)
     rounded = Fraction(result)
     flags = 0 if rounded == exact else 16 + (64 if abs(rounded) > abs(exact) else 0)
-    figure = pence(rounded)
-    shown = str(figure) if abs(figure) < 2 ** 63 else 'none'
-    return f'{struct.pack(">d", result).hex()}\n{flags:02x}\n{passes}\n{shown}\n'
+    flags += 128 * any(map(is_subnormal, lines))
+    return f'{struct.pack(">d", result).hex()}\n{flags:02x}\n{passes}\n{pence(lines)}\n'
 
 
 def text(lines, end='\n'):
@@ -51,6 +60,10 @@ EMPTY = f'{ZERO}\n00\n0\n0\n'
 
 def hexed(x):
     return struct.pack('>d', x).hex()
+
+
+def minus(line):
+    return f'{int(line, 16) ^ 2 ** 63:016x}'
 
 
 def good():
@@ -74,6 +87,32 @@ def good():
         yield f'pence of {x}', 1, text([hexed(x)]), summed([hexed(x)], 1)
     for lines in ([hexed(0.1)] * 10, [hexed(x) for x in (0.1, 0.2, 0.3)], [hexed(1e16), ONE, hexed(-1e16), QUARTER]):
         yield 'a sum', 1, text(lines), summed(lines, 1)
+    # document 02's list, whose rounded sum is 0.125 and has 13; what decides between 12 and 13 lies above or below, near or far, either way
+    for x, sign in product((2.0 ** -60, 2.0 ** -500), (1, -1)):
+        for lines in ([hexed(0.125), hexed(-x)], [hexed(0.125), hexed(x)]):
+            lines = lines if sign > 0 else [minus(line) for line in lines]
+            yield 'beside a half penny', 1, text(lines), summed(lines, 1)
+    far = [hexed(0.125), hexed(-2.0 ** -1000)]
+    yield 'a trace below the first pass', 1, text(far), summed(far, 2)
+    for lines in ([hexed(-0.0625)] * 2, [hexed(-0.375), hexed(0.25)], [hexed(-1000.125)], [hexed(-0.005), hexed(2.0 ** -60)]):
+        yield 'a negative half penny, or less', 1, text(lines), summed(lines, 1)
+    for x in (-0.004, 0.004, -2.0 ** -1022):
+        yield 'less than half a penny', 1, text([hexed(x)]), summed([hexed(x)], 1)
+    yield '-2^-1074', 1, text(['8000000000000001']), '8000000000000001\na0\n1\n0\n'
+    # two huge amounts that cancel are gone in the first pass, and 0.125 is met in the second; what is less than that by 2^-1074 in the third
+    huge, largest = hexed(2.0 ** 1000), '7fefffffffffffff'
+    for lines, passes in (([huge, hexed(0.125), minus(huge)], 2), ([minus(largest), largest, hexed(-0.125)], 2),
+                          ([largest, largest, hexed(0.125), minus(largest), minus(largest)], 2),
+                          ([huge, hexed(0.125), minus(huge), '8000000000000001'], 3), ([huge, hexed(-0.125), '0000000000000001', minus(huge)], 3)):
+        yield 'huge amounts that cancel', 1, text(lines), summed(lines, passes)
+    # 2^63 - 1 pence, whose rounded sum has 2^63 or more; and one step to 2^63
+    for last, sign in product((9 / 128, 77 / 1024), (1, -1)):
+        lines = [hexed(sign * x) for x in (92233720368547744.0, 14.0, last)]
+        yield 'about 2^63 pence', 1, text(lines), summed(lines, 1)
+    yield 'too many pence', 1, text([hexed(2.0 ** 56)] * 2), summed([hexed(2.0 ** 56)] * 2, 1)
+    yield 'too many pence less too many', 1, text([hexed(2.0 ** 57), hexed(-2.0 ** 56)]), summed([hexed(2.0 ** 57), hexed(-2.0 ** 56)], 1)
+    yield 'a half penny and an infinity', 1, text([hexed(0.125), 'fff0000000000000']), 'fff0000000000000\n00\n0\nnone\n'
+    yield 'a NaN among what cancels', 1, text([huge, NAN, minus(huge)]), f'{NAN}\n00\n0\nnone\n'
     yield '8,192 lines', 8192, text([hexed(0.1)]), summed([hexed(0.1)] * 8192, 1)
     yield '8,192 lines without the last end', 139_263, text([hexed(0.1)]), summed([hexed(0.1)] * 8192, 1)
 
@@ -115,6 +154,8 @@ def bad():
 
 def cases():
     for name, times, piece, wanted in good():
+        lines = (piece * times if times < 10_000 else (piece * (times // 17 + 1))[:times]).split()
+        assert wanted.split()[3] == pence(lines), name
         yield name, times, piece.encode(), wanted.encode()
     for name, times, piece, line in bad():
         yield name, times, piece.encode(), f'refused line {line}\n'.encode()

@@ -14,6 +14,7 @@ use Rattle.totals_spec.specs.Settings as env
 use Rattle.totals_spec.specs.Decode as dec
 use Rattle.totals_spec.specs.Terms as terms
 use Rattle.totals_spec.specs.Totals.{isValue}
+use Rattle.totals_spec.specs.Hundredfold.{hundredOf, hundredItem}
 use Rattle.totals_spec.specs.Bounds.{FormatBounds}
 use Rattle.totals_spec.proofs.Bits.{size-is}
 use Rattle.totals_spec.proofs.Good.{Decoded, decoded-operand}
@@ -63,6 +64,12 @@ none-stands env.magnitude (dec.nan s g m) t e z h = (z, h)
 none-stands env.square (dec.zeroOf s) t e z h = (z, h)
 none-stands env.square (dec.infinity s) t e z h = (z, h)
 none-stands env.square (dec.nan s g m) t e z h = (z, h)
+
+pub no-hundred : (x : dec.Unpacked) (t : Term) → dec.isFinite x ≡ false → magnitude t ≡ 0 → t .shift ≡ 0 → StandsFor t (hundredOf x)
+no-hundred (dec.finite s k m) t e z h = absurd (true≢false e)
+no-hundred (dec.zeroOf s) t e z h = (z, h)
+no-hundred (dec.infinity s) t e z h = (z, h)
+no-hundred (dec.nan s g m) t e z h = (z, h)
 
 -- the arms of a match other than that of a finite number
 pub other-arm : (v : Unpacked) → OneOf (0 ∷ 2 ∷ 3 ∷ []) (tagOf the-type v) → dec.isFinite (unpackedOf v) ≡ false
@@ -153,6 +160,10 @@ module _ (f : spec.Format) (x : ℕ) (h : Plain f x) where
 pub plain-item : (f : spec.Format) (c : env.Settings) (u : env.Summand) (x : ℕ) → Plain f x → terms.itemOf u (plainNumber f x) ≡ terms.item f c u x
 unfolding terms.item
 plain-item f c u x h = ap (terms.itemOf u) (sym (plain-operand f x h c))
+
+pub plain-hundred : (f : spec.Format) (c : env.Settings) (x : ℕ) → Plain f x → hundredOf (plainNumber f x) ≡ hundredItem f c x
+unfolding hundredItem
+plain-hundred f c x h = ap hundredOf (sym (plain-operand f x h c))
 
 -- a normal significand has p digits
 normal-size : (f : spec.Format) (m : ℕ) → FormatBounds f → m < 2 ^ spec.fractionBits f → size (2 ^ spec.fractionBits f + m) ≡ spec.digits f

@@ -22,6 +22,7 @@ ghost use Rattle.totals_spec.specs.Settings as env;
 ghost use Rattle.totals_spec.specs.Terms as terms;
 ghost use Rattle.totals_spec.specs.Decode as dec;
 ghost use Rattle.totals_spec.specs.Totals as totals;
+ghost use Rattle.totals_spec.specs.Hundredfold.{hundredOf, hundredItem};
 ghost use Rattle.format.specs.Joined.{formatOf, settingsOf, unpackedOf};
 ghost use Rattle.arithmetic.specs.Joined.{itemOf, StandsFor, Bounded, plainNumber, plainProduct, bothPlain, plainField, plainFields, fieldTop, fieldsTop};
 
@@ -141,6 +142,38 @@ pub fn plain_term(f: Format, u: u64, b: u64) -> Term
         sign_of(f, b),
         field_of(f, b) - 1,
         plain_significand(f, b),
+    )
+}
+
+// A hundred times an element that takes a closer look. Apart from the terms above, whose loops are not to test for it in each turn.
+pub fn looked_hundred(f: Format, c: Settings, b: u64) -> Term
+    requires { ⌜ FormatBounds (formatOf f) ⌝ }
+    ensures { λ r. ⌜ StandsFor r (hundredItem (formatOf f) (settingsOf c) b) ⌝ }
+{
+    let o = operand(f, c, b);
+    let v = o.value;
+    let Unpacked::Finite {
+        negative,
+        shift,
+        significand,
+    } = v
+    else {
+        return no_term();
+    };
+    product(negative, shift, significand, 0, 100)
+}
+
+// A hundred times a normal number.
+pub fn plain_hundred(f: Format, b: u64) -> Term
+    requires { ⌜ FormatBounds (formatOf f) × (0 < dec.fieldOf (formatOf f) b) ⌝ }
+    ensures { λ r. ⌜ StandsFor r (hundredOf (plainNumber (formatOf f) b)) ⌝ }
+{
+    product(
+        sign_of(f, b),
+        field_of(f, b) - 1,
+        plain_significand(f, b),
+        0,
+        100,
     )
 }
 

@@ -1,5 +1,5 @@
 mod Rules
-mod Standing
+pub mod Standing
 mod Beyond
 mod Once
 mod Plan

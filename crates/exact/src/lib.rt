@@ -291,7 +291,7 @@ fn round_small(f: Format, c: Settings, g: u64, v: Unrounded, q: u64, unlimited: 
 }
 
 // The digits of a significand.
-fn length(s: [u64; 12]) -> u64
+pub fn length(s: [u64; 12]) -> u64
     ensures { λ r. ⌜ (r ≡ bitLength (value s)) × (r ≤ 768) ⌝ }
 {
     limbs_window::bit_length(s) as u64

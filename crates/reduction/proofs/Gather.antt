@@ -26,6 +26,7 @@ use Rattle.totals_spec.specs.Basics.{total, greatest, keep}
 use Rattle.totals_spec.specs.Format as spec
 use Rattle.totals_spec.specs.Settings as env
 use Rattle.totals_spec.specs.Terms as terms
+use Rattle.totals_spec.specs.Hundredfold.{hundredOf, hundredItem}
 use Rattle.totals_spec.specs.Chain.{residue, half, lookAt, lostEnd, lostOf, cutPlus, cutMinus}
 use Rattle.totals_spec.proofs.Window.{residue-zero, residue-plus, residue-minus, residue-cancel}
 use Rattle.totals_spec.proofs.Walk.{total-append, greatest-append, picked-append}
@@ -35,7 +36,7 @@ use Rattle.binary.proofs.Plain.{plainly}
 use Rattle.window.specs.declared.Part.{Part}
 use Rattle.window.specs.declared.Pass.{Pass}
 use Rattle.arithmetic.specs.Joined.{magnitude, StandsFor, plainNumber, plainProduct, bothPlain}
-use Rattle.arithmetic.proofs.Elements.{no-magnitude, plain-item}
+use Rattle.arithmetic.proofs.Elements.{no-magnitude, plain-item, plain-hundred}
 use Rattle.arithmetic.proofs.Pairs.{both-plainly, plain-pair}
 use Rattle.window.specs.Joined.{PartAt, Passed}
 use Rattle.window.proofs.Numbers.{window}
@@ -155,6 +156,10 @@ passed ts w v lost q h e =
 pub plain-stands : (f : spec.Format) (c : env.Settings) (u : env.Summand) (x : ℕ) (t : Term) → isPlain f x ≡ true
     → StandsFor t (terms.itemOf u (plainNumber f x)) → StandsFor t (terms.item f c u x)
 plain-stands f c u x t e s = subst (λ (i : terms.Item). StandsFor t i) (plain-item f c u x (plainly f x e)) s
+
+pub hundred-stands : (f : spec.Format) (c : env.Settings) (x : ℕ) (t : Term) → isPlain f x ≡ true
+    → StandsFor t (hundredOf (plainNumber f x)) → StandsFor t (hundredItem f c x)
+hundred-stands f c x t e s = subst (λ (i : terms.Item). StandsFor t i) (plain-hundred f c x (plainly f x e)) s
 
 pub pair-stands : (f : spec.Format) (c : env.Settings) (x y : ℕ) (t : Term) → bothPlain f x y ≡ true
     → StandsFor t (terms.term (plainProduct f x y)) → StandsFor t (terms.pairItem f c (x, y))

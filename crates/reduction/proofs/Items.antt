@@ -8,12 +8,13 @@ use native.Mathlib.Omega.{arith}
 use borrow.Author.Tests.{eqb-true, le-leb}
 use lib.Dec.{leb, eqb, eqb·suc-zero}
 use lib.ListN.{length, getD, length-map}
-use Rattle.totals_spec.specs.Format.{Format, kindOf, digits}
+use Rattle.totals_spec.specs.Format.{Format, kindOf}
 use Rattle.totals_spec.specs.Settings.{Settings, Summand, summandOf}
 use Rattle.totals_spec.specs.Bounds.{FormatBounds, SettingsBounds}
 use Rattle.totals_spec.specs.Decode.{operand}
 use Rattle.totals_spec.specs.Nan.{selectAll}
-use Rattle.totals_spec.specs.Terms.{nanItem, item, pairItem, terms, topOf}
+use Rattle.totals_spec.specs.Terms.{Item, nanItem, item, pairItem, terms, topOf}
+use Rattle.totals_spec.specs.Hundredfold.{hundredItem}
 use Rattle.totals_spec.specs.Totals.{limit, pairs, isValue, isSquare, accepted, finiteTotal, sumAccepted, dotAccepted}
 use Rattle.totals_spec.specs.Settled.{chainTotal}
 use Rattle.totals_spec.specs.Alone.{AllGive}
@@ -23,17 +24,17 @@ use Rattle.totals_spec.proofs.Alone.{list-gives, pairs-give}
 use Rattle.totals_spec.proofs.ByChain.{sum-by-chain, dot-by-chain}
 use Rattle.arithmetic.specs.declared.Term.{Term}
 use Rattle.arithmetic.specs.Joined.{StandsFor}
-use Rattle.arithmetic.proofs.Elements.{none-stands}
+use Rattle.arithmetic.proofs.Elements.{none-stands, no-hundred}
 use Rattle.arithmetic.proofs.Pairs.{pairs-at}
 use Rattle.binary.specs.Joined.{isBlank}
 use Rattle.binary.proofs.Blank.{operand-blank}
 use Rattle.values.specs.declared.Source.{Source}
 use Rattle.values.specs.Sources.{elements}
-use Rattle.values.specs.Walks.{itemsOf}
+use Rattle.values.specs.Walks.{itemsOf, addedBy}
 use Rattle.values.proofs.Sources.{elements-length}
 use Rattle.scan.specs.Walked.{subnormalIn, signalingIn, operandsIn}
 use Rattle.reduction.specs.Answered.{productsIn, firstIn, Accepted, answerIn}
-use Rattle.reduction.proofs.Loop.{Base, sum-base, dot-base}
+use Rattle.reduction.proofs.Loop.{Base, sum-base, dot-base, hundred-base}
 use Rattle.reduction.proofs.Gather.{nothing, nothing-is}
 
 mapped : {A B : Type 0} (g : A → B) (l : List A) (i : ℕ) (d : A) (e : B) → i < length l → getD (map g l) i e ≡ g (getD l i d)
@@ -42,10 +43,12 @@ mapped g (x ∷ l) zero d e h = refl
 mapped g (x ∷ l) (suc i) d e h = mapped g l i d e (le-of-suc-le-suc h)
 
 module _ (f : Format) (c : Settings) (u : Summand) (x y : List ℕ) where
-  pub items-base : (b : Bool) → FormatBounds f → length y ≡ length x → length x ≤ limit → 0 < topOf (terms (itemsOf b f c u x y))
-      → Base (digits f) (terms (itemsOf b f c u x y))
-  items-base true h e n g = dot-base f c x y h e n g
-  items-base false h e n g = sum-base f c u x h n g
+  -- what the passes add up, by whether it is of pairs, and by whether it is a hundred times each value
+  pub added-base : {p : ℕ} → p ≤ 64 → FormatBounds f → length y ≡ length x → length x ≤ limit → (b t : Bool) → 0 < topOf (terms (addedBy b t f c u x y))
+      → Base p (terms (addedBy b t f c u x y))
+  added-base d h e n true t g = dot-base d f h c x y e n g
+  added-base d h e n false true g = hundred-base d f h c x n g
+  added-base d h e n false false g = sum-base d f h c u x n g
 
   -- a format's items are what its kind has
   pub items-give : (b : Bool) → AllGive (kindOf (f .kind)) (itemsOf b f c u x y)
@@ -57,30 +60,39 @@ module _ (f : Format) (c : Settings) (u : Summand) (x y : List ℕ) where
 pub lists-alike : (s : Source) (lw lb rw′ rb : List ℕ) → length (elements s rw′ rb) ≡ length (elements s lw lb)
 lists-alike s lw lb rw′ rb = elements-length s rw′ rb ∙ sym (elements-length s lw lb)
 
-module _ (f : Format) (c : Settings) (s : Source) (lw lb : List ℕ) where
+module _ (s : Source) (lw lb : List ℕ) where
   -- there are as many as elements
-  pub element-items : (u : Summand) → length (map (item f c u) (elements s lw lb)) ≡ s .count
-  element-items u = length-map (elements s lw lb) (item f c u) ∙ elements-length s lw lb
+  pub element-items : (g : ℕ → Item) → length (map g (elements s lw lb)) ≡ s .count
+  element-items g = length-map (elements s lw lb) g ∙ elements-length s lw lb
 
+  inside : {i : ℕ} → i < s .count → i < length (elements s lw lb)
+  inside h = rw (elements-length s lw lb) h
+
+  -- the term of the element i stands for the item i
+  pub element-stands : {i x : ℕ} → i < s .count → x ≡ getD (elements s lw lb) i 0 → (t : Term) (g : ℕ → Item) → StandsFor t (g x)
+      → StandsFor t (getD (map g (elements s lw lb)) i nanItem)
+  element-stands {i} h e t g = subst (StandsFor t) (ap g e ∙ sym (mapped g (elements s lw lb) i 0 nanItem (inside h)))
+
+module _ (f : Format) (c : Settings) (s : Source) (lw lb : List ℕ) where
   pub pair-items : (rw′ rb : List ℕ) → length (map (pairItem f c) (pairs (elements s lw lb) (elements s rw′ rb))) ≡ s .count
   pair-items rw′ rb =
       let l = elements s lw lb in
       let r = elements s rw′ rb in
       length-map (pairs l r) (pairItem f c) ∙ pairs-length l r (sym (lists-alike s lw lb rw′ rb)) ∙ elements-length s lw lb
 
-  -- the term of the element i, or of the pair i, stands for the item i
   module _ {i x : ℕ} (h : i < s .count) (e : x ≡ getD (elements s lw lb) i 0) where
-    inside : i < length (elements s lw lb)
-    inside = rw (elements-length s lw lb) h
-
-    pub element-stands : (t : Term) (u : Summand) → StandsFor t (item f c u x) → StandsFor t (getD (map (item f c u) (elements s lw lb)) i nanItem)
-    element-stands t u = subst (StandsFor t) (ap (item f c u) e ∙ sym (mapped (item f c u) (elements s lw lb) i 0 nanItem inside))
-
     -- nothing stands for a blank one
     pub blank-stands : (u : Summand) {b : Bool} → b ≡ isBlank f x → b ≡ true → StandsFor nothing (getD (map (item f c u) (elements s lw lb)) i nanItem)
     unfolding item
-    blank-stands u a b = element-stands nothing u (none-stands u (operand f c x) nothing (operand-blank f c x (sym a ∙ b)) nothing-is refl)
+    blank-stands u a b =
+        element-stands s lw lb h e nothing (item f c u) (none-stands u (operand f c x) nothing (operand-blank f c x (sym a ∙ b)) nothing-is refl)
 
+    pub blank-hundred : {b : Bool} → b ≡ isBlank f x → b ≡ true → StandsFor nothing (getD (map (hundredItem f c) (elements s lw lb)) i nanItem)
+    unfolding hundredItem
+    blank-hundred a b =
+        element-stands s lw lb h e nothing (hundredItem f c) (no-hundred (operand f c x) nothing (operand-blank f c x (sym a ∙ b)) nothing-is refl)
+
+    -- the term of the pair i stands for the item i
     pub pair-stands-at : (t : Term) (rw′ rb : List ℕ) {y : ℕ} → y ≡ getD (elements s rw′ rb) i 0 → StandsFor t (pairItem f c (x, y))
         → StandsFor t (getD (map (pairItem f c) (pairs (elements s lw lb) (elements s rw′ rb))) i nanItem)
     pair-stands-at t rw′ rb g =
@@ -88,8 +100,8 @@ module _ (f : Format) (c : Settings) (s : Source) (lw lb : List ℕ) where
         let r = elements s rw′ rb in
         let n = lists-alike s lw lb rw′ rb in
         subst (StandsFor t)
-        (ap (pairItem f c) (ap₂ (λ a b. (a, b)) e g ∙ sym (pairs-at l r i n inside))
-        ∙ sym (mapped (pairItem f c) (pairs l r) i (0, 0) nanItem (rw (pairs-length l r (sym n)) inside)))
+        (ap (pairItem f c) (ap₂ (λ a b. (a, b)) e g ∙ sym (pairs-at l r i n (inside s lw lb h)))
+        ∙ sym (mapped (pairItem f c) (pairs l r) i (0, 0) nanItem (rw (pairs-length l r (sym n)) (inside s lw lb h))))
 
 -- ---- a walk that is accepted
 
@@ -102,6 +114,11 @@ module _ (f : Format) (c : Settings) (u : ℕ) (x y : List ℕ) where
   pub accepts : (b : Bool) → Accepted b f c u x y → Accepts f c (length x)
   accepts true e = let a = dot-accepts f c x y e in record { format = a .format; settings = a .settings; few = a .few }
   accepts false e = let a = sum-accepts f c u x e in record { format = a .format; settings = a .settings; few = a .few }
+
+  -- its passes add up its items
+  pub added-items : (b : Bool) → addedBy b false f c (summandOf u) x y ≡ itemsOf b f c (summandOf u) x y
+  added-items true = refl
+  added-items false = refl
 
   pub by-chain : (b : Bool) → Accepted b f c u x y → (sub products minus : Bool)
       → let ts = terms (itemsOf b f c (summandOf u) x y) in chainTotal f c sub products minus ts ≡ finiteTotal f c sub products minus ts

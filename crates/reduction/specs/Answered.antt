@@ -11,7 +11,11 @@ use Rattle.totals_spec.specs.Totals as totals
 use Rattle.format.specs.Joined.{unpackedOf}
 use Rattle.format.specs.Fits.{Encodes}
 use Rattle.exact.specs.declared.Rounded.{Rounded}
+use Rattle.exact.specs.declared.Unrounded.{Unrounded}
 use Rattle.exact.specs.Joined.{roundedOf}
+use Rattle.window.specs.declared.ExactSum.{ExactSum}
+use Rattle.window.specs.declared.Outcome.the-variants.{Zero}
+use Rattle.window.specs.Joined.{Leaves}
 use Rattle.reduction.specs.declared.total.Answer.{Answer}
 
 abbrev pub answerOf : Answer → totals.Answer
@@ -24,6 +28,10 @@ answerOf r = record {
   place = r .place;
   side = r .side;
 }
+
+-- what the end of a chain leaves to round, where the terms do not cancel
+abbrev pub LeftOf : ExactSum → Unrounded → Type 0
+LeftOf e v = (e .outcome ≡ Zero → ⊥) → Leaves e v
 
 -- the rounding of a signed sum x, which can be encoded, and leaves flag 128 free
 pub record RoundedSum (f : spec.Format) (c : env.Settings) (products : Bool) (x : Signed) (r : Rounded) : Type 0 where

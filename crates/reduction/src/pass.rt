@@ -1,9 +1,11 @@
 // What a pass starts and ends with, and the terms that it adds up.
 use arithmetic::Term;
 use arithmetic::both_plain;
+use arithmetic::looked_hundred;
 use arithmetic::looked_pair;
 use arithmetic::looked_term;
 use arithmetic::no_term;
+use arithmetic::plain_hundred;
 use arithmetic::plain_product;
 use arithmetic::plain_term;
 use binary::is_blank;
@@ -17,6 +19,7 @@ ghost use Prim.Native.Nat.{_<_};
 ghost use Rattle.limbs.specs.Value.{value, minus};
 ghost use Rattle.totals_spec.specs.Settings as env;
 ghost use Rattle.totals_spec.specs.Terms as terms;
+ghost use Rattle.totals_spec.specs.Hundredfold.{hundredItem};
 ghost use Rattle.totals_spec.specs.Bounds.{FormatBounds};
 ghost use Rattle.format.specs.Joined.{formatOf, settingsOf};
 ghost use Rattle.arithmetic.specs.Joined.{StandsFor};
@@ -47,6 +50,17 @@ pub fn element_term(f: Format, c: Settings, u: u64, x: u64) -> Term
         return plain_term(f, u, x);
     }
     looked_term(f, c, u, x)
+}
+
+// A hundred times an element of a list.
+pub fn hundred_term(f: Format, c: Settings, x: u64) -> Term
+    requires { ⌜ FormatBounds (formatOf f) ⌝ }
+    ensures { λ r. ⌜ StandsFor r (hundredItem (formatOf f) (settingsOf c) x) ⌝ }
+{
+    if is_plain(f, x) {
+        return plain_hundred(f, x);
+    }
+    looked_hundred(f, c, x)
 }
 
 // The term of a pair of a dot. Pairs with a zero, as of missing months, are common enough to be told at once.

@@ -1,6 +1,7 @@
 // From a scan and a chain of passes to the record of a total.
 use binary::encode;
 use exact::Rounded;
+use exact::Unrounded;
 use exact::round;
 use format::Format;
 use format::env::DENORMAL_INPUT;
@@ -20,7 +21,7 @@ use window::ExactSum;
 use window::Outcome;
 use window::near_boundary;
 ghost use mathlib.Core.Path.{_≡_};
-ghost use Prim.Native.Nat.{_^_, _<_};
+ghost use Prim.Native.Nat.{_^_, _<_, _≤_};
 ghost use lib.IntN.{subℕ};
 ghost use Rattle.totals_spec.specs.Format as spec;
 ghost use Rattle.totals_spec.specs.Totals as totals;
@@ -31,7 +32,7 @@ ghost use Rattle.totals_spec.specs.Bounds.{FormatBounds, RangeBounds, SettingsB
 ghost use Rattle.format.specs.Joined.{formatOf, settingsOf, unpackedOf};
 ghost use Rattle.format.specs.Fits.{Encodes};
 ghost use Rattle.window.specs.Joined.{outcomeOf, runOf, Ended};
-ghost use Rattle.reduction.specs.Answered.{answerOf, RoundedSum};
+ghost use Rattle.reduction.specs.Answered.{answerOf, LeftOf, RoundedSum};
 
 // Where a result lies beside the exact sum. A NaN or an infinity is not compared.
 pub const EQUAL: u64 = 0;
@@ -119,16 +120,33 @@ pub fn special(f: Format, subnormal: bool, v: Unpacked, invalid: bool) -> Answer
     }
 }
 
-// The exact sum, rounded once. Terms that cancel give a zero.
-fn round_sum(f: Format, c: Settings, products: bool, e: ExactSum) -> Rounded
-    requires { ⌜ RangeBounds (formatOf f) × SettingsBounds (formatOf f) (settingsOf c) × Ended (spec.digits (formatOf f)) e ⌝ }
+// The value that the end of a chain of p digits leaves to round; none where the terms cancel.
+pub fn left(p: u64, e: ExactSum) -> Unrounded
+    requires { ⌜ (p ≤ 64) × Ended p e ⌝ }
+    ensures { λ r. ⌜ LeftOf e r ⌝ }
+{
+    let o = e.outcome;
+    let Outcome::Zero = o else {
+        return near_boundary(e);
+    };
+    Unrounded {
+        negative: false,
+        sticky: false,
+        position: 0,
+        significand: [0; 12],
+    }
+}
+
+// The exact sum, of which v is left, rounded once. Terms that cancel give a zero.
+fn round_sum(f: Format, c: Settings, products: bool, e: ExactSum, v: Unrounded) -> Rounded
+    requires { ⌜ RangeBounds (formatOf f) × SettingsBounds (formatOf f) (settingsOf c) × Ended (spec.digits (formatOf f)) e × LeftOf e v ⌝ }
     ensures { λ r. ⌜ RoundedSum (formatOf f) (settingsOf c) products (totals.onGrid (formatOf f) products (settled.settled (outcomeOf e))) r ⌝ }
 {
     let o = e.outcome;
     let Outcome::Zero = o else {
-        let mut v = near_boundary(e);
-        v.position += rise(f, products);
-        return round(f, c, grid(f, products), v);
+        let mut w = v;
+        w.position += rise(f, products);
+        return round(f, c, grid(f, products), w);
     };
     Rounded {
         value: Unpacked::Zero(zero_sum_is_negative(c)),
@@ -144,21 +162,28 @@ fn position_of(at: u64, origin: u64) -> i64
     (at as i64) - (origin as i64)
 }
 
-// The record of a chain of passes.
-pub fn finish(f: Format, c: Settings, products: bool, subnormal: bool, e: ExactSum) -> Answer
-    requires { ⌜ FormatBounds (formatOf f) × SettingsBounds (formatOf f) (settingsOf c) × Ended (spec.digits (formatOf f)) e ⌝ }
+// The record of a chain of passes, which leaves v.
+pub fn finish(
+    f: Format,
+    c: Settings,
+    products: bool,
+    subnormal: bool,
+    e: ExactSum,
+    v: Unrounded,
+) -> Answer
+    requires { ⌜ FormatBounds (formatOf f) × SettingsBounds (formatOf f) (settingsOf c) × Ended (spec.digits (formatOf f)) e × LeftOf e v ⌝ }
     ensures { λ r. ⌜ answerOf r ≡ totals.reported (formatOf f) subnormal products (totals.onGrid (formatOf f) products (settled.settled (outcomeOf e))) (totals.sumRounded (formatOf f) (settingsOf c) (spec.grid (formatOf f) products) (totals.towardsNegative (settingsOf c)) (totals.onGrid (formatOf f) products (settled.settled (outcomeOf e)))) (runOf e) ⌝ }
 {
     let h = e.chain;
-    let r = round_sum(f, c, products, e);
-    let v = r.value;
+    let r = round_sum(f, c, products, e, v);
+    let x = r.value;
     Answer {
-        result: encode(f, v),
+        result: encode(f, x),
         flags: flag(DENORMAL_INPUT, subnormal) + r.flags,
         passes: h.passes,
         last_edge: position_of(h.edge + fall(f, products), origin(f, products)),
         refusal: 0,
         place: 0,
-        side: side_of(v, r.flags),
+        side: side_of(x, r.flags),
     }
 }

@@ -1,15 +1,12 @@
-// A total: one walk over its items for the scan, and one for each pass.
+// A chain of passes over the terms of a walk.
 use crate::pass::element_term;
 use crate::pass::finished;
+use crate::pass::hundred_term;
 use crate::pass::pair_term;
 use crate::pass::start as middle;
-use crate::total::Answer;
-use crate::total::finish;
-use crate::total::special;
 use binary::is_blank;
 use binary::is_plain;
 use format::Format;
-use format::digits;
 use format::env::Settings;
 use limbs::word::add_word;
 use limbs::word::larger;
@@ -17,9 +14,7 @@ use limbs_term::goes_on;
 use limbs_term::move_term;
 use limbs_term::settle;
 use limbs_term::settle_single;
-use scan::Early;
-use scan::decided;
-use scan::walk::scan;
+use values::HUNDREDFOLD;
 use values::Source;
 use values::Walk;
 use values::element;
@@ -31,17 +26,16 @@ use window::start;
 use window::window_part;
 ghost use mathlib.Core.Path.{_≡_};
 ghost use Prim.Native.Nat.{_<_, _≤_};
-ghost use Rattle.totals_spec.specs.Format as spec;
 ghost use Rattle.totals_spec.specs.Settings as env;
 ghost use Rattle.totals_spec.specs.Terms as terms;
 ghost use Rattle.totals_spec.specs.Totals as totals;
+ghost use Rattle.totals_spec.specs.Hundredfold.{hundredTerms};
 ghost use Rattle.totals_spec.specs.Bounds.{FormatBounds};
 ghost use Rattle.format.specs.Joined.{formatOf, settingsOf};
 ghost use Rattle.values.specs.Sources.{Within, elements};
-ghost use Rattle.values.specs.Walks.{isDot, items};
+ghost use Rattle.values.specs.Walks.{addedIn};
 ghost use Rattle.window.specs.Joined.{Passed};
 ghost use Rattle.reduction.specs.Held.{Sums};
-ghost use Rattle.reduction.specs.Answered.{answerOf, productsIn, firstIn, Accepted, answerIn};
 
 // One pass at the edge w over the values or magnitudes of a list: terms of one word, which reach two words of the window. Only these are stored, unless a
 // carry goes on. A zero, as of a missing month, ends its turn at once: where it is told, here and for squares, is what was measured to be fastest.
@@ -90,7 +84,7 @@ fn pass_singles(
     finished(total, lost)
 }
 
-// The same over squares: terms of two words, which reach three. The two loops over products are apart, so that neither tests for the other in each turn.
+// The same over squares: terms of two words, which reach three. The three loops over products are apart, so that none tests for another in each turn.
 fn pass_squares(f: Format, c: Settings, source: Source, words: &[u64], bytes: &[u8], w: u64) -> Pass
     requires { ⌜ FormatBounds (formatOf f) × Within source (now words) (now bytes) ⌝ }
     ensures { λ r. ⌜ Passed (totals.sumTerms (formatOf f) (settingsOf c) env.square (elements source (now (words .entry)) (now (bytes .entry)))) w r ⌝ }
@@ -107,6 +101,56 @@ fn pass_squares(f: Format, c: Settings, source: Source, words: &[u64], bytes: &[
             }
         }
         let t = element_term(f, c, 2, b);
+        i += 1;
+        let p = window_part(t, w);
+        lost = larger(lost, p.lost);
+        if !p.some {
+            continue;
+        }
+        let q = settle(p.low, p.high, p.up, t.negative);
+        if !q.inside {
+            continue;
+        }
+        let at = q.at;
+        let x = add_word(total[at], q.w0, q.carry);
+        let y = add_word(total[at + 1], q.w1, x.carry);
+        let z = add_word(total[at + 2], q.w2, y.carry);
+        if goes_on(t.negative, total[at + 2], z.word) {
+            let next = move_term(total, p.low, p.high, p.up, t.negative);
+            total = next;
+            continue;
+        }
+        total[at] = x.word;
+        total[at + 1] = y.word;
+        total[at + 2] = z.word;
+    }
+    finished(total, lost)
+}
+
+// And over the values a hundred times each, for pence.
+fn pass_hundreds(
+    f: Format,
+    c: Settings,
+    source: Source,
+    words: &[u64],
+    bytes: &[u8],
+    w: u64,
+) -> Pass
+    requires { ⌜ FormatBounds (formatOf f) × Within source (now words) (now bytes) ⌝ }
+    ensures { λ r. ⌜ Passed (hundredTerms (formatOf f) (settingsOf c) (elements source (now (words .entry)) (now (bytes .entry)))) w r ⌝ }
+{
+    let mut total = middle();
+    let mut lost: u64 = 0;
+    let mut i: usize = 0;
+    while i < source.count {
+        let a = element(source, words, bytes, i);
+        if !is_plain(f, a) {
+            if is_blank(f, a) {
+                i += 1;
+                continue;
+            }
+        }
+        let t = hundred_term(f, c, a);
         i += 1;
         let p = window_part(t, w);
         lost = larger(lost, p.lost);
@@ -190,9 +234,12 @@ fn pass(
     w: u64,
 ) -> Pass
     requires { ⌜ FormatBounds (formatOf f) × Within (k .source) (now «left_words») (now «left_bytes») × Within (k .source) (now «right_words») (now «right_bytes») ⌝ }
-    ensures { λ r. ⌜ Passed (terms.terms (items (formatOf f) (settingsOf c) k (now («left_words» .entry)) (now («left_bytes» .entry)) (now («right_words» .entry)) (now («right_bytes» .entry)))) w r ⌝ }
+    ensures { λ r. ⌜ Passed (terms.terms (addedIn (formatOf f) (settingsOf c) k (now («left_words» .entry)) (now («left_bytes» .entry)) (now («right_words» .entry)) (now («right_bytes» .entry)))) w r ⌝ }
 {
     let source = k.source;
+    if k.summand == HUNDREDFOLD {
+        return pass_hundreds(f, c, source, left_words, left_bytes, w);
+    }
     if k.summand == 3 {
         return pass_pairs(
             f,
@@ -211,8 +258,8 @@ fn pass(
     pass_squares(f, c, source, left_words, left_bytes, w)
 }
 
-// The exact sum of the terms, the highest of whose bits lies at `top`: pass after pass until one of them decides.
-fn exact(
+// The exact sum of the terms, the highest of whose bits lies at `top`: pass after pass until one of them decides its first p digits.
+pub fn exact(
     f: Format,
     c: Settings,
     k: Walk,
@@ -220,13 +267,13 @@ fn exact(
     left_bytes: &[u8],
     right_words: &[u64],
     right_bytes: &[u8],
+    p: u64,
     top: u64,
 ) -> ExactSum
-    requires { ⌜ FormatBounds (formatOf f) × Within (k .source) (now «left_words») (now «left_bytes») × Within (k .source) (now «right_words») (now «right_bytes») × (k .source .count ≤ totals.limit) ⌝ }
-    requires { ⌜ (top ≡ terms.topOf (terms.terms (items (formatOf f) (settingsOf c) k (now «left_words») (now «left_bytes») (now «right_words») (now «right_bytes»)))) × (0 < top) ⌝ }
-    ensures { λ r. ⌜ Sums (spec.digits (formatOf f)) (terms.terms (items (formatOf f) (settingsOf c) k (now («left_words» .entry)) (now («left_bytes» .entry)) (now («right_words» .entry)) (now («right_bytes» .entry)))) r ⌝ }
+    requires { ⌜ FormatBounds (formatOf f) × Within (k .source) (now «left_words») (now «left_bytes») × Within (k .source) (now «right_words») (now «right_bytes») × (k .source .count ≤ totals.limit) × (p ≤ 64) ⌝ }
+    requires { ⌜ (top ≡ terms.topOf (terms.terms (addedIn (formatOf f) (settingsOf c) k (now «left_words») (now «left_bytes») (now «right_words») (now «right_bytes»)))) × (0 < top) ⌝ }
+    ensures { λ r. ⌜ Sums p (terms.terms (addedIn (formatOf f) (settingsOf c) k (now («left_words» .entry)) (now («left_bytes» .entry)) (now («right_words» .entry)) (now («right_bytes» .entry)))) r ⌝ }
 {
-    let p = digits(f);
     let mut at = start(top);
     let outcome = loop {
         let q = pass(
@@ -248,54 +295,4 @@ fn exact(
         }
     };
     ExactSum { outcome, chain: at }
-}
-
-// Whether the terms are products.
-fn products(u: u64) -> bool
-    ensures { λ r. ⌜ r ≡ productsIn u ⌝ }
-{
-    u >= 2
-}
-
-// Whether an infinity comes before a quiet NaN.
-fn infinity_first(u: u64) -> bool
-    ensures { λ r. ⌜ r ≡ firstIn u ⌝ }
-{
-    if u == 3 {
-        return false;
-    }
-    u != 0
-}
-
-// The total of a walk that is accepted.
-pub fn total(
-    f: Format,
-    c: Settings,
-    k: Walk,
-    left_words: &[u64],
-    left_bytes: &[u8],
-    right_words: &[u64],
-    right_bytes: &[u8],
-) -> Answer
-    requires { ⌜ Within (k .source) (now «left_words») (now «left_bytes») × Within (k .source) (now «right_words») (now «right_bytes») ⌝ }
-    requires { ⌜ Accepted (isDot k) (formatOf f) (settingsOf c) (k .summand) (elements (k .source) (now «left_words») (now «left_bytes»)) (elements (k .source) (now «right_words») (now «right_bytes»)) ⌝ }
-    ensures { λ r. ⌜ answerOf r ≡ answerIn (isDot k) (formatOf f) (settingsOf c) (env.summandOf (k .summand)) (elements (k .source) (now («left_words» .entry)) (now («left_bytes» .entry))) (elements (k .source) (now («right_words» .entry)) (now («right_bytes» .entry))) ⌝ }
-{
-    let s = scan(f, c, k, left_words, left_bytes, right_words, right_bytes);
-    match decided(c, infinity_first(k.summand), s) {
-        Early::Given(v, invalid) => special(f, s.subnormal, v, invalid),
-        Early::Terms => {
-            let e = exact(
-                f,
-                c,
-                k,
-                left_words,
-                left_bytes,
-                right_words,
-                right_bytes,
-                s.top,
-            );
-            finish(f, c, products(k.summand), s.subnormal, e)
-        }
-    }
 }

@@ -1,13 +1,17 @@
-// Replays the cases of standard input: works each one out over words, over bytes and through a byte entry, compares the answers with those that
-// its row holds, and prints how many agree. cases.py makes the list, and says how it is laid out; README.md says where the answers come from.
+// Replays the cases of standard input: works each one out, compares the answer with the one that its row holds, and prints how many agree. Totals are
+// worked out over words, over bytes and through a byte entry, the pence of a list by the function and through its entry. cases.py makes the list, and
+// says how it is laid out; README.md says where the answers come from.
 mod counts;
 mod figures;
+mod lists;
 mod row;
 mod ways;
 
 use counts::counts;
 use figures::figures;
 use hex::number;
+use lists::lists;
+use lists::misnamed;
 use row::BIASED;
 use row::LONG;
 use row::ROW;
@@ -136,17 +140,33 @@ fn sections(n: u64) -> Agreed
     all
 }
 
-// Reads the rows of pence, their number first, and prints how many agree.
-fn report_figures(name: &[u8], biased: bool) {
+// The number of the rows of pence that follow.
+fn next_count() -> u64
+    ensures { λ r. ⌜ r < 65536 ⌝ }
+{
     let mut head = [0u8; 5];
     io::read_full(0, &mut head);
-    let n = number(&head, 0, 4) % 65536;
-    let agreed = figures(n, biased);
+    number(&head, 0, 4) % 65536
+}
+
+fn report_of(name: &[u8], agreed: u64, n: u64) {
     io::write_all(1, name);
     io::print_decimal(1, agreed);
     io::write_all(1, b" of ");
     io::print_decimal(1, n);
     io::write_all(1, b" agree\n");
+}
+
+// Reads the rows of the pence of one encoding, their number first, and prints how many agree.
+fn report_figures(name: &[u8], biased: bool) {
+    let n = next_count();
+    report_of(name, figures(n, biased), n);
+}
+
+// The same of the rows of the pence of lists.
+fn report_lists(name: &[u8], biased: bool) {
+    let n = next_count();
+    report_of(name, lists(n, biased), n);
 }
 
 fn main() {
@@ -155,9 +175,18 @@ fn main() {
     let all = sections(number(&head, 0, 2) % 256);
     io::write_all(1, b"all of these ...............................");
     report(all);
-    io::write_all(1, b"refusals by the number of elements ......... ");
-    io::print_decimal(1, counts());
-    io::write_all(1, b" of 12 agree\n");
+    report_of(
+        b"refusals by the number of elements ......... ",
+        counts(),
+        12,
+    );
     report_figures(b"pence of one encoding ...................... ", false);
     report_figures(b"pence of one encoding, a bias named ........ ", true);
+    report_lists(b"pence of lists ............................. ", false);
+    report_lists(b"pence of lists, a bias named ............... ", true);
+    report_of(
+        b"pence of lists, a bias misnamed ............ ",
+        misnamed(),
+        8,
+    );
 }

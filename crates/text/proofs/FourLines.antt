@@ -7,9 +7,9 @@ use lib.IntN.{ℤ}
 use lib.Signed.{mag}
 use mir.Syntax.{w64}
 use mir.Val.{toZ, ofZ}
-use Rattle.totals_spec.specs.Pence.{penceAnswer}
+use Rattle.totals_spec.specs.Pence.{Pence}
 use Rattle.totals_spec.specs.Totals.{Answer}
-use Rattle.totals_spec.specs.Program.{hexText, decimalText, penceText, lineEnd, answerText, programFormat}
+use Rattle.totals_spec.specs.Program.{hexText, decimalText, penceText, lineEnd, answerText}
 use Rattle.text.specs.declared.write.Text.{Text}
 use Rattle.text.specs.Holds.{Holds, Puts}
 use Rattle.text.specs.FourLines.{penceFrom, fourLines}
@@ -40,10 +40,10 @@ pub figure-read : {t r : Text} (z : ℤ) (n : ℕ) → mag z < 2 ^ 63 → Puts t
     → Puts t (penceText (penceFrom z n)) r
 figure-read z n h p = puts-same (ap (λ (y : ℤ). penceText (penceFrom y n)) (read z h)) p
 
--- the four lines are the answer's text where the figure and the refusal are those of its result's pence
-pub answer-is : (a : Answer) (z : ℤ) (n : ℕ) → z ≡ penceAnswer programFormat (a .result) .figure → n ≡ penceAnswer programFormat (a .result) .refusal
-    → fourLines (a .result) (a .flags) (a .passes) (penceFrom z n) ≡ answerText a
+-- the four lines are the text of an answer and of a record of pence, by its figure and its refusal
+pub answer-is : (a : Answer) (p : Pence) (z : ℤ) (n : ℕ) → z ≡ p .figure → n ≡ p .refusal
+    → fourLines (a .result) (a .flags) (a .passes) (penceFrom z n) ≡ answerText a p
 unfolding answerText
-answer-is a z n e f =
+answer-is a p z n e f =
     ap (λ (s : List ℕ). hexText 16 (a .result) ++ (lineEnd ++ (hexText 2 (a .flags) ++ (lineEnd ++ (decimalText (a .passes) ++ (lineEnd ++ (s ++ lineEnd)))))))
-    (pence-same (penceAnswer programFormat (a .result)) z n e f)
+    (pence-same p z n e f)

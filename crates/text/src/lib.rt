@@ -10,15 +10,16 @@ use crate::write::refused_line;
 use format::Format;
 use format::Named;
 use format::env::Settings;
-use totals::pence::pence_of;
+use totals::pence::pence_of_sum;
 use totals::sum;
 ghost use Rattle.totals_spec.specs.Program.{programFormat, programSettings, answerText, programText};
 ghost use Rattle.totals_spec.specs.Totals.{sumAnswer};
+ghost use Rattle.totals_spec.specs.Pence.{sumPence};
 ghost use Rattle.text.specs.Holds.{Holds};
 
 // The text of the sum of some binary64 numbers. Every setting is 0 but the tininess.
 fn sum_text(values: &[u64]) -> Text
-    ensures { λ r. ⌜ Holds r (answerText (sumAnswer programFormat programSettings 0 (now (values .entry)))) ⌝ }
+    ensures { λ r. ⌜ Holds r (answerText (sumAnswer programFormat programSettings 0 (now (values .entry))) (sumPence programFormat (now (values .entry)))) ⌝ }
 {
     let f = Format {
         kind: 0,
@@ -37,7 +38,7 @@ fn sum_text(values: &[u64]) -> Text
         precision: 0,
     };
     let a = sum(f, c, 0, values);
-    let p = pence_of(f, a.result);
+    let p = pence_of_sum(f, values);
     answer_lines(a.result, a.flags, a.passes, p.figure, p.refusal)
 }
 

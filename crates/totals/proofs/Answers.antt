@@ -67,11 +67,14 @@ sum-stopped f c u n l long k q g = rw long (stopped _ (sum-tests f c u n) (first
 
 -- the summand 3 is the dot's
 module _ (f : Format) (c : Settings) (u n : ℕ) (e : sumNumbers f c u n ≡ 0) where
-  no-dot : eqb u 3 ≡ false
+  pub summand-le : u ≤ 2
   unfolding sumNumbers
-  no-dot =
+  summand-le =
       let t = valid-of (validSettings f c && leb u 2) 3 _ (first-zero (not (validFormat f)) 2 _ e .1) in
-      ne-eqb u 3 (λ z. omega (arith, z, leb→le u 2 (and-right (validSettings f c) (leb u 2) t)))
+      leb→le u 2 (and-right (validSettings f c) (leb u 2) t)
+
+  no-dot : eqb u 3 ≡ false
+  no-dot = ne-eqb u 3 (λ z. omega (arith, z, summand-le))
 
   pub sum-asked : numbersIn (eqb u 3) f c u n ≡ 0
   sum-asked = rw no-dot e

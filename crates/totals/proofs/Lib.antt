@@ -2,4 +2,6 @@ pub mod Search
 pub mod Written
 mod Answers
 pub mod Figures
-mod Whole
+mod Counted
+mod Totalled
+mod Listed

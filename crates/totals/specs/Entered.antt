@@ -10,10 +10,16 @@ use Rattle.totals_spec.specs.Format.{Format}
 use Rattle.totals_spec.specs.Settings.{Settings}
 use Rattle.totals_spec.specs.Totals.{Answer}
 use Rattle.totals_spec.specs.Bytes.{Entry}
+use Rattle.totals_spec.specs.Words.{FigureEntry}
 
 pub record Enters (e : Entry) (code : ℕ) (buffer : List ℕ) : Type 0 where
   pub code-is : code ≡ e .code
   pub buffer-is : buffer ≡ e .buffer
+
+-- the same of an entry that lends the place of one figure
+pub record EntersFigure (e : FigureEntry) (code : ℕ) (figure : ℤ) : Type 0 where
+  pub code-is : code ≡ e .code
+  pub figure-is : figure ≡ e .figure
 
 -- a record that can be entered: the buffer has room for it, and each field fits where it is written
 pub record Fits (a : Answer) (buffer : List ℕ) : Type 0 where

@@ -3,3 +3,4 @@ pub mod Stray
 pub mod Walked
 pub mod Entered
 pub mod PenceRecord
+pub mod Reported

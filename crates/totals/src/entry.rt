@@ -1,16 +1,19 @@
 // The byte entries, for callers in other languages.
 use crate::dot_bytes;
+use crate::pence::pence_of_sum;
 use crate::sum_bytes;
 use format::Format;
 use format::Named;
 use format::env::Settings;
+use limbs::word::magnitude;
 use reduction::total::Answer;
 use values::put_word;
 ghost use mathlib.Core.Path.{_≡_};
 ghost use Rattle.totals_spec.specs.Bytes as bytes;
+ghost use Rattle.totals_spec.specs.Words as words;
 ghost use Rattle.format.specs.Joined.{formatOf, settingsOf};
 ghost use Rattle.reduction.specs.Answered.{answerOf};
-ghost use Rattle.totals.specs.Entered.{Enters, Fits, formatFrom, formatWith, biasedFrom, settingsFrom};
+ghost use Rattle.totals.specs.Entered.{Enters, EntersFigure, Fits, formatFrom, formatWith, biasedFrom, settingsFrom};
 
 // The side is the third byte of its word, above the flags.
 const SIDE: u64 = 65536;
@@ -318,4 +321,40 @@ pub extern "C" fn totals_dot_biased(
         right,
         answer,
     )
+}
+
+// The bias of a format as a caller names it: 1 and the bias, or 0 and 0. Anything else was not set up as a whole, and either reading would be a guess.
+fn misnamed(bias_named: u64, bias: i64) -> bool
+    ensures { λ r. ⌜ r ≡ words.misnamed «bias_named» bias ⌝ }
+{
+    if bias_named == 0 {
+        return magnitude(bias) != 0;
+    }
+    bias_named > 1
+}
+
+// The pence of the exact sum of a list of words.
+#[no_mangle]
+pub extern "C" fn totals_pence(
+    kind: u64,
+    exponent_bits: u64,
+    width: u64,
+    bias_named: u64,
+    bias: i64,
+    values: &[u64],
+    figure: &mut i64,
+) -> u64
+    ensures { λ r. ⌜ EntersFigure (words.penceEntry kind «exponent_bits» width «bias_named» bias (now (values .entry)) (now (figure .entry))) r (now (figure .exit)) ⌝ }
+{
+    if misnamed(bias_named, bias) {
+        return 3;
+    }
+    let f = format_with(kind, exponent_bits, width, bias_named == 1, bias);
+    let p = pence_of_sum(f, values);
+    if p.refusal != 0 {
+        return p.refusal + 256 * p.place;
+    }
+    let n = p.figure;
+    *figure = n;
+    0
 }

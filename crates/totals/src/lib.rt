@@ -3,6 +3,7 @@ pub mod entry;
 mod lists;
 pub mod pence;
 pub mod refusal;
+mod report;
 mod stray;
 
 use crate::refusal::dot_refusal;

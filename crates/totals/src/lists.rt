@@ -1,27 +1,44 @@
 // The answers of lists that pass the tests that do not look at the elements: of the sum of the values, magnitudes or squares of the left list, or of the
-// products (u = 3) of the pairs.
+// products (u = 3) of the pairs; and the pence (u = 4) of the left list.
+use crate::pence::Pence;
+use crate::report::Report;
+use crate::report::answer_of;
+use crate::report::decided_by;
+use crate::report::digits_for;
+use crate::report::early;
+use crate::report::ended;
+use crate::report::pence_of;
+use crate::report::scanned;
+use crate::report::strayed;
+use crate::report::top_for;
 use crate::stray::Found;
 use crate::stray::walk_stray;
 use format::Format;
 use format::env::Settings;
 use reduction::total::Answer;
-use reduction::total::refused;
-use reduction::walk::total;
+use reduction::total::left;
+use reduction::walk::exact;
+use scan::Early;
+use scan::walk::scan;
+use values::HUNDREDFOLD;
 use values::Walk;
 use values::whole;
 ghost use mathlib.Core.Path.{_≡_};
 ghost use Prim.Native.Nat.{_/_};
 ghost use lib.Dec.{eqb};
 ghost use lib.ListN.{length};
+ghost use mathlib.Core.Bool.{true, false};
 ghost use Rattle.totals_spec.specs.Bytes.{valuesIn};
 ghost use Rattle.format.specs.Joined.{formatOf, settingsOf};
-ghost use Rattle.values.specs.Sources.{Within, elements};
-ghost use Rattle.values.specs.Walks.{isDot};
+ghost use Rattle.values.specs.Sources.{Within, elements, laidOut};
+ghost use Rattle.values.specs.Walks.{isDot, isHundred};
 ghost use Rattle.reduction.specs.Answered.{answerOf};
+ghost use Rattle.totals.specs.PenceRecord.{penceRecord, listPence};
 ghost use Rattle.totals.specs.Walked.{numbersIn, answerTo};
+ghost use Rattle.totals.specs.Reported.{TotalAsks, TotalTells, ListAsks, ListTells};
 
-// Of the lists of a walk.
-fn walked(
+// Of the lists of a walk, which have no stray bit: a scan, and a chain of passes where that decides nothing.
+fn total(
     f: Format,
     c: Settings,
     k: Walk,
@@ -29,24 +46,71 @@ fn walked(
     left_bytes: &[u8],
     right_words: &[u64],
     right_bytes: &[u8],
-) -> Answer
+) -> Report
     requires { ⌜ Within (k .source) (now «left_words») (now «left_bytes») × Within (k .source) (now «right_words») (now «right_bytes») ⌝ }
-    requires { ⌜ numbersIn (isDot k) (formatOf f) (settingsOf c) (k .summand) (k .source .count) ≡ 0 ⌝ }
-    ensures { λ r. ⌜ answerOf r ≡ answerTo (isDot k) (formatOf f) (settingsOf c) (k .summand) (elements (k .source) (now («left_words» .entry)) (now («left_bytes» .entry))) (elements (k .source) (now («right_words» .entry)) (now («right_bytes» .entry))) ⌝ }
+    requires { ⌜ TotalAsks (isHundred k) (isDot k) (formatOf f) (settingsOf c) (k .summand) (elements (k .source) (now «left_words») (now «left_bytes»)) (elements (k .source) (now «right_words») (now «right_bytes»)) ⌝ }
+    ensures { λ r. ⌜ TotalTells (isHundred k) (isDot k) (formatOf f) (settingsOf c) (k .summand) (elements (k .source) (now («left_words» .entry)) (now («left_bytes» .entry))) (elements (k .source) (now («right_words» .entry)) (now («right_bytes» .entry))) r ⌝ }
 {
+    let s = scan(
+        f,
+        c,
+        scanned(k),
+        left_words,
+        left_bytes,
+        right_words,
+        right_bytes,
+    );
+    match decided_by(c, k.summand, s) {
+        Early::Given(v, invalid) => early(f, k.summand, s.subnormal, v, invalid),
+        Early::Terms => {
+            let p = digits_for(f, k.summand);
+            let e = exact(
+                f,
+                c,
+                k,
+                left_words,
+                left_bytes,
+                right_words,
+                right_bytes,
+                p,
+                top_for(k.summand, s.top),
+            );
+            let rest = left(p, e);
+            ended(f, c, k.summand, s.subnormal, e, rest)
+        }
+    }
+}
+
+// Of whole lists: of words (layout 0), or of values in bytes.
+fn listed(
+    f: Format,
+    c: Settings,
+    u: u64,
+    layout: u64,
+    count: usize,
+    left_words: &[u64],
+    left_bytes: &[u8],
+    right_words: &[u64],
+    right_bytes: &[u8],
+) -> Report
+    requires { ⌜ (count ≡ length (laidOut (eqb layout 0) (now «left_words») (now «left_bytes»))) × (count ≡ length (laidOut (eqb layout 0) (now «right_words») (now «right_bytes»))) ⌝ }
+    requires { ⌜ ListAsks (eqb u 4) (eqb u 3) (formatOf f) (settingsOf c) u count ⌝ }
+    ensures { λ r. ⌜ ListTells (eqb u 4) (eqb u 3) (formatOf f) (settingsOf c) u (laidOut (eqb layout 0) (now («left_words» .entry)) (now («left_bytes» .entry))) (laidOut (eqb layout 0) (now («right_words» .entry)) (now («right_bytes» .entry))) r ⌝ }
+{
+    let k = whole(u, layout, count);
     match walk_stray(f.width, k, left_words, left_bytes, right_words, right_bytes) {
-        Found::At(i) => refused(7, i as u64),
+        Found::At(i) => strayed(i),
         Found::Nothing => total(f, c, k, left_words, left_bytes, right_words, right_bytes),
     }
 }
 
-// Of whole lists of words, and of values in bytes.
+// A total of words, and of values in bytes.
 pub fn words(f: Format, c: Settings, u: u64, left: &[u64], right: &[u64]) -> Answer
     requires { ⌜ length (now right) ≡ length (now left) ⌝ }
     requires { ⌜ numbersIn (eqb u 3) (formatOf f) (settingsOf c) u (length (now left)) ≡ 0 ⌝ }
     ensures { λ r. ⌜ answerOf r ≡ answerTo (eqb u 3) (formatOf f) (settingsOf c) u (now (left .entry)) (now (right .entry)) ⌝ }
 {
-    walked(f, c, whole(u, 0, left.len()), left, b"", right, b"")
+    answer_of(listed(f, c, u, 0, left.len(), left, b"", right, b""))
 }
 
 pub fn bytes(f: Format, c: Settings, u: u64, left: &[u8], right: &[u8]) -> Answer
@@ -55,5 +119,13 @@ pub fn bytes(f: Format, c: Settings, u: u64, left: &[u8], right: &[u8]) -> Answe
     ensures { λ r. ⌜ answerOf r ≡ answerTo (eqb u 3) (formatOf f) (settingsOf c) u (valuesIn (now (left .entry))) (valuesIn (now (right .entry))) ⌝ }
 {
     let none = [0u64; 1];
-    walked(f, c, whole(u, 1, left.len() / 8), &none, left, &none, right)
+    answer_of(listed(f, c, u, 1, left.len() / 8, &none, left, &none, right))
+}
+
+// The pence of a list of words.
+pub fn pence(f: Format, c: Settings, values: &[u64]) -> Pence
+    requires { ⌜ ListAsks true false (formatOf f) (settingsOf c) 4 (length (now values)) ⌝ }
+    ensures { λ r. ⌜ penceRecord r ≡ listPence (formatOf f) (now (values .entry)) ⌝ }
+{
+    pence_of(listed(f, c, HUNDREDFOLD, 0, values.len(), values, b"", values, b""))
 }

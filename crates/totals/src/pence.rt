@@ -1,22 +1,41 @@
-// Pence: a hundred times the number that an encoding stands for, rounded to an integer, half a penny away from zero.
+// Pence: a hundred times a number, rounded to an integer, half a penny away from zero. Of the number that an encoding stands for, and of the exact sum of
+// a list.
+use crate::lists;
+use crate::refusal::LIMIT;
 use crate::stray::greatest;
 use binary::decode;
+use exact::Unrounded;
+use exact::length;
+use exact::rounding::rounds_up;
 use format::Format;
 use format::depth;
+use format::env::Settings;
+use format::env::flag;
+use format::fall;
 use format::lift;
+use format::origin;
 use format::unpacked::Unpacked;
 use format::valid_format;
 use limbs::pair;
 use limbs::word::scaled;
 use limbs::word::widening_mul;
+use window::ExactSum;
+use window::Outcome;
 ghost use mathlib.Core.Path.{_≡_};
 ghost use mathlib.Core.Bool.{cond};
-ghost use Prim.Native.Nat.{_+_, _*_, _/_, _^_, _<_, _≤_, min};
+ghost use Prim.Native.Nat.{ℕ, _+_, _*_, _/_, _^_, _<_, _≤_, min};
 ghost use lib.IntN.{pos, negℤ};
+ghost use Rattle.totals_spec.specs.Bounds.{RangeBounds};
+ghost use Rattle.totals_spec.specs.Settings.{noSettings};
+ghost use Rattle.totals_spec.specs.Settled.{settled};
 ghost use Rattle.totals_spec.specs.Pence as spec;
-ghost use Rattle.format.specs.Joined.{formatOf, unpackedOf};
+ghost use Rattle.totals_spec.specs.Hundredfold.{wholeFigure};
+ghost use Rattle.format.specs.Joined.{formatOf, settingsOf, unpackedOf};
+ghost use Rattle.exact.specs.Joined.{Stands};
 ghost use Rattle.arithmetic.specs.Joined.{Bounded};
-ghost use Rattle.totals.specs.PenceRecord.{penceRecord};
+ghost use Rattle.window.specs.Joined.{outcomeOf, Ended};
+ghost use Rattle.reduction.specs.Answered.{LeftOf};
+ghost use Rattle.totals.specs.PenceRecord.{penceRecord, Countable};
 
 // The record of a pence figure.
 pub struct Pence {
@@ -28,14 +47,17 @@ pub struct Pence {
 // 2^63, the least magnitude that is refused.
 const TOO_LARGE: u64 = 9223372036854775808;
 
+// The rounding mode in which half a penny goes away from zero.
+const TIES_TO_AWAY: u64 = 1;
+
 // A refused call.
-fn refused(refusal: u64) -> Pence
-    ensures { λ r. ⌜ penceRecord r ≡ spec.refusedPence refusal ⌝ }
+pub fn refused(refusal: u64, place: u64) -> Pence
+    ensures { λ r. ⌜ penceRecord r ≡ spec.refusedAt refusal place ⌝ }
 {
     Pence {
         figure: 0,
         refusal,
-        place: 0,
+        place,
     }
 }
 
@@ -77,11 +99,11 @@ fn signed(negative: bool, n: u64) -> i64
 }
 
 // The record of a sign and a magnitude.
-fn in_range(negative: bool, n: u64) -> Pence
+pub fn in_range(negative: bool, n: u64) -> Pence
     ensures { λ r. ⌜ penceRecord r ≡ spec.inRange negative n ⌝ }
 {
     if n >= TOO_LARGE {
-        return refused(8);
+        return refused(8, 0);
     }
     Pence {
         figure: signed(negative, n),
@@ -102,12 +124,12 @@ fn figure_of(d: u64, n: u64, v: Unpacked) -> Pence
             shift,
             significand,
         } => in_range(negative, magnitude(d, shift + n, significand)),
-        Unpacked::Infinity(_) => refused(8),
+        Unpacked::Infinity(_) => refused(8, 0),
         Unpacked::Nan {
             negative: _,
             signaling: _,
             payload: _,
-        } => refused(8),
+        } => refused(8, 0),
     }
 }
 
@@ -116,10 +138,70 @@ pub fn pence_of(f: Format, b: u64) -> Pence
     ensures { λ r. ⌜ penceRecord r ≡ spec.penceAnswer (formatOf f) b ⌝ }
 {
     if !valid_format(f) {
-        return refused(3);
+        return refused(3, 0);
     }
     if b > greatest(f.width) {
-        return refused(7);
+        return refused(7, 0);
     }
     figure_of(depth(f), lift(f), decode(f, b))
+}
+
+// The figure of a sum in pence. What has its highest bit at 2^63 pence or above is too large; of all else the whole pence fit a word, with room for one
+// more.
+fn nearest(f: Format, v: Unrounded) -> Pence
+    requires { ⌜ RangeBounds (formatOf f) × Countable v ⌝ }
+    ensures { λ r. ⌜ ((x : ℕ) → Stands v x → penceRecord r ≡ wholeFigure (formatOf f) (record { neg = v .negative; mag = x })) ⌝ }
+{
+    let one = origin(f, false);
+    let down = fall(f, false);
+    let s = v.significand;
+    let end = v.position + length(s);
+    if end + down > one + 63 {
+        return refused(8, 0);
+    }
+    let whole = v.cut(one - down);
+    let d = whole.dropped;
+    let up = rounds_up(TIES_TO_AWAY, v.negative, whole.kept, d);
+    in_range(v.negative, whole.kept + flag(1, up))
+}
+
+// The figure of the end of a chain over hundredfold terms, which leaves v.
+pub fn whole_pence(f: Format, e: ExactSum, v: Unrounded) -> Pence
+    requires { ⌜ RangeBounds (formatOf f) × Ended 64 e × LeftOf e v ⌝ }
+    ensures { λ r. ⌜ penceRecord r ≡ wholeFigure (formatOf f) (settled (outcomeOf e)) ⌝ }
+{
+    let o = e.outcome;
+    let Outcome::Zero = o else {
+        return nearest(f, v);
+    };
+    in_range(false, 0)
+}
+
+// Every setting 0: a list's pence take none.
+fn no_settings() -> Settings
+    ensures { λ r. ⌜ settingsOf r ≡ noSettings ⌝ }
+{
+    Settings {
+        rounding: 0,
+        tininess: 0,
+        nan_propagation: 0,
+        default_nan_negative: 0,
+        flush_to_zero: 0,
+        denormals_are_zero: 0,
+        saturate: 0,
+        precision: 0,
+    }
+}
+
+// The pence of the exact sum of a list, or why there are none.
+pub fn pence_of_sum(f: Format, values: &[u64]) -> Pence
+    ensures { λ r. ⌜ penceRecord r ≡ spec.sumPence (formatOf f) (now (values .entry)) ⌝ }
+{
+    if !valid_format(f) {
+        return refused(3, 0);
+    }
+    if values.len() > LIMIT {
+        return refused(6, 0);
+    }
+    lists::pence(f, no_settings(), values)
 }

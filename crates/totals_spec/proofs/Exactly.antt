@@ -19,12 +19,15 @@ use Rattle.totals_spec.specs.Decode.{Unpacked, zeroOf, finite, infinity,
 use Rattle.totals_spec.specs.Terms.{exactSum}
 use Rattle.totals_spec.specs.Totals.{Answer, stray, limit, refuseIf, firstIndex, sumTerms, sumRefusal, sumAnswer, dotRefusal, dotAnswer}
 use Rattle.totals_spec.specs.Bytes.{Entry, valuesIn, uneven, short, entered, written, sumEntry, dotEntry}
-use Rattle.totals_spec.specs.Pence.{Pence, refusedPence, penceOf, figureOf, penceAnswer, notNumber, sumFigure, sumPence}
+use Rattle.totals_spec.specs.Pence.{Pence, refusedPence, refusedAt, penceOf, figureOf, penceAnswer, notNumber, sumFigure, sumPence}
+use Rattle.totals_spec.specs.Words.{misnamed, formatBy, FigureEntry, figureEntered, penceEntry}
 use Rattle.totals_spec.specs.Conditions.{Uneven, Short, FarBias, BadFormat, BadSettings, BadSummand, Unequal, TooMany, StrayBit, Stray, NoPence, NoNumber}
-use Rattle.totals_spec.specs.Conditions.{Condition, First, sumConditions, dotConditions, entryConditions}
+use Rattle.totals_spec.specs.Conditions.{Condition, First, Misnamed, sumConditions, dotConditions, entryConditions, sumPenceConditions}
 use Rattle.totals_spec.specs.Promises.{Sum-refused-exactly, Dot-refused-exactly, Entry-refused-exactly, Pence-refused-exactly, Sum-pence-refused-exactly}
+use Rattle.totals_spec.specs.Promises.{Pence-entry-refused-exactly}
 use Rattle.totals_spec.proofs.Bits.{T-of}
 use Rattle.totals_spec.proofs.Valid.{format-bounds, settings-bounds}
+use Rattle.totals_spec.proofs.SumPence.{sum-pence-number}
 use Rattle.totals_spec.proofs.Refused.{sum-refusal, dot-refusal, sum-small, dot-small}
 
 -- ---- tests in their order, each of which finds a condition, and the number of the first that is true
@@ -322,13 +325,46 @@ either-tests true b z t u = test true (either true (not b) t u) last
 either-tests false true z t u = test false (either false false t u) last
 either-tests false false z t u = test true (either false true t u) last
 
-pub sum-pence-refused-exactly : Sum-pence-refused-exactly
+sum-pence-tests : (f : Format) (l : List ℕ) → Tests (sumPenceConditions f l) ((sumPence f l) .refusal)
 unfolding sumPence sumFigure
-sum-pence-refused-exactly f l n =
+sum-pence-tests f l =
     let sum = exactSum (sumTerms f noSettings value l) in
     let x = penceOf (origin f false) (fall f false) (sum .mag) in
-    exactly (refuses (not (validFormat f)) (refusedPence 3) _ (format-fails f)
+    refuses (not (validFormat f)) (refusedPence 3) _ (format-fails f)
     (refuses (ltb limit (length l)) (refusedPence 6) _ (many-found l)
-    (refuses (any (stray f) l) (record { figure = pos 0; refusal = 7; place = firstIndex (stray f) l }) _ (stray-found f l)
+    (refuses (any (stray f) l) (refusedAt 7 (firstIndex (stray f) l)) _ (stray-found f l)
     (either-tests (any (notNumber f) l) (ltb x (2 ^ 63)) (cond (sum .neg) (negℤ (pos x)) (pos x))
-    (some-found (notNumber f) (λ b. NoNumber (decode f b)) (λ b. no-number-found (decode f b)) l) (large-found x))))) n
+    (some-found (notNumber f) (λ b. NoNumber (decode f b)) (λ b. no-number-found (decode f b)) l) (large-found x))))
+
+pub sum-pence-refused-exactly : Sum-pence-refused-exactly
+sum-pence-refused-exactly f l n = exactly (sum-pence-tests f l) n
+
+-- ---- and of its entry
+
+both : (a b : Bool) {A B : Type 0} → T a ↔ A → T b ↔ B → T (a && b) ↔ A × B
+both true b h k = ((λ t. (h .0 tt, k .0 t)), λ p. k .1 (p .1))
+both false b h k = (absurd, λ p. absurd (h .1 (p .0)))
+
+misnamed-found : (named : ℕ) (b : ℤ) → T (misnamed named b) ↔ Misnamed named b
+misnamed-found named b =
+    either (ltb 1 named) (eqb named 0 && not (eqb (natAbs b) 0)) (ltb→lt 1 named, lt→ltb 1 named)
+    (both (eqb named 0) (not (eqb (natAbs b) 0)) (eqb→eq named 0, λ e. T-of (eq-eqb named 0 e)) (different (natAbs b) 0))
+
+-- by the test of its own and the record
+figure-number : (a : Bool) (p : Pence) (old : ℤ) → p .refusal < 256
+    → (cond a (record { code = 3; figure = old }) (figureEntered p old)) .code % 256 ≡ refuseIf a 3 (p .refusal)
+figure-number true p old h = refl
+figure-number false p old h = go (eqb (p .refusal) 0) (eqb→eq (p .refusal) 0)
+  where
+    go : (t : Bool) → (T t → p .refusal ≡ 0)
+        → (cond {A = FigureEntry} t (record { code = 0; figure = p .figure }) (record { code = p .refusal + 256 * p .place; figure = old })) .code % 256
+        ≡ p .refusal
+    go true e = sym (e tt)
+    go false e = omega (arith, h)
+
+pub pence-entry-refused-exactly : Pence-entry-refused-exactly
+unfolding penceEntry
+pence-entry-refused-exactly k e w named b l old n =
+    let f = formatBy k e w named b in
+    rw (figure-number (misnamed named b) (sumPence f l) old (sum-pence-number f l))
+    (exactly (test (misnamed named b) (misnamed-found named b) (sum-pence-tests f l)) n)

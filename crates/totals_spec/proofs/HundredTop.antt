@@ -6,8 +6,8 @@ use native.Mathlib.Omega.{arith}
 use lib.Ieee.{size, span, climb}
 use Rattle.totals_spec.specs.Basics.{greatest, keep}
 use Rattle.totals_spec.specs.Format.{Format, room}
-use Rattle.totals_spec.specs.Settings.{noSettings, value}
-use Rattle.totals_spec.specs.Decode.{Unpacked, zeroOf, finite, infinity, nan, decode, operand}
+use Rattle.totals_spec.specs.Settings.{Settings, value}
+use Rattle.totals_spec.specs.Decode.{Unpacked, zeroOf, finite, infinity, nan, operand}
 use Rattle.totals_spec.specs.Terms.{Term, single, product, item, itemOf, termOf, topOfTerm, topOf}
 use Rattle.totals_spec.specs.Totals.{sumTerms}
 use Rattle.totals_spec.specs.Hundredfold.{hundredOf, hundredItem, hundredTerms}
@@ -35,10 +35,10 @@ max-raised (suc t) (suc r) h = by (max (suc t) (suc r)) refl
     by zero e = absurd (let z : ⊥ = omega (arith, e) in z)
     by (suc n) e = omega (arith, e)
 
-pub top-hundred : (f : Format) (l : List ℕ) → topOf (hundredTerms f l) ≡ raisedTop (topOf (sumTerms f noSettings value l))
-unfolding topOf hundredItem item operand product single
-top-hundred f [] = refl
-top-hundred f (b ∷ l) = go (decode f b) (hundredTerms f l) (sumTerms f noSettings value l) (top-hundred f l)
+pub top-hundred : (f : Format) (c : Settings) (l : List ℕ) → topOf (hundredTerms f c l) ≡ raisedTop (topOf (sumTerms f c value l))
+unfolding topOf hundredItem item product single
+top-hundred f c [] = refl
+top-hundred f c (b ∷ l) = go (operand f c b) (hundredTerms f c l) (sumTerms f c value l) (top-hundred f c l)
   where
     up : (z k r : ℕ) → 0 < r → z + 7 + k + 0 + r - 1 ≡ z + k + r - 1 + 7
     up z k r h = omega arith
@@ -55,17 +55,17 @@ top-hundred f (b ∷ l) = go (decode f b) (hundredTerms f l) (sumTerms f noSetti
     go (infinity s) hs ts h = h
     go (nan s g m) hs ts h = h
 
-module _ (f : Format) (l : List ℕ) where
+module _ (f : Format) (c : Settings) (l : List ℕ) where
   -- where the scan finds a term
-  pub top-some : 0 < topOf (sumTerms f noSettings value l) → topOf (hundredTerms f l) ≡ topOf (sumTerms f noSettings value l) + 7
-  top-some h = top-hundred f l ∙ raised (topOf (sumTerms f noSettings value l)) h
+  pub top-some : 0 < topOf (sumTerms f c value l) → topOf (hundredTerms f c l) ≡ topOf (sumTerms f c value l) + 7
+  top-some h = top-hundred f c l ∙ raised (topOf (sumTerms f c value l)) h
     where
       raised : (t : ℕ) → 0 < t → raisedTop t ≡ t + 7
       raised zero k = absurd (let z : ⊥ = omega arith in z)
       raised (suc t) k = refl
 
-  pub top-most : topOf (hundredTerms f l) ≤ topMost f + 7
-  top-most = rw (top-hundred f l) (within (topOf (sumTerms f noSettings value l)) (single-sum-top f noSettings value tt l))
+  pub top-most : topOf (hundredTerms f c l) ≤ topMost f + 7
+  top-most = rw (top-hundred f c l) (within (topOf (sumTerms f c value l)) (single-sum-top f c value tt l))
     where
       within : (t : ℕ) → t ≤ topMost f → raisedTop t ≤ topMost f + 7
       within zero h = omega arith

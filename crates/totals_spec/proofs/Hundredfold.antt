@@ -13,55 +13,55 @@ use lib.Pow.{pow-add, pow-mono, shr-shr}
 use borrow.Author.Tests.{lt-ltb, le-ltb}
 use Rattle.totals_spec.specs.Basics.{Signed, difference, raised, total, keep}
 use Rattle.totals_spec.specs.Format.{Format, room, origin, fall}
-use Rattle.totals_spec.specs.Settings.{noSettings, value}
-use Rattle.totals_spec.specs.Decode.{Unpacked, zeroOf, finite, infinity, nan, decode, operand}
+use Rattle.totals_spec.specs.Settings.{Settings, noSettings, value}
+use Rattle.totals_spec.specs.Decode.{Unpacked, zeroOf, finite, infinity, nan, operand}
 use Rattle.totals_spec.specs.Terms.{Term, single, product, item, itemOf, termOf, plusPart, minusPart, plusSum, minusSum, exactSum}
 use Rattle.totals_spec.specs.Totals.{sumTerms}
 use Rattle.totals_spec.specs.Pence.{penceOf, inRange, sumFigure}
 use Rattle.totals_spec.specs.Hundredfold.{hundredOf, hundredItem, hundredTerms, nearestWhole, wholeFigure}
 use Rattle.totals_spec.specs.Promises.{Pence-by-chain}
-use Rattle.totals_spec.proofs.Good.{AllGood, Decoded, decoded, good-product, picked-length}
+use Rattle.totals_spec.proofs.Good.{AllGood, Decoded, decoded-operand, good-product, picked-length}
 use Rattle.totals_spec.proofs.Alike.{Between, Alike, alike-raised}
 use Rattle.totals_spec.proofs.Exact.{chain-right}
 use Rattle.totals_spec.proofs.Nearest.{half-up, reaches, range-large}
 
 -- ---- the terms: good, and no more of them than elements
 
-pub good-hundred : (f : Format) (l : List ℕ) → AllGood (hundredTerms f l)
+pub good-hundred : (f : Format) (c : Settings) (l : List ℕ) → AllGood (hundredTerms f c l)
 unfolding hundredItem
-good-hundred f [] = tt
-good-hundred f (b ∷ l) = go (decode f b) (decoded f b) (good-hundred f l)
+good-hundred f c [] = tt
+good-hundred f c (b ∷ l) = go (operand f c b) (decoded-operand f c b) (good-hundred f c l)
   where
-    go : (x : Unpacked) → Decoded f x → AllGood (hundredTerms f l) → AllGood (keep (termOf (hundredOf x)) (hundredTerms f l))
+    go : (x : Unpacked) → Decoded f x → AllGood (hundredTerms f c l) → AllGood (keep (termOf (hundredOf x)) (hundredTerms f c l))
     go (zeroOf s) d h = h
     go (finite s k m) d h = (good-product s k m 0 100 (d .0) (omega arith), h)
     go (infinity s) d h = h
     go (nan s g m) d h = h
 
-pub few-hundred : (f : Format) (l : List ℕ) → length (hundredTerms f l) ≤ length l
-few-hundred f l = le-trans (picked-length termOf (map (hundredItem f) l)) (le-of-eq (length-map l (hundredItem f)))
+pub few-hundred : (f : Format) (c : Settings) (l : List ℕ) → length (hundredTerms f c l) ≤ length l
+few-hundred f c l = le-trans (picked-length termOf (map (hundredItem f c) l)) (le-of-eq (length-map l (hundredItem f c)))
 
 -- ---- a hundred times the list's own
 
 -- a part of them, where it is so of each term
 module _ (part : Term → ℕ) (each : (s : Bool) (k m : ℕ) → part (product s k m 0 100) ≡ 100 * part (single s k m)) where
-  part-hundred : (f : Format) (l : List ℕ) → total part (hundredTerms f l) ≡ 100 * total part (sumTerms f noSettings value l)
-  unfolding hundredItem item operand
-  part-hundred f [] = refl
-  part-hundred f (b ∷ l) = go (decode f b) (part-hundred f l)
+  part-hundred : (f : Format) (c : Settings) (l : List ℕ) → total part (hundredTerms f c l) ≡ 100 * total part (sumTerms f c value l)
+  unfolding hundredItem item
+  part-hundred f c [] = refl
+  part-hundred f c (b ∷ l) = go (operand f c b) (part-hundred f c l)
     where
-      go : (x : Unpacked) → total part (hundredTerms f l) ≡ 100 * total part (sumTerms f noSettings value l)
-          → total part (keep (termOf (hundredOf x)) (hundredTerms f l))
-          ≡ 100 * total part (keep (termOf (itemOf value x)) (sumTerms f noSettings value l))
+      go : (x : Unpacked) → total part (hundredTerms f c l) ≡ 100 * total part (sumTerms f c value l)
+          → total part (keep (termOf (hundredOf x)) (hundredTerms f c l))
+          ≡ 100 * total part (keep (termOf (itemOf value x)) (sumTerms f c value l))
       go (zeroOf s) h = h
-      go (finite s k m) h = ap₂ _+_ (each s k m) h ∙ sym (mul-add 100 (part (single s k m)) (total part (sumTerms f noSettings value l)))
+      go (finite s k m) h = ap₂ _+_ (each s k m) h ∙ sym (mul-add 100 (part (single s k m)) (total part (sumTerms f c value l)))
       go (infinity s) h = h
       go (nan s g m) h = h
 
 hundred-mag : (k m r : ℕ) → m * 100 * 2 ^ (k + 0 + r) ≡ 100 * (m * 2 ^ (k + r))
 hundred-mag k m r = rw (pow-add 2 (k + 0) r, pow-add 2 k 0, pow-add 2 k r) (omega arith)
 
-plus-hundred : (f : Format) (l : List ℕ) → plusSum (hundredTerms f l) ≡ 100 * plusSum (sumTerms f noSettings value l)
+plus-hundred : (f : Format) (c : Settings) (l : List ℕ) → plusSum (hundredTerms f c l) ≡ 100 * plusSum (sumTerms f c value l)
 unfolding plusSum product single
 plus-hundred = part-hundred plusPart each
   where
@@ -69,7 +69,7 @@ plus-hundred = part-hundred plusPart each
     each true k m = refl
     each false k m = hundred-mag k m room
 
-minus-hundred : (f : Format) (l : List ℕ) → minusSum (hundredTerms f l) ≡ 100 * minusSum (sumTerms f noSettings value l)
+minus-hundred : (f : Format) (c : Settings) (l : List ℕ) → minusSum (hundredTerms f c l) ≡ 100 * minusSum (sumTerms f c value l)
 unfolding minusSum product single
 minus-hundred = part-hundred minusPart each
   where
@@ -150,6 +150,7 @@ figure-hundred f x = ap (λ (z : ℕ). inRange (x .neg) ((z + 2 ^ origin f false
 
 pub pence-by-chain : Pence-by-chain
 pence-by-chain f l h =
-    figure-alike f _ _ _ (lit≤ tt) (chain-right _ (hundredTerms f l) (lit≤ tt) (good-hundred f l) (le-trans (few-hundred f l) (le-trans h (lit≤ tt))))
-    ∙ ap (wholeFigure f) (ap₂ difference (plus-hundred f l) (minus-hundred f l) ∙ difference-hundred _ _)
+    figure-alike f _ _ _ (lit≤ tt)
+    (chain-right _ (hundredTerms f noSettings l) (lit≤ tt) (good-hundred f noSettings l) (le-trans (few-hundred f noSettings l) (le-trans h (lit≤ tt))))
+    ∙ ap (wholeFigure f) (ap₂ difference (plus-hundred f noSettings l) (minus-hundred f noSettings l) ∙ difference-hundred _ _)
     ∙ figure-hundred f (exactSum (sumTerms f noSettings value l))

@@ -16,6 +16,7 @@ use Rattle.totals_spec.specs.Promises.{Dot-ends, Sum-edges, Dot-edges, L
 use Rattle.totals_spec.specs.Promises.{Sum-zeros, Dot-zeros, Sum-refused-exactly, Dot-refused-exactly, Entry-refused-exactly, Pence-refused-exactly}
 use Rattle.totals_spec.specs.Promises.{Sum-fits, Dot-fits, Entry-read-back, Size-is-length, Rounded-back}
 use Rattle.totals_spec.specs.Promises.{Sum-pence-agree, Sum-pence-refused-exactly, Sum-pence-refused, Pence-place, One-pence, Pence-by-chain, Pence-order}
+use Rattle.totals_spec.specs.Promises.{Pence-entry-refused-exactly, Pence-entry-refused}
 use Rattle.totals_spec.proofs.Bits.{low-divides, low-set, size-none, size-one-less}
 use Rattle.totals_spec.proofs.Good.{good-terms, good-pairs}
 use Rattle.totals_spec.proofs.Valid.{digits-le}
@@ -202,6 +203,12 @@ sum-pence-refused = pence.sum-pence-refused
 
 pub pence-place : Pence-place
 pence-place = pence.pence-place
+
+pub pence-entry-refused-exactly : Pence-entry-refused-exactly
+pence-entry-refused-exactly = exactly.pence-entry-refused-exactly
+
+pub pence-entry-refused : Pence-entry-refused
+pence-entry-refused = pence.pence-entry-refused
 
 pub one-pence : One-pence
 one-pence = pence.one-pence

@@ -3,10 +3,10 @@ use mathlib.Core.Path.{_≡_, refl, ap, ap₂, _∙_, subst}
 use mathlib.Core.Logic.{_≢_}
 use mathlib.Core.Bool.{Bool, true, false, not, _||_, cond}
 use mathlib.Core.List.{List, [], _∷_, map}
-use Prim.Native.Nat.{ℕ, suc, _+_, _*_, _/_, _^_}
+use Prim.Native.Nat.{ℕ, suc, _+_, _*_, _/_, _^_, _≤_, _<_}
 use native.Mathlib.Nat.{mul-pos, add-comm}
 use native.Mathlib.Omega.{arith}
-use lib.Dec.{T, ltb, eqb, eqb→eq, eqb-refl}
+use lib.Dec.{T, ltb, eqb, nltb→le, eqb→eq, eqb-refl}
 use lib.ListN.{length}
 use lib.IntN.{ℤ, pos, negℤ}
 use lib.Pow.{pow-add, pow-pos}
@@ -16,9 +16,10 @@ use Rattle.totals_spec.specs.Settings.{noSettings, value}
 use Rattle.totals_spec.specs.Decode.{Unpacked, zeroOf, finite, infinity, nan, decode, isNumber, operand}
 use Rattle.totals_spec.specs.Terms.{Item, Term, single, item, itemOf, isNanItem, isInfinite, termOf, plusSum, minusSum, exactSum}
 use Rattle.totals_spec.specs.Totals.{stray, limit, firstIndex, sumTerms}
-use Rattle.totals_spec.specs.Pence.{Pence, refusedPence, penceOf, inRange, figureOf, penceAnswer, notNumber, sumFigure, sumPence}
+use Rattle.totals_spec.specs.Pence.{Pence, refusedPence, refusedAt, penceOf, inRange, figureOf, penceAnswer, notNumber, sumFigure, sumPence}
+use Rattle.totals_spec.specs.Words.{misnamed, formatBy, FigureEntry, figureEntered, penceEntry}
 use Rattle.totals_spec.specs.Places.{StrayAt}
-use Rattle.totals_spec.specs.Promises.{Sum-pence-refused, Pence-place, One-pence, Pence-order}
+use Rattle.totals_spec.specs.Promises.{Sum-pence-refused, Pence-place, Pence-entry-refused, One-pence, Pence-order}
 use Rattle.totals_spec.proofs.Perm.{any-perm, length-perm, picked-perm, map-perm, perm-of-counts}
 use Rattle.totals_spec.proofs.Places.{first-stray}
 use Rattle.totals_spec.proofs.Good.{Decoded, decoded}
@@ -32,20 +33,21 @@ abbrev tested : (a b c d : Bool) (at : ℕ) → Pence → Pence
 tested a b c d at x =
     cond a (refusedPence 3)
     (cond b (refusedPence 6)
-    (cond c (record { figure = pos 0; refusal = 7; place = at })
+    (cond c (refusedAt 7 at)
     (cond d (refusedPence 8) x)))
 
 record Plain (x : Pence) : Type 0 where
   pub number : x .refusal ≢ 7
   pub place : x .place ≡ 0
   pub none : x .refusal ≢ 0 → x .figure ≡ pos 0
+  pub small : x .refusal < 256
 
 range-plain : (s : Bool) (n : ℕ) → Plain (inRange s n)
 range-plain s n = go (ltb n (2 ^ 63)) (cond s (negℤ (pos n)) (pos n))
   where
     go : (b : Bool) (z : ℤ) → Plain (cond b (record { figure = z; refusal = 0; place = 0 }) (refusedPence 8))
-    go true z = record { number = λ e. omega (arith, e); place = refl; none = λ h. absurd (h refl) }
-    go false z = record { number = λ e. omega (arith, e); place = refl; none = λ h. refl }
+    go true z = record { number = λ e. omega (arith, e); place = refl; none = λ h. absurd (h refl); small = omega arith }
+    go false z = record { number = λ e. omega (arith, e); place = refl; none = λ h. refl; small = omega arith }
 
 figure-plain : (f : Format) (x : Signed) → Plain (sumFigure f x)
 unfolding sumFigure
@@ -58,6 +60,20 @@ module _ (at : ℕ) (x : Pence) (h : Plain x) where
   no-figure false false true d k = refl
   no-figure false false false true k = refl
   no-figure false false false false k = h .none k
+
+  small : (a b c d : Bool) → (tested a b c d at x) .refusal < 256
+  small true b c d = omega arith
+  small false true c d = omega arith
+  small false false true d = omega arith
+  small false false false true = omega arith
+  small false false false false = h .small
+
+  small-place : (a b c d : Bool) → (T (not b) → T c → at < 4294967296) → (tested a b c d at x) .place < 4294967296
+  small-place true b c d k = omega arith
+  small-place false true c d k = omega arith
+  small-place false false true d k = k tt tt
+  small-place false false false true k = omega arith
+  small-place false false false false k = omega (arith, h .place)
 
   no-place : (a b c d : Bool) → (tested a b c d at x) .refusal ≢ 7 → (tested a b c d at x) .place ≡ 0
   no-place true b c d k = refl
@@ -89,6 +105,34 @@ pub sum-pence-refused : Sum-pence-refused
 unfolding sumPence
 sum-pence-refused f l =
     no-figure (firstIndex (stray f) l) _ (figure-plain f (sumOf f l)) (not (validFormat f)) (ltb limit (length l)) (any (stray f) l) (any (notNumber f) l)
+
+-- the number fits a byte
+pub sum-pence-number : (f : Format) (l : List ℕ) → (sumPence f l) .refusal < 256
+unfolding sumPence
+sum-pence-number f l =
+    small (firstIndex (stray f) l) _ (figure-plain f (sumOf f l)) (not (validFormat f)) (ltb limit (length l)) (any (stray f) l) (any (notNumber f) l)
+
+-- and the place four
+pub sum-pence-place : (f : Format) (l : List ℕ) → (sumPence f l) .place < 4294967296
+unfolding sumPence
+sum-pence-place f l =
+    small-place (firstIndex (stray f) l) _ (figure-plain f (sumOf f l)) (not (validFormat f)) (ltb limit (length l)) (any (stray f) l) (any (notNumber f) l)
+    (λ t s. inside (nltb→le limit (length l) t) (first-stray f l s .inside))
+  where
+    inside : {n i : ℕ} → n ≤ limit → i < n → i < 4294967296
+    inside {n} h k = let g : n ≤ 1048576 = h in omega arith
+
+pub pence-entry-refused : Pence-entry-refused
+unfolding penceEntry
+pence-entry-refused k e w named b l old = go (misnamed named b) (sumPence (formatBy k e w named b) l)
+  where
+    written : (t : Bool) (p : Pence) → let r : FigureEntry = cond t (record { code = 0; figure = p .figure }) (record { code = p .refusal + 256 * p .place; figure = old }) in r .code ≢ 0 → r .figure ≡ old
+    written true p h = absurd (h refl)
+    written false p h = refl
+
+    go : (a : Bool) (p : Pence) → let r : FigureEntry = cond a (record { code = 3; figure = old }) (figureEntered p old) in r .code ≢ 0 → r .figure ≡ old
+    go true p h = refl
+    go false p h = written (eqb (p .refusal) 0) p h
 
 pub pence-place : Pence-place
 unfolding sumPence

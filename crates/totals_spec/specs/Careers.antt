@@ -343,6 +343,11 @@ programRuns =
       input = 55 ∷ 102 ∷ 102 ∷ replicate 13 48;
       output = 55 ∷ 102 ∷ 102 ∷ replicate 13 48 ++ (10 ∷ 48 ∷ 48 ∷ 10 ∷ 48 ∷ 10 ∷ 110 ∷ 111 ∷ 110 ∷ 101 ∷ 10 ∷ []);
     }
+    -- document 02's example (A.2): `3fc0000000000000`, `bc30000000000000` prints `3fc0000000000000`, `50`, `1`, `12`
+    ∷ record {
+      input = 51 ∷ 102 ∷ 99 ∷ replicate 13 48 ++ (10 ∷ 98 ∷ 99 ∷ 51 ∷ replicate 13 48);
+      output = 51 ∷ 102 ∷ 99 ∷ replicate 13 48 ++ (10 ∷ 53 ∷ 48 ∷ 10 ∷ 49 ∷ 10 ∷ 49 ∷ 50 ∷ 10 ∷ []);
+    }
     -- a line of 17 digits
     ∷ record { input = 51 ∷ oneWith 48; output = refusedLine 1 }
     -- empty lines, a capital digit, a line of 15 digits
@@ -429,7 +434,7 @@ biases-agree = tt
 
 pub program-agrees : Holds (programAgrees programRuns)
 unfolding
-    programAgrees programRuns refusedLine oneWith programText readFrom hexText decimalFrom answerText penceAnswer penceOf
+    programAgrees programRuns refusedLine oneWith programText readFrom hexText decimalFrom answerText sumPence sumFigure penceOf
     difference raised validFormat bias lift exponentRange depth origin fall grid rise validSettings precisionOf
     decode isSubnormal operand single product item pairItem plusSum minusSum topOf
     lostEnd lookAt half wrapped decide sumOf pass run chain size span climb

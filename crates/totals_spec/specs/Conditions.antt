@@ -30,6 +30,10 @@ abbrev pub FarBias : Option ℤ → Type 0
 FarBias none = ⊥
 FarBias (some b) = 268435456 < natAbs b
 
+-- of an entry over words: the bias and whether it is named do not fit each other
+abbrev pub Misnamed : ℕ → ℤ → Type 0
+Misnamed named b = (1 < named) ⊎ ((named ≡ 0) × (natAbs b ≢ 0))
+
 abbrev pub BadFormat : Format → Type 0
 BadFormat f =
     (3 < f .kind)
@@ -137,3 +141,6 @@ sumPenceConditions f l =
     ∷ (7, Stray f l)
     ∷ (8, SomeNoNumber f l ⊎ BeyondPence f (exactSum (sumTerms f noSettings value l)))
     ∷ []
+
+abbrev pub penceEntryConditions : ℕ → ℤ → Format → List ℕ → List Condition
+penceEntryConditions named b f l = (3, Misnamed named b) ∷ sumPenceConditions f l

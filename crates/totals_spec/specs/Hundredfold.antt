@@ -6,7 +6,8 @@ use mathlib.Core.Bool.{false}
 use mathlib.Core.List.{List, map}
 use Rattle.totals_spec.specs.Basics.{Signed}
 use Rattle.totals_spec.specs.Format.{Format, origin, fall}
-use Rattle.totals_spec.specs.Decode.{Unpacked, zeroOf, finite, infinity, nan, decode}
+use Rattle.totals_spec.specs.Settings.{Settings, noSettings}
+use Rattle.totals_spec.specs.Decode.{Unpacked, zeroOf, finite, infinity, nan, operand}
 use Rattle.totals_spec.specs.Terms.{Term, product, Item, nanItem, infinite, zeroItem, term, terms}
 use Rattle.totals_spec.specs.Chain.{chain}
 use Rattle.totals_spec.specs.Settled.{settled}
@@ -19,11 +20,11 @@ hundredOf (finite s k m) = term (product s k m 0 100)
 hundredOf (infinity s) = infinite s
 hundredOf (nan s g m) = nanItem
 
-unfoldable pub hundredItem : Format → ℕ → Item
-hundredItem f b = hundredOf (decode f b)
+unfoldable pub hundredItem : Format → Settings → ℕ → Item
+hundredItem f c b = hundredOf (operand f c b)
 
-abbrev pub hundredTerms : Format → List ℕ → List Term
-hundredTerms f l = terms (map (hundredItem f) l)
+abbrev pub hundredTerms : Format → Settings → List ℕ → List Term
+hundredTerms f c l = terms (map (hundredItem f c) l)
 
 -- x × 2^k / 2^d to the nearest whole number, a half upwards
 unfoldable pub nearestWhole : ℕ → ℕ → ℕ → ℕ
@@ -34,4 +35,4 @@ unfoldable pub wholeFigure : Format → Signed → Pence
 wholeFigure f x = inRange (x .neg) (nearestWhole (origin f false) (fall f false) (x .mag))
 
 abbrev pub chainPence : Format → List ℕ → Pence
-chainPence f l = wholeFigure f (settled (chain 64 (hundredTerms f l) .outcome))
+chainPence f l = wholeFigure f (settled (chain 64 (hundredTerms f noSettings l) .outcome))

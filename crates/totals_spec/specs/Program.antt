@@ -1,4 +1,4 @@
--- The program (document 01): what it writes for what it reads, both as bytes.
+-- The program (document 01; its pence are those of the list, document 02, A.2): what it writes for what it reads, both as bytes.
 use mathlib.Core.Bool.{_&&_, cond}
 use mathlib.Core.List.{List, [], _∷_, _++_}
 use mathlib.Core.Option.{Option, none, some}
@@ -10,7 +10,7 @@ use lib.Ieee.{size}
 use Rattle.totals_spec.specs.Format.{Format}
 use Rattle.totals_spec.specs.Settings.{Settings}
 use Rattle.totals_spec.specs.Totals.{Answer, sumAnswer}
-use Rattle.totals_spec.specs.Pence.{Pence, penceAnswer}
+use Rattle.totals_spec.specs.Pence.{Pence, sumPence}
 
 -- ---- reading: 16 hex digits a line, in lower case. Byte 10 ends a line; the last one may lack it
 
@@ -101,15 +101,15 @@ abbrev pub programSettings : Settings
 programSettings =
     record { rounding = 0; tininess = 1; nanPropagation = 0; defaultNanSign = 0; flushToZero = 0; denormalsAreZero = 0; saturate = 0; precision = 0 }
 
-unfoldable pub answerText : Answer → List ℕ
-answerText r =
+unfoldable pub answerText : Answer → Pence → List ℕ
+answerText r p =
     hexText 16 (r .result) ++ (lineEnd
     ++ (hexText 2 (r .flags) ++ (lineEnd
     ++ (decimalText (r .passes) ++ (lineEnd
-    ++ (penceText (penceAnswer programFormat (r .result)) ++ lineEnd))))))
+    ++ (penceText p ++ lineEnd))))))
 
 abbrev pub textOf : Read → List ℕ
-textOf (values l) = answerText (sumAnswer programFormat programSettings 0 l)
+textOf (values l) = answerText (sumAnswer programFormat programSettings 0 l) (sumPence programFormat l)
 textOf (badLine n) = refusedText ++ (decimalText n ++ lineEnd)
 
 -- THE PROGRAM'S ANSWER

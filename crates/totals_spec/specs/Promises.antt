@@ -7,7 +7,7 @@ use mathlib.Core.List.{List, [], _∷_, map}
 use mathlib.Core.Option.{none, some}
 use Prim.Native.Nat.{ℕ, _+_, _-_, _/_, _%_, _^_, _≤_, _<_, max}
 use lib.ListN.{length, replicate, take, drop, getD}
-use lib.IntN.{pos}
+use lib.IntN.{ℤ, pos}
 use lib.Dec.{T as Holds, eqb}
 use lib.Ieee.{size}
 use Rattle.totals_spec.specs.Basics.{any, flag}
@@ -26,8 +26,10 @@ use Rattle.totals_spec.specs.Limit.{lowBit, mostPasses}
 use Rattle.totals_spec.specs.Side.{sideOf}
 use Rattle.totals_spec.specs.Settled.{chainTotal}
 use Rattle.totals_spec.specs.Conditions.{Uneven, First, sumConditions, dotConditions, entryConditions, penceConditions, sumPenceConditions}
+use Rattle.totals_spec.specs.Conditions.{penceEntryConditions}
 use Rattle.totals_spec.specs.Places.{StrayAt, DotStrayAt}
 use Rattle.totals_spec.specs.Pence.{penceAnswer, sumFigure, sumPence}
+use Rattle.totals_spec.specs.Words.{formatBy, penceEntry}
 use Rattle.totals_spec.specs.Hundredfold.{chainPence}
 use Rattle.totals_spec.specs.Careers.{binary64, withRounding, careers, margins, allAgree, sideExamples, refusals, entryExample}
 use Rattle.totals_spec.specs.Careers.{penceExamples, biases, sumPenceExamples, programRuns, programAgrees}
@@ -75,7 +77,7 @@ abbrev pub Dot-refusal : Type 0
 Dot-refusal = (f : Format) (c : Settings) (xs ys : List ℕ) → (dotAnswer f c xs ys) .refusal ≡ dotRefusal f c xs ys
 
 -- a call has the number n exactly where n's condition holds and none that is tried before it does: 3, 4, 6, 7 of a sum, 3 to 7 of a dot, 1 and 2
--- before these of a byte entry (in the lowest byte of the number it returns), 3, 7, 8 of pence, 3, 6, 7, 8 of a list's; and 0 exactly where none holds
+-- before these of a byte entry (in the lowest byte of the number it returns), 3, 7, 8 of pence, 3, 6, 7, 8 of a list's and of its entry; and 0 exactly where none holds
 abbrev pub Sum-refused-exactly : Type 0
 Sum-refused-exactly = (f : Format) (c : Settings) (u : ℕ) (l : List ℕ) (n : ℕ) → (sumAnswer f c u l) .refusal ≡ n ↔ First (sumConditions f c u l) n
 
@@ -95,6 +97,10 @@ Pence-refused-exactly = (f : Format) (b n : ℕ) → (penceAnswer f b) .refusal 
 
 abbrev pub Sum-pence-refused-exactly : Type 0
 Sum-pence-refused-exactly = (f : Format) (l : List ℕ) (n : ℕ) → (sumPence f l) .refusal ≡ n ↔ First (sumPenceConditions f l) n
+
+abbrev pub Pence-entry-refused-exactly : Type 0
+Pence-entry-refused-exactly = (k e w named : ℕ) (b : ℤ) (l : List ℕ) (old : ℤ) (n : ℕ)
+    → (penceEntry k e w named b l old) .code % 256 ≡ n ↔ First (penceEntryConditions named b (formatBy k e w named b) l) n
 
 -- a refused record is 0 but for number and place
 abbrev pub Sum-refused : Type 0
@@ -122,7 +128,7 @@ abbrev pub Pence-place : Type 0
 Pence-place = (f : Format) (l : List ℕ)
     → ((sumPence f l) .refusal ≢ 7 → (sumPence f l) .place ≡ 0) × ((sumPence f l) .refusal ≡ 7 → StrayAt f l ((sumPence f l) .place))
 
--- a refused byte entry writes nothing
+-- a refused entry writes nothing
 abbrev pub Sum-entry-refused : Type 0
 Sum-entry-refused = (f : Format) (c : Settings) (u : ℕ) (bytes old : List ℕ) → (sumEntry f c u bytes old) .code ≢ 0
     → (sumEntry f c u bytes old) .buffer ≡ old
@@ -130,6 +136,10 @@ Sum-entry-refused = (f : Format) (c : Settings) (u : ℕ) (bytes old : List ℕ)
 abbrev pub Dot-entry-refused : Type 0
 Dot-entry-refused = (f : Format) (c : Settings) (left right old : List ℕ) → (dotEntry f c left right old) .code ≢ 0
     → (dotEntry f c left right old) .buffer ≡ old
+
+abbrev pub Pence-entry-refused : Type 0
+Pence-entry-refused = (k e w named : ℕ) (b : ℤ) (l : List ℕ) (old : ℤ) → (penceEntry k e w named b l old) .code ≢ 0
+    → (penceEntry k e w named b l old) .figure ≡ old
 
 -- ==== PROMISE 1: the answer in its places
 

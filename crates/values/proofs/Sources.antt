@@ -66,10 +66,6 @@ module _ {layout count : ℕ} {s : Source} (h : Whole layout count s) (words byt
     are = rw (e, h .start-is, h .step-is, h .count-is ∙ n) (strided-all l);
   }
 
--- of words, and of values in bytes
-module _ {count : ℕ} {s : Source} (words bytes : List ℕ) where
-  pub words-give : Whole 0 count s → count ≡ length words → Gives s words bytes words
-  words-give h n = whole-gives h words bytes words (rw (h .layout-is)) n
-
-  pub bytes-give : Whole 1 count s → count ≡ length bytes / 8 → Gives s words bytes (valuesIn bytes)
-  bytes-give h n = whole-gives h words bytes (valuesIn bytes) (rw (h .layout-is)) (n ∙ sym (values-length bytes))
+pub laid-gives : {layout count : ℕ} {s : Source} → Whole layout count s → (words bytes : List ℕ) → count ≡ length (laidOut (eqb layout 0) words bytes)
+    → Gives s words bytes (laidOut (eqb layout 0) words bytes)
+laid-gives {layout} h words bytes n = whole-gives h words bytes (laidOut (eqb layout 0) words bytes) (rw (h .layout-is)) n

@@ -54,11 +54,14 @@ pub struct Source {
 }
 
 // What a total walks over: the values (summand 0), the magnitudes (1) or the squares (2) of the elements of one list, or the products (3) of those of
-// two, which stand alike.
+// two, which stand alike; or, for pence, the values a hundred times each (4).
 pub struct Walk {
     pub summand: u64,
     pub source: Source,
 }
+
+// The summand of pence.
+pub const HUNDREDFOLD: u64 = 4;
 
 // The walk over whole lists.
 pub fn whole(summand: u64, layout: u64, count: usize) -> Walk

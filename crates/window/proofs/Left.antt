@@ -197,17 +197,21 @@ leaves-low p e v h n l =
     let d = deep-of (e .outcome) p (value (e .chain .whole)) (e .chain .place) n (h .ends) in
     omega (arith, d .small, l .low)
 
+-- and 64 above the unit
+pub leaves-high : (p : ℕ) (e : ExactSum) (v : Unrounded) → Ended p e → (e .outcome ≡ out.Zero → ⊥) → Leaves e v → 64 ≤ v .position
+leaves-high p e v h n l =
+    let d = deep-of (e .outcome) p (value (e .chain .whole)) (e .chain .place) n (h .ends) in
+    omega (arith, d .high, l .high)
+
 -- what `round` requires of its value
 pub leaves-rounds : (f : Format) (c : Settings) (g : ℕ) (e : ExactSum) (v : Unrounded) (n : ℕ) → RangeBounds f → SettingsBounds f c → g < 2 ^ 62
     → n ≤ 2 ^ 28 → Ended (digits f) e → (e .outcome ≡ out.Zero → ⊥) → Leaves e v → Rounds f c g (raisedBy n v)
-leaves-rounds f c g e v n b t k few h some l =
-    let d = deep-of (e .outcome) (digits f) (value (e .chain .whole)) (e .chain .place) some (h .ends) in
-    record {
-      format = b;
-      settings = t;
-      some = l .some;
-      high = omega (arith, d .high, l .high);
-      low = omega (arith, few, leaves-low (digits f) e v h some l);
-      grid = k;
-      long = l .long (digits f) (h .ends);
-    }
+leaves-rounds f c g e v n b t k few h some l = record {
+  format = b;
+  settings = t;
+  some = l .some;
+  high = omega (arith, leaves-high (digits f) e v h some l);
+  low = omega (arith, few, leaves-low (digits f) e v h some l);
+  grid = k;
+  long = l .long (digits f) (h .ends);
+}

@@ -1,10 +1,9 @@
 -- `text::sum_text` meets its contract.
-use mathlib.Core.Path.{ap, _∙_, subst}
+use mathlib.Core.Path.{refl, ap₂, _∙_, subst}
 use borrow.Author.Needs.{needs}
-use Rattle.totals_spec.specs.Totals.{Answer}
-use Rattle.totals_spec.specs.Pence.{Pence}
 use Rattle.totals_spec.specs.Program.{answerText}
 use Rattle.reduction.specs.Answered.{answerOf}
+use Rattle.totals.specs.PenceRecord.{penceRecord}
 use Rattle.text.specs.Holds.{Holds}
 use Rattle.limbs.proofs.Signs.{read}
 use Rattle.text.proofs.FourLines.{answer-is}
@@ -15,12 +14,10 @@ returns : tie.Need-returns
 returns c =
     let t = c .before .before in
     let a = t .before .sum in
-    let p = t .pence-of in
-    subst (λ (x : Answer). Holds (c .answer-lines .result) (answerText x)) (a .ensures)
-    (subst (Holds (c .answer-lines .result))
-    (answer-is (answerOf (a .result)) _ _
-    (read (p .result .figure) (search needs) ∙ ap (λ (x : Pence). x .figure) (p .ensures)) (ap (λ (x : Pence). x .refusal) (p .ensures)))
-    (c .answer-lines .ensures))
+    let p = t .pence-of-sum in
+    subst (Holds (c .answer-lines .result))
+    (answer-is (answerOf (a .result)) (penceRecord (p .result)) _ _ (read (p .result .figure) (search needs)) refl ∙ ap₂ answerText (a .ensures) (p .ensures))
+    (c .answer-lines .ensures)
 
 pub sum-text-spec : {M : Type 1} → statement M
 sum-text-spec =

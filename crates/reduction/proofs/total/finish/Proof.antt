@@ -79,8 +79,8 @@ encode-requires c κs = (c .before .before .pre .0, c .round-sum .ensures .encod
 flag-requires : tie.Need-flag-requires
 flag-requires c κs = search needs
 
-add-t11 : tie.Need-add-t11
-add-t11 c = search needs
+add-sum : tie.Need-add-t12
+add-sum c = search needs
 
 fall-requires : tie.Need-fall-requires
 fall-requires c κs = search needs
@@ -126,7 +126,7 @@ finish-spec =
     round-sum-requires
     encode-requires
     flag-requires
-    add-t11
+    add-sum
     fall-requires
     add-position-of
     origin-requires

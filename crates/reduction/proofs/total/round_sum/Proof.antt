@@ -13,7 +13,7 @@ use Rattle.format.specs.Joined.{formatOf, settingsOf}
 use Rattle.window.specs.declared.Outcome.{Outcome}
 use Rattle.window.specs.declared.Outcome.the-variants.{Zero}
 use Rattle.window.specs.Joined.{outcomeBy, outcomeOf}
-use Rattle.window.proofs.Left.{not-zero, ended-roundable, leaves-low, leaves-rounds, leaves-sum}
+use Rattle.window.proofs.Left.{not-zero, leaves-low, leaves-rounds, leaves-sum}
 use borrow.Author.Needs.{needs}
 use Rattle.reduction.proofs.total.round_sum.Statement.{statement}
 use Rattle.reduction.proofs.total.round_sum.Tie as tie
@@ -24,45 +24,37 @@ form s = formatOf (s .args .f)
 abbrev env : tie.Start → Settings
 env s = settingsOf (s .args .c)
 
--- where the sum is not 0: once its value is known
-abbrev entry : tie.After-near-boundary → tie.Start
-entry b = b .before .before
+-- where the sum is not 0
+some : (m : tie.At-match-keys2) → m .before .args .e .outcome ≡ Zero → ⊥
+some m = not-zero _ (m .match .keys2)
 
-some : (b : tie.After-near-boundary) → entry b .args .e .outcome ≡ Zero → ⊥
-some b = not-zero _ (b .before .match .keys2)
-
-near-boundary-requires : tie.Need-near-boundary-requires
-near-boundary-requires c κs =
-    let s = c .before in
-    ended-roundable (digits (form s)) (s .args .e) (omega (arith, s .pre .0 .e-ge, s .pre .0 .p-le)) (not-zero _ (c .match .keys2)) (s .pre .2)
-
-add-v : tie.Need-add-v
-add-v c =
+add-w : tie.Need-add-w
+add-w c =
     let t = c .before in
-    let b = t .before in
-    let s = entry b in
-    omega (arith, leaves-low (digits (form s)) (s .args .e) _ (s .pre .2) (some b) (b .near-boundary .ensures), t .rise .ensures .1)
+    let m = t .before in
+    let s = m .before in
+    omega (arith, leaves-low (digits (form s)) (s .args .e) (s .args .v) (s .pre .2) (some m) (s .pre .3 (some m)), t .rise .ensures .1)
 
 round-requires : tie.Need-round-requires
 round-requires c κs =
     let t = c .before .before in
-    let b = t .before in
-    let s = entry b in
-    leaves-rounds (form s) (env s) _ (s .args .e) _ _ (s .pre .0) (s .pre .1) (omega (arith, c .grid .ensures .1)) (t .rise .ensures .1) (s .pre .2)
-    (some b) (b .near-boundary .ensures)
+    let m = t .before in
+    let s = m .before in
+    leaves-rounds (form s) (env s) _ (s .args .e) (s .args .v) _ (s .pre .0) (s .pre .1) (omega (arith, c .grid .ensures .1)) (t .rise .ensures .1)
+    (s .pre .2) (some m) (s .pre .3 (some m))
 
 returns : tie.Need-returns
 returns c =
     let g = c .before in
     let t = g .before .before in
-    let b = t .before in
-    let s = entry b in
+    let m = t .before in
+    let s = m .before in
     let o = c .round .ensures in
     let x = settled (outcomeOf (s .args .e)) in
     let towards = towardsNegative (env s) in
     record {
       equal =
-          leaves-sum (form s) (env s) _ towards (s .args .e) _ (t .rise .result) _ (b .near-boundary .ensures) o
+          leaves-sum (form s) (env s) _ towards (s .args .e) (s .args .v) (t .rise .result) _ (s .pre .3 (some m)) o
           ∙ ap₂ (λ (k n : ℕ). sumRounded (form s) (env s) k towards (raised n x)) (g .grid .ensures .0) (t .rise .ensures .0);
       encodes = o .encodes;
       flags = o .flags;
@@ -80,9 +72,8 @@ round-sum-spec =
     tie.close
     (tie.spec
     (λ c. search needs)
-    near-boundary-requires
     (λ c κs. search needs)
-    add-v
+    add-w
     (λ c κs. search needs)
     round-requires
     returns

@@ -41,7 +41,7 @@ settled g = let x = g .before .before in x .before .before .before
 turn : (k : Cut) → Turn (head (made k) .loop .inv) (made k .element-term .result) (k .before .window-part .result) (k .larger .result)
 turn k = record {
   inside = made k .before .before .if1 .taken;
-  stands = element-stands _ _ _ _ _ (made k .before .before .if1 .taken) (made k .before .element .ensures) _ _ (made k .element-term .ensures .0);
+  stands = element-stands _ _ _ (made k .before .before .if1 .taken) (made k .before .element .ensures) _ _ (made k .element-term .ensures .0);
   part = k .before .window-part .ensures;
   larger = k .larger .ensures;
 }
@@ -55,7 +55,7 @@ single k =
 -- ---- the needs
 
 loop-holds : tie.Need-loop-holds Inv-loop μ-loop
-loop-holds c = running-start (element-items _ _ _ _ _ _) (c .start .ensures)
+loop-holds c = running-start (element-items _ _ _ _) (c .start .ensures)
 
 window-part-requires : tie.Need-window-part-requires Inv-loop μ-loop
 window-part-requires c κs = cuttable _ (item _ _ _ _) (c .before .before .element-term .ensures .0)

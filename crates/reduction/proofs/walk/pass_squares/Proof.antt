@@ -40,7 +40,7 @@ settled g = let x = g .before .before .before in x .before .before .before
 turn : (k : Cut) → Turn (head (taken k) .loop .inv) (k .before .before .element-term .result) (k .before .window-part .result) (k .larger .result)
 turn k = record {
   inside = taken k .before .if1 .taken;
-  stands = element-stands _ _ _ _ _ (taken k .before .if1 .taken) (taken k .element .ensures) _ _ (k .before .before .element-term .ensures .0);
+  stands = element-stands _ _ _ (taken k .before .if1 .taken) (taken k .element .ensures) _ _ (k .before .before .element-term .ensures .0);
   part = k .before .window-part .ensures;
   larger = k .larger .ensures;
 }
@@ -48,7 +48,7 @@ turn k = record {
 -- ---- the needs
 
 loop-holds : tie.Need-loop-holds Inv-loop μ-loop
-loop-holds c = running-start (element-items _ _ _ _ _ _) (c .start .ensures)
+loop-holds c = running-start (element-items _ _ _ _) (c .start .ensures)
 
 window-part-requires : tie.Need-window-part-requires Inv-loop μ-loop
 window-part-requires c κs = cuttable _ (item _ _ _ _) (c .element-term .ensures .0)

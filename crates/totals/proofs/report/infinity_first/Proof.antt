@@ -1,7 +1,7 @@
--- `reduction::walk::infinity_first` meets its contract.
+-- `totals::report::infinity_first` meets its contract.
 use borrow.Author.Tests.{eq-eqb, ne-eqb}
-use Rattle.reduction.proofs.walk.infinity_first.Statement.{statement}
-use Rattle.reduction.proofs.walk.infinity_first.Tie as tie
+use Rattle.totals.proofs.report.infinity_first.Statement.{statement}
+use Rattle.totals.proofs.report.infinity_first.Tie as tie
 
 returns : tie.Need-returns
 returns c = rw (eq-eqb _ 3 (c .if1 .taken))

@@ -1,0 +1,155 @@
+-- `totals::lists::total` meets its contract.
+use mathlib.Core.Path.{_≡_, refl, sym}
+use mathlib.Core.Bool.{Bool, cond}
+use mathlib.Core.List.{List}
+use Prim.Native.Nat.{ℕ}
+use borrow.Author.Needs.{needs}
+use lib.Dec.{eqb}
+use Rattle.totals_spec.specs.Format as spec
+use Rattle.totals_spec.specs.Settings.{Settings}
+use Rattle.totals_spec.specs.Terms as terms
+use Rattle.format.specs.Joined.{formatOf, settingsOf}
+use Rattle.values.specs.Sources.{elements}
+use Rattle.values.specs.Walks.{isDot, isHundred, addedIn}
+use Rattle.values.proofs.Sources.{elements-length}
+use Rattle.reduction.specs.Held.{Sums}
+use Rattle.totals.specs.Reported.{TotalAsks}
+use Rattle.totals.proofs.Totalled.{Seen, asks-format, asks-few, digits-most, top-room, early-asks, early-told, exact-asks, end-asks, end-told}
+use Rattle.totals.proofs.lists.total.Statement.{statement}
+use Rattle.totals.proofs.lists.total.Tie as tie
+
+-- at the entry: the call in the definitions' words
+abbrev form : tie.Start → spec.Format
+form s = formatOf (s .args .f)
+
+abbrev env : tie.Start → Settings
+env s = settingsOf (s .args .c)
+
+abbrev u : tie.Start → ℕ
+u s = s .args .k .summand
+
+abbrev left : tie.Start → List ℕ
+left s = elements (s .args .k .source) (s .args .left-words .now) (s .args .left-bytes .now)
+
+abbrev right : tie.Start → List ℕ
+right s = elements (s .args .k .source) (s .args .right-words .now) (s .args .right-bytes .now)
+
+-- once it is scanned
+abbrev entry : tie.After-scanned → tie.Start
+entry t = let k = t .before .before in k .before .before .before
+
+abbrev hundred : tie.Start → Bool
+hundred s = isHundred (s .args .k)
+
+seen : (t : tie.After-scan) → let s = entry (t .before) in Seen (form s) (env s) (u s) (left s) (right s) (hundred s) (t .scan .result)
+seen t = rw (t .before .scanned .ensures .0, t .before .scanned .ensures .1) at (t .scan .ensures)
+
+abbrev begun : tie.After-decided-by → tie.Start
+begun d = entry (d .before .before)
+
+scan-requires : tie.Need-scan-requires
+scan-requires c κs =
+    let s = entry c in (
+      asks-format (form s) (env s) (u s) (left s) (right s) (hundred s) (isDot (s .args .k)) (s .pre .1),
+      rw (c .scanned .ensures .0) (s .pre .0 .0),
+      rw (c .scanned .ensures .0) (s .pre .0 .1),
+    )
+
+early-requires : tie.Need-early-requires
+early-requires c κs =
+    let v = c .before in
+    let d = v .before .before in
+    let s = begun d in
+    early-asks (form s) (env s) (u s) (left s) (right s) _ _ _ _ (v .v .given .1) (hundred s) (seen (d .before)) (s .pre .1) (d .decided-by .ensures)
+
+returns : tie.Need-returns
+returns c =
+    let v = c .before .before in
+    let d = v .before .before in
+    let s = begun d in
+    early-told (form s) (env s) (u s) (left s) (right s) _ _ _ _ (v .v .given .1) (hundred s) (seen (d .before)) (s .pre .1) (d .decided-by .ensures) _
+    (c .early .ensures)
+
+-- where there are terms
+abbrev told : tie.After-enum-told → tie.After-decided-by
+told e = e .before .before
+
+digits-for-requires : tie.Need-digits-for-requires
+digits-for-requires c κs =
+    let s = begun (told c) in
+    asks-format (form s) (env s) (u s) (left s) (right s) (hundred s) (isDot (s .args .k)) (s .pre .1) .range
+
+top-for-requires : tie.Need-top-for-requires
+top-for-requires c κs =
+    let d = told (c .before) in
+    let s = begun d in
+    top-room (form s) (env s) (u s) (left s) (right s) _ (hundred s) (seen (d .before))
+    (asks-format (form s) (env s) (u s) (left s) (right s) (hundred s) (isDot (s .args .k)) (s .pre .1))
+
+exact-requires : tie.Need-exact-requires
+exact-requires c κs =
+    let p = c .before in
+    let e = p .before in
+    let d = told e in
+    let s = begun d in
+    let a = s .args in
+    let f = form s in
+    let b = s .pre .1 in (
+      (
+        asks-format f (env s) (u s) (left s) (right s) (hundred s) (isDot (a .k)) b,
+        s .pre .0 .0,
+        s .pre .0 .1,
+        rw (elements-length (a .k .source) (a .left-words .now) (a .left-bytes .now)) at
+            (asks-few f (env s) (u s) (left s) (right s) (hundred s) (isDot (a .k)) b),
+        rw (p .digits-for .ensures) (digits-most f (env s) (u s) (left s) (right s) (hundred s) (isDot (a .k)) b),
+      ),
+      rw (c .top-for .ensures)
+          (exact-asks f (env s) (u s) (left s) (right s) _ _ (e .enum-told .given .1) (hundred s) refl (seen (d .before)) b (d .decided-by .ensures)),
+    )
+
+-- the chain's end, at the digits that were counted
+ends : (x : tie.After-exact) → let t = x .before in let s = begun (told (t .before .before)) in let a = s .args in
+    Sums (cond (hundred s) 64 (spec.digits (form s)))
+    (terms.terms (addedIn (form s) (env s) (a .k) (a .left-words .now) (a .left-bytes .now) (a .right-words .now) (a .right-bytes .now))) (x .exact .result)
+ends x = rw (x .before .before .digits-for .ensures) at (x .exact .ensures)
+
+left-requires : tie.Need-left-requires
+left-requires c κs =
+    let p = c .before .before in
+    let s = begun (told (p .before)) in (
+      rw (p .digits-for .ensures) (digits-most (form s) (env s) (u s) (left s) (right s) (hundred s) (isDot (s .args .k)) (s .pre .1)),
+      c .exact .ensures .ended,
+    )
+
+ended-requires : tie.Need-ended-requires
+ended-requires c κs =
+    let x = c .before in
+    let s = begun (told (x .before .before .before)) in
+    end-asks (form s) (env s) (u s) (left s) (right s) (hundred s) (s .pre .1) (ends x) (c .left .ensures)
+
+returns-2 : tie.Need-returns-2
+returns-2 c =
+    let x = c .before .before in
+    let e = x .before .before .before in
+    let d = told e in
+    let s = begun d in
+    end-told (form s) (env s) (u s) (left s) (right s) _ _ (e .enum-told .given .1) (hundred s) refl (seen (d .before)) (s .pre .1) (d .decided-by .ensures) _
+    (ends x) _ (c .ended .ensures)
+
+pub total-spec : {M : Type 1} → statement M
+total-spec =
+    tie.close
+    (tie.spec
+    (λ c κs. search needs)
+    scan-requires
+    (λ c κs. search needs)
+    (λ c. search needs)
+    early-requires
+    (λ c. search needs)
+    digits-for-requires
+    top-for-requires
+    exact-requires
+    left-requires
+    ended-requires
+    returns
+    returns-2)

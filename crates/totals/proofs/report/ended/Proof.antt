@@ -1,0 +1,35 @@
+-- `totals::report::ended` meets its contract.
+use mathlib.Core.Path.{_∙_}
+use borrow.Author.Needs.{needs}
+use borrow.Author.Tests.{eq-eqb, ne-eqb}
+use Rattle.totals.proofs.report.ended.Statement.{statement}
+use Rattle.totals.proofs.report.ended.Tie as tie
+
+whole-pence-requires : tie.Need-whole-pence-requires
+whole-pence-requires c κs = rw (eq-eqb _ 4 (c .if1 .taken)) at (c .before .pre)
+
+returns : tie.Need-returns
+returns c =
+    let p = c .before in
+    rw (eq-eqb _ 4 (p .before .if1 .taken)) (c .of-pence .ensures ∙ p .whole-pence .ensures)
+
+finish-requires : tie.Need-finish-requires
+finish-requires c κs = rw (ne-eqb _ 4 (c .before .if1 .left)) at (c .before .before .pre)
+
+returns-2 : tie.Need-returns-2
+returns-2 c =
+    let p = c .before in
+    let q = p .before in
+    rw (ne-eqb _ 4 (q .before .if1 .left)) (c .of-total .ensures ∙ (rw (q .products .ensures) at (p .finish .ensures)))
+
+pub ended-spec : {M : Type 1} → statement M
+ended-spec =
+    tie.close
+    (tie.spec
+    whole-pence-requires
+    (λ c κs. search needs)
+    returns
+    (λ c κs. search needs)
+    finish-requires
+    (λ c κs. search needs)
+    returns-2)
