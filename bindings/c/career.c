@@ -3,9 +3,9 @@
  *
  *     career forwards|backwards < examples/career.txt
  *
- * A line is the 16 hex digits of a month's amount in binary64. Result, flags
- * and passes go to standard output; what a running total comes to in that
- * order goes to standard error.
+ * A line is the 16 hex digits of a month's amount in binary64. Result, flags,
+ * passes and the pence of the sum go to standard output; what a running total
+ * comes to in that order goes to standard error.
  */
 #include <inttypes.h>
 #include <stdio.h>
@@ -45,6 +45,7 @@ static void reverse(double *list, size_t n)
 int main(int argc, char **argv)
 {
     totals_double_record total;
+    totals_pence_record pence;
     uint64_t encoding;
     double running = 0;
     size_t i, n;
@@ -68,6 +69,13 @@ int main(int argc, char **argv)
         return 1;
     }
     printf("%016" PRIx64 "\n%02x\n%" PRIu64 "\n", total.bits, total.flags, total.passes);
+    pence = totals_pence_double(months, n);
+    if (pence.refusal == TOTALS_ACCEPTED) {
+        printf("%" PRId64 "\n", pence.figure);
+    } else {
+        /* the sum was accepted, so this is TOTALS_NO_PENCE */
+        printf("none\n");
+    }
 
     for (i = 0; i < n; i++) {
         running += months[i];

@@ -526,6 +526,287 @@ static void refused_records(void)
     free(zeros);
 }
 
+#define NO_FIGURE 0x5a5a5a5a
+
+/* The entry and the inline function: the code, and the figure, which a refused call leaves as it was. */
+static int pence_are(totals_format f, const uint64_t *list, size_t count, uint64_t code, int64_t wanted)
+{
+    int64_t figure = NO_FIGURE;
+    const uint64_t given = totals_pence(f.kind, f.exponent_bits, f.width, f.bias_named, f.bias, list, count, &figure);
+    const totals_pence_record record = totals_pence_words(f, list, count);
+    return given == code && figure == (code == TOTALS_ACCEPTED ? wanted : NO_FIGURE) && record.refusal == TOTALS_REFUSAL(code)
+           && record.place == TOTALS_PLACE(code) && record.figure == wanted;
+}
+
+/* The figure of a list of double, through totals_pence_double and through the words. NO_FIGURE stands for TOTALS_NO_PENCE. */
+static int has_pence(const double *list, size_t count, int64_t wanted)
+{
+    const totals_format f = {TOTALS_BINARY64, TOTALS_OWN_BIAS};
+    const int is_refused = wanted == NO_FIGURE;
+    const totals_pence_record record = totals_pence_double(list, count);
+    uint64_t words[8];
+    memcpy(words, list, count * sizeof *list);
+    return record.refusal == (is_refused ? TOTALS_NO_PENCE : TOTALS_ACCEPTED) && record.place == 0
+           && record.figure == (is_refused ? 0 : wanted) && pence_are(f, words, count, record.refusal, record.figure);
+}
+
+/* A list, whose zeros at the end count for nothing, and a hundred times its exact sum, rounded: worked out by hand, or by exact fractions. */
+static void pence_of_doubles(void)
+{
+    const double least = number(1), largest = number(0x7fefffffffffffff), most = 92233720368547744.0;
+    const struct {
+        double list[6];
+        int64_t figure;
+    } rows[] = {
+        {{0}, 0},
+        {{0.0, -0.0}, 0},
+        {{-0.0}, 0},
+        {{412.37}, 41237},
+        {{0.1, 0.2, 0.3, 1e16, -1e16}, 60},
+        /* 12.5, 37.5 and 62.5: half a penny goes away from zero */
+        {{0.125}, 13},
+        {{0.375}, 38},
+        {{0.625}, 63},
+        /* a trace beside it, which the sum rounded to a double does not show */
+        {{0.125, -power(-60)}, 12},
+        {{0.125, power(-60)}, 13},
+        {{0.125, -least}, 12},
+        {{0.125, least}, 13},
+        {{0.375, -least}, 37},
+        {{0.375, least}, 38},
+        /* the doubles nearest to 2.675 and 1.005 are a little less, that to 0.005 a little more; the one before it is less */
+        {{2.675}, 267},
+        {{1.005}, 100},
+        {{0.005}, 1},
+        {{number(0x3f747ae147ae147a)}, 0},
+        {{least}, 0},
+        /* the sum is far smaller than what it is a sum of */
+        {{power(1000), 0.125, -power(1000)}, 13},
+        {{power(1023), power(500), 0.125, -power(500), -power(1023), -least}, 12},
+        {{largest, largest, 0.125, -largest, -largest}, 13},
+        /* 100 * 2^56; the next power of two is beyond 2^63 */
+        {{power(56)}, 7205759403792793600},
+        {{power(57)}, NO_FIGURE},
+        {{power(56), least}, 7205759403792793600},
+        {{largest, largest}, NO_FIGURE},
+        /* 9223372036854775800 pence in two doubles, and 7; 7.4999999999999997; 7.5000000000000011; 8 */
+        {{most, 14, 0.07}, INT64_MAX},
+        {{most, 14, 0.075}, INT64_MAX},
+        {{most, 14, number(0x3fb3333333333334)}, NO_FIGURE},
+        {{most, 14, 0.08}, NO_FIGURE},
+        {{most, 14, 0.07, 0.01}, NO_FIGURE},
+        {{most, 14, 0.08, -0.01}, INT64_MAX},
+    };
+    double negated[6];
+    size_t i, k;
+
+    CHECK(0.075 == number(0x3fb3333333333333));
+    for (i = 0; i < sizeof rows / sizeof *rows; i++) {
+        const int64_t figure = rows[i].figure;
+        for (k = 0; k < 6; k++) {
+            negated[k] = -rows[i].list[k];
+        }
+        /* of either sign: -2^63 is refused as 2^63 is */
+        if (!has_pence(rows[i].list, 6, figure) || !has_pence(negated, 6, figure == NO_FIGURE ? NO_FIGURE : -figure)) {
+            fprintf(stderr, "pence_of_doubles: row %d\n", (int)i);
+            failures++;
+        }
+    }
+    CHECK(totals_pence_double(NULL, 0).refusal == TOTALS_ACCEPTED && totals_pence_double(NULL, 0).figure == 0);
+    CHECK(has_pence(negated, 0, 0));
+}
+
+static void pence_of_floats(void)
+{
+    const float tie[2] = {0.125f, -1e-45f};
+    const uint32_t nan_bits = 0x7fc00000;
+    float many[TOTALS_ROOM_ + 1], nan_value;
+    size_t i;
+
+    CHECK(totals_pence_float(tie, 1).figure == 13 && totals_pence_float(tie, 2).figure == 12);
+    CHECK(totals_pence_float(NULL, 0).refusal == TOTALS_ACCEPTED && totals_pence_float(NULL, 0).figure == 0);
+    memcpy(&nan_value, &nan_bits, sizeof nan_value);
+    CHECK(totals_pence_float(&nan_value, 1).refusal == TOTALS_NO_PENCE && totals_pence_float(&nan_value, 1).figure == 0);
+    /* quarters of a pound, as many as find room without memory of their own, and one more */
+    for (i = 0; i <= TOTALS_ROOM_; i++) {
+        many[i] = i % 2 ? 0.25f : -0.5f;
+    }
+    CHECK(totals_pence_float(many, TOTALS_ROOM_).figure == -25 * (TOTALS_ROOM_ / 2));
+    CHECK(totals_pence_float(many, TOTALS_ROOM_ + 1).figure == -25 * (TOTALS_ROOM_ / 2) - 50 && owned == 0);
+    has_memory = 0;
+    CHECK(totals_pence_float(many, TOTALS_ROOM_).refusal == TOTALS_ACCEPTED);
+    CHECK(totals_pence_float(many, TOTALS_ROOM_ + 1).refusal == TOTALS_NO_MEMORY);
+    CHECK(totals_pence_float(many, TOTALS_ROOM_ + 1).figure == 0 && totals_pence_float(many, TOTALS_ROOM_ + 1).place == 0);
+    CHECK(totals_pence_double(NULL, 0).refusal == TOTALS_ACCEPTED);
+    has_memory = 1;
+}
+
+/* Each format that the header names: an eighth of a pound, or the least number where that is more; then a sum that is too large for the format. */
+static void pence_of_words(void)
+{
+#define PENCE(format, count, first, second, figure) \
+    do { \
+        const totals_format own = {format, TOTALS_OWN_BIAS}; \
+        const uint64_t list[2] = {first, second}; \
+        CHECK(pence_are(own, list, count, TOTALS_ACCEPTED, figure)); \
+    } while (0)
+#define NO_PENCE(format, value) \
+    do { \
+        const totals_format own = {format, TOTALS_OWN_BIAS}; \
+        const uint64_t list[2] = {0, value}; \
+        CHECK(pence_are(own, list, 2, TOTALS_NO_PENCE, 0)); \
+    } while (0)
+    PENCE(TOTALS_BINARY64, 2, 0x3fc0000000000000, 0xbc30000000000000, 12);
+    PENCE(TOTALS_BINARY32, 1, 0x3e000000, 0, 13);
+    PENCE(TOTALS_BINARY16, 1, 0x3000, 0, 13);
+    PENCE(TOTALS_BFLOAT16, 1, 0x3e00, 0, 13);
+    PENCE(TOTALS_TF32, 1, 0x1f000, 0, 13);
+    PENCE(TOTALS_E5M2, 1, 0x30, 0, 13);
+    PENCE(TOTALS_E4M3, 1, 0x20, 0, 13);
+    PENCE(TOTALS_E5M2_FNUZ, 1, 0x34, 0, 13);
+    PENCE(TOTALS_E4M3_FNUZ, 1, 0x28, 0, 13);
+    PENCE(TOTALS_E3M2, 1, 0x02, 0, 13);
+    PENCE(TOTALS_E2M3, 1, 0x01, 0, 13);
+    PENCE(TOTALS_E2M1, 1, 0x1, 0, 50);
+    /* a subnormal value is no zero: an eighth less 2^-24; and 1/16 */
+    PENCE(TOTALS_BINARY16, 2, 0x3000, 0x8001, 12);
+    PENCE(TOTALS_E3M2, 2, 0x02, 0x21, 6);
+    /* twice 65504; 57344; 448; 57344; 240; 28; 7.5; 6 */
+    PENCE(TOTALS_BINARY16, 2, 0x7bff, 0x7bff, 13100800);
+    PENCE(TOTALS_E5M2, 2, 0x7b, 0x7b, 11468800);
+    PENCE(TOTALS_E4M3, 2, 0x7e, 0x7e, 89600);
+    PENCE(TOTALS_E5M2_FNUZ, 2, 0x7f, 0x7f, 11468800);
+    PENCE(TOTALS_E4M3_FNUZ, 2, 0x7f, 0x7f, 48000);
+    PENCE(TOTALS_E3M2, 2, 0x3f, 0x3f, -5600);
+    PENCE(TOTALS_E2M3, 2, 0x3f, 0x3f, -1500);
+    PENCE(TOTALS_E2M1, 2, 0xf, 0xf, -1200);
+    /* infinities and NaNs, of either sign, quiet and signaling */
+    NO_PENCE(TOTALS_BINARY64, 0x7ff0000000000000);
+    NO_PENCE(TOTALS_BINARY64, 0xfff0000000000000);
+    NO_PENCE(TOTALS_BINARY64, 0x7ff8000000000000);
+    NO_PENCE(TOTALS_BINARY64, 0xfff0000000000001);
+    NO_PENCE(TOTALS_BINARY32, 0x7f800000);
+    NO_PENCE(TOTALS_BINARY16, 0x7e00);
+    NO_PENCE(TOTALS_E5M2, 0xfc);
+    NO_PENCE(TOTALS_E4M3, 0x7f);
+    NO_PENCE(TOTALS_E4M3, 0xff);
+    NO_PENCE(TOTALS_E5M2_FNUZ, 0x80);
+    NO_PENCE(TOTALS_E4M3_FNUZ, 0x80);
+}
+
+static void pence_biased(void)
+{
+    const int64_t far = TOTALS_FARTHEST_BIAS;
+    /* in binary16 a value with the exponent field x is 2^(x - bias) and its fraction */
+    const struct {
+        int64_t bias;
+        uint64_t list[2];
+        uint64_t code;
+        int64_t figure;
+    } rows[] = {
+        {15, {0x3000, 0x8001}, TOTALS_ACCEPTED, 12},
+        {25, {0x3c00, 0}, TOTALS_ACCEPTED, 0},       /* 2^-10 */
+        {25, {0x5800, 0}, TOTALS_ACCEPTED, 13},      /* 2^-3 */
+        {25, {0xd800, 0x3c00}, TOTALS_ACCEPTED, -12}, /* 2^-10 - 2^-3 */
+        {0, {0x3c00, 0}, TOTALS_ACCEPTED, 3276800},  /* 2^15 */
+        {-5, {0x0001, 0}, TOTALS_ACCEPTED, 6},       /* the least number is 2^-4 */
+        {-5, {0x0001, 0x0001}, TOTALS_ACCEPTED, 13},
+        {-40, {0x3c00, 0x3c00}, TOTALS_ACCEPTED, 7205759403792793600}, /* 2^56 */
+        {-40, {0x4400, 0}, TOTALS_NO_PENCE, 0},      /* 2^57 */
+        {-2000, {0x0001, 0}, TOTALS_NO_PENCE, 0},
+        {-2000, {0x0001, 0x8001}, TOTALS_ACCEPTED, 0},
+        {far, {0x7bff, 0x7bff}, TOTALS_ACCEPTED, 0},
+        {far, {0x7c00, 0}, TOTALS_NO_PENCE, 0},
+        {-far, {0x0000, 0x8000}, TOTALS_ACCEPTED, 0},
+        {-far, {0x8001, 0}, TOTALS_NO_PENCE, 0},
+        {far + 1, {0, 0}, TOTALS_NO_SUCH_FORMAT, 0},
+        {-far - 1, {0, 0}, TOTALS_NO_SUCH_FORMAT, 0},
+        {INT64_MAX, {0, 0}, TOTALS_NO_SUCH_FORMAT, 0},
+        {INT64_MIN, {0, 0}, TOTALS_NO_SUCH_FORMAT, 0},
+    };
+    /* 8 and 24; in Fnuz 30 */
+    const totals_format short_float = {TOTALS_FINITE, 2, 4, TOTALS_BIAS(-3)}, fnuz = {TOTALS_E4M3_FNUZ, TOTALS_BIAS(11)};
+    const uint64_t small[2] = {1, 3}, largest[1] = {0x7f};
+    size_t i;
+
+    for (i = 0; i < sizeof rows / sizeof *rows; i++) {
+        const totals_format half = {TOTALS_BINARY16, TOTALS_BIAS(rows[i].bias)};
+        if (!pence_are(half, rows[i].list, 2, rows[i].code, rows[i].figure)) {
+            fprintf(stderr, "pence_biased: row %d\n", (int)i);
+            failures++;
+        }
+    }
+    CHECK(pence_are(short_float, small, 2, TOTALS_ACCEPTED, 3200));
+    CHECK(pence_are(fnuz, largest, 1, TOTALS_ACCEPTED, 3000));
+}
+
+/* -12.5 pence and a trace toward zero, beside two amounts that cancel. */
+static void pence_in_every_order(void)
+{
+    const double values[5] = {1e300, -0.125, number(1), -1e300, 0};
+    const int orders[5][5] = {{0, 1, 2, 3, 4}, {4, 3, 2, 1, 0}, {1, 2, 0, 4, 3}, {3, 1, 4, 0, 2}, {2, 4, 1, 3, 0}};
+    double list[5];
+    size_t i, k;
+
+    for (i = 0; i < 5; i++) {
+        for (k = 0; k < 5; k++) {
+            list[k] = values[orders[i][k]];
+        }
+        CHECK(has_pence(list, 5, -12));
+    }
+}
+
+static void pence_refused(void)
+{
+    const size_t most = TOTALS_MOST_ELEMENTS;
+    const totals_format half = {TOTALS_BINARY16, TOTALS_OWN_BIAS}, wide = {TOTALS_BINARY64, TOTALS_OWN_BIAS}, none = {4, 5, 16, TOTALS_OWN_BIAS};
+    const totals_format not_named = {TOTALS_BINARY16, 0, 40}, neither = {TOTALS_BINARY16, 2, 15};
+    const uint64_t stray[3] = {0x7e00, 0x10000, 0x20000};
+    const double eighth = 0.125;
+    const float quarter = 0.25f;
+    uint64_t *words = (uint64_t *)calloc(most + 1, sizeof *words);
+    size_t i;
+
+    /* a stray bit comes before a NaN, though that stands first, and the first one is told */
+    CHECK(pence_are(half, stray, 1, TOTALS_NO_PENCE, 0));
+    CHECK(pence_are(half, stray, 2, TOTALS_STRAY_BIT + 256, 0));
+    CHECK(pence_are(half, stray, 3, TOTALS_STRAY_BIT + 256, 0));
+    CHECK(pence_are(half, stray + 2, 1, TOTALS_STRAY_BIT, 0));
+    /* a format comes before all else, with an empty list too */
+    CHECK(pence_are(none, stray, 3, TOTALS_NO_SUCH_FORMAT, 0));
+    CHECK(pence_are(none, stray, 0, TOTALS_NO_SUCH_FORMAT, 0));
+    CHECK(pence_are(not_named, stray, 1, TOTALS_NO_SUCH_FORMAT, 0));
+    CHECK(pence_are(neither, stray, 0, TOTALS_NO_SUCH_FORMAT, 0));
+    CHECK(totals_pence_words(none, NULL, 1).refusal == TOTALS_NO_SUCH_FORMAT);
+    CHECK(totals_pence_words(none, stray, SIZE_MAX).refusal == TOTALS_NO_SUCH_FORMAT);
+    CHECK(totals_pence_words(neither, NULL, SIZE_MAX).refusal == TOTALS_NO_SUCH_FORMAT);
+
+    /* as many elements as there may be, and one more: an eighth of a pound each, then a NaN and a stray bit among them */
+    for (i = 0; i <= most; i++) {
+        words[i] = 0x3000;
+    }
+    CHECK(pence_are(half, words, most, TOTALS_ACCEPTED, 13107200));
+    CHECK(pence_are(half, words, most + 1, TOTALS_TOO_MANY_ELEMENTS, 0));
+    words[most - 2] = 0x7e00;
+    CHECK(pence_are(half, words, most, TOTALS_NO_PENCE, 0));
+    words[most - 1] = 0x10000;
+    CHECK(pence_are(half, words, most, TOTALS_STRAY_BIT + 256 * (most - 1), 0));
+    CHECK(pence_are(half, words, most + 1, TOTALS_TOO_MANY_ELEMENTS, 0));
+    CHECK(pence_are(none, words, most + 1, TOTALS_NO_SUCH_FORMAT, 0));
+    free(words);
+    CHECK(totals_pence_float(&quarter, most + 1).refusal == TOTALS_TOO_MANY_ELEMENTS && owned == 0);
+    /* eight bytes an element of these are 8 bytes, or none, by a size_t that wraps */
+    CHECK(totals_pence_double(&eighth, SIZE_MAX / 8 + 2).refusal == TOTALS_TOO_MANY_ELEMENTS);
+    CHECK(totals_pence_float(&quarter, SIZE_MAX / 8 + 1).refusal == TOTALS_TOO_MANY_ELEMENTS);
+    CHECK(totals_pence_double(NULL, SIZE_MAX).refusal == TOTALS_TOO_MANY_ELEMENTS);
+    CHECK(totals_pence_double(NULL, SIZE_MAX).figure == 0 && totals_pence_double(NULL, SIZE_MAX).place == 0);
+
+    CHECK(totals_pence_double(NULL, 1).refusal == TOTALS_NO_LIST && totals_pence_double(NULL, 1).figure == 0);
+    CHECK(totals_pence_float(NULL, 1).refusal == TOTALS_NO_LIST);
+    CHECK(totals_pence_words(wide, NULL, most).refusal == TOTALS_NO_LIST && totals_pence_words(wide, NULL, most).place == 0);
+    CHECK(totals_pence_words(wide, NULL, 0).refusal == TOTALS_ACCEPTED);
+}
+
 /* The raw entry writes nothing where it refuses, and the inline functions lend it a buffer of their own: no list is touched. */
 static void lists_are_only_read(void)
 {
@@ -534,15 +815,16 @@ static void lists_are_only_read(void)
     totals_settings bad = TOTALS_SETTINGS_INIT;
     bad.rounding = 8;
     CHECK(totals_sum_double(list, 2, NULL).result == 3 && totals_sum_double(list, 2, &bad).refusal != TOTALS_ACCEPTED);
+    CHECK(totals_pence_double(list, 2).figure == 300);
     CHECK(memcmp(list, before, sizeof list) == 0);
 }
 
 /* Every refusal has words of its own. */
 static void refusals_in_words(void)
 {
-    const unsigned known[10] = {0, 1, 2, 3, 4, 5, 6, 7, TOTALS_NO_LIST, TOTALS_NO_MEMORY};
+    const unsigned known[11] = {0, 1, 2, 3, 4, 5, 6, 7, TOTALS_NO_PENCE, TOTALS_NO_LIST, TOTALS_NO_MEMORY};
     size_t i, k;
-    for (i = 0; i < 10; i++) {
+    for (i = 0; i < 11; i++) {
         CHECK(strcmp(totals_strerror(known[i]), totals_strerror(100)) != 0);
         for (k = 0; k < i; k++) {
             CHECK(strcmp(totals_strerror(known[i]), totals_strerror(known[k])) != 0);
@@ -557,7 +839,7 @@ static void version(void)
 {
     char text[32];
     sprintf(text, "%d.%d.%d", TOTALS_VERSION_MAJOR, TOTALS_VERSION_MINOR, TOTALS_VERSION_PATCH);
-    CHECK(strcmp(text, TOTALS_VERSION) == 0 && TOTALS_VERSION_NUMBER == 200);
+    CHECK(strcmp(text, TOTALS_VERSION) == 0 && TOTALS_VERSION_NUMBER == 300);
 }
 
 int main(void)
@@ -572,6 +854,12 @@ int main(void)
     biases_refused();
     own_biases();
     refused_records();
+    pence_of_doubles();
+    pence_of_floats();
+    pence_of_words();
+    pence_biased();
+    pence_in_every_order();
+    pence_refused();
     lists_are_only_read();
     refusals_in_words();
     version();

@@ -6,12 +6,14 @@
  *   totals_sum_double  totals_magnitude_sum_double  totals_square_sum_double  totals_dot_double
  *   totals_sum_float   totals_magnitude_sum_float   totals_square_sum_float   totals_dot_float
  *   totals_sum_words   totals_dot_words     encodings of any format
+ *   totals_pence_double  totals_pence_float  totals_pence_words   the exact sum in whole pence
  *   totals_strerror                         a refusal in words
  *   totals_sum         totals_dot           the functions of the library, over bytes
  *   totals_sum_biased  totals_dot_biased    the same in a format that names its bias
+ *   totals_pence                            and over words
  *
- * The first ten count elements, and answer with a record. They are inline, plain C, and call the
- * last four, which are proved. docs/LINKING.md has each with its special cases and an example.
+ * The first thirteen count elements, and answer with a record. They are inline, plain C, and call the
+ * last five, which are proved. docs/LINKING.md has each with its special cases and an example.
  * What is claimed of the library stands in docs/PROMISES.md, the exact meaning of each number below
  * in docs/SPECIFICATION.md. No function keeps a state, and all may be called from several threads.
  */
@@ -25,9 +27,9 @@
 
 /* The version of this header and of the archive that it was written for. */
 #define TOTALS_VERSION_MAJOR 0
-#define TOTALS_VERSION_MINOR 2
+#define TOTALS_VERSION_MINOR 3
 #define TOTALS_VERSION_PATCH 0
-#define TOTALS_VERSION "0.2.0"
+#define TOTALS_VERSION "0.3.0"
 #define TOTALS_VERSION_NUMBER (TOTALS_VERSION_MAJOR * 10000 + TOTALS_VERSION_MINOR * 100 + TOTALS_VERSION_PATCH)
 
 #ifdef __cplusplus
@@ -169,6 +171,7 @@ enum {
     TOTALS_DIFFERENT_LENGTHS = 5,    /* dot: the lists differ in length */
     TOTALS_TOO_MANY_ELEMENTS = 6,    /* over 1,048,576 elements (of a dot: pairs) */
     TOTALS_STRAY_BIT = 7,            /* an element is 2^width or more */
+    TOTALS_NO_PENCE = 8,             /* pence: a NaN or an infinity in the list, or a figure of magnitude 2^63 or more */
     TOTALS_NO_LIST = 254,            /* this and the next from the inline functions alone: NULL for a list that is not empty */
     TOTALS_NO_MEMORY = 255           /* a long list of float could not be copied */
 };
@@ -229,9 +232,31 @@ uint64_t totals_dot_biased(uint64_t kind, uint64_t exponent_bits, uint64_t width
                            uint8_t *answer, size_t answer_len);
 
 /*
- * Records: what the inline functions answer. Where refusal is TOTALS_ACCEPTED, result, flags, passes and side hold the total. Else
- * refusal says why there is none, and every other field is 0 but for the place of a TOTALS_STRAY_BIT. Later versions add
- * fields at the end.
+ * The pence of a list: a hundred times the exact sum of its values, to the nearest whole number, a half away from zero. Nothing
+ * is rounded to the format in between, so a sum that is too large for the format can have pence. There are no settings:
+ * subnormal values count as they are. An empty list has 0, and so has a sum nearer to 0 than half a penny.
+ *
+ *   bias_named, bias   TOTALS_OWN_BIAS, or TOTALS_BIAS(bias) where the format names one
+ *   values, count      encodings, one to a word in its low bits, and the number of them
+ *   figure             one word, apart from the values
+ *
+ * The count is one of elements, not of bytes. No pointer may be NULL, not even with count 0.
+ *
+ * Returns 0 and writes the figure. Or writes nothing and returns the first of these that holds:
+ *
+ *   TOTALS_NO_SUCH_FORMAT      also where bias_named is above 1, or is 0 and bias is not
+ *   TOTALS_TOO_MANY_ELEMENTS   zeros count
+ *   TOTALS_STRAY_BIT           plus 256 times the index of the first such element
+ *   TOTALS_NO_PENCE            of -2^63 pence too, though an int64_t could hold them
+ */
+uint64_t totals_pence(uint64_t kind, uint64_t exponent_bits, uint64_t width, uint64_t bias_named, int64_t bias,
+                      const uint64_t *values, size_t count,
+                      int64_t *figure);
+
+/*
+ * Records: what the inline functions answer. Where refusal is TOTALS_ACCEPTED, result, flags, passes and side hold the total, or
+ * figure its pence. Else refusal says why there is none, and every other field is 0 but for the place of a TOTALS_STRAY_BIT. Later
+ * versions add fields at the end.
  */
 typedef struct totals_record {
     uint64_t result; /* an encoding of the format */
@@ -262,6 +287,12 @@ typedef struct totals_float_record {
     unsigned side;
 } totals_float_record;
 
+typedef struct totals_pence_record {
+    int64_t figure; /* in pence, where there is no refusal */
+    uint64_t place;
+    unsigned refusal;
+} totals_pence_record;
+
 /*
  * A refusal in words. Takes the refusal of a record, or all that a function of the library returned.
  * Never NULL; of a number that it does not know it says so.
@@ -277,6 +308,7 @@ static inline const char *totals_strerror(uint64_t refusal)
     case TOTALS_DIFFERENT_LENGTHS: return "the two lists differ in length";
     case TOTALS_TOO_MANY_ELEMENTS: return "there are more than 1,048,576 elements";
     case TOTALS_STRAY_BIT: return "an element does not fit the format's width";
+    case TOTALS_NO_PENCE: return "the list holds a NaN or an infinity, or its sum is 2^63 pence or more, of either sign";
     case TOTALS_NO_LIST: return "the list is NULL, and its length is not 0";
     case TOTALS_NO_MEMORY: return "there is no memory for a copy of the list";
     default: return "a refusal that this header does not know";
@@ -355,6 +387,37 @@ static inline const uint8_t *totals_bytes_(totals_list_ list, uint8_t *room, uin
     return bytes;
 }
 
+/*
+ * The values as words, where they lie or, of float, in the room or in memory that is then owned; NULL where there is none. A list of
+ * double may be handed over as words: no C reads it by that pointer, and the caller's compiler must take the library, which it does
+ * not see, to read any memory that it can reach. An encoding is one word in every byte order.
+ */
+static inline const uint64_t *totals_words_(totals_list_ list, uint64_t *room, uint64_t **owned)
+{
+    static const uint64_t none = 0;
+    uint64_t *words = room;
+    size_t i;
+
+    if (list.count == 0) {
+        return &none;
+    }
+    if (list.size == 8) {
+        return (const uint64_t *)list.values;
+    }
+    if (list.count > TOTALS_ROOM_) {
+        words = *owned = (uint64_t *)TOTALS_MALLOC(8 * list.count);
+        if (words == NULL) {
+            return NULL;
+        }
+    }
+    for (i = 0; i < list.count; i++) {
+        uint32_t half;
+        memcpy(&half, (const uint8_t *)list.values + i * list.size, 4);
+        words[i] = half;
+    }
+    return words;
+}
+
 static inline int totals_is_missing_(totals_list_ list)
 {
     return list.values == NULL && list.count != 0;
@@ -430,6 +493,29 @@ static inline totals_record totals_take_(totals_format f, const totals_settings 
         record.refusal = (unsigned)TOTALS_REFUSAL(code);
         record.place = TOTALS_PLACE(code);
     }
+    return record;
+}
+
+static inline totals_pence_record totals_take_pence_(totals_format f, totals_list_ list)
+{
+    totals_pence_record record = {0, 0, 0};
+    /* As in totals_take_: a format is refused first, with an empty list too. */
+    const int is_refused = list.count > TOTALS_MOST_ELEMENTS || totals_is_missing_(list);
+    const totals_list_ lent = is_refused ? totals_list_of_(NULL, 0, 8) : list;
+    uint64_t code, room[TOTALS_ROOM_], *owned = NULL;
+    const uint64_t *words = totals_words_(lent, room, &owned);
+
+    if (words == NULL) {
+        code = TOTALS_NO_MEMORY;
+    } else {
+        code = totals_pence(f.kind, f.exponent_bits, f.width, f.bias_named, f.bias, words, lent.count, &record.figure);
+    }
+    TOTALS_FREE(owned);
+    if (code == TOTALS_ACCEPTED && is_refused) {
+        code = list.count > TOTALS_MOST_ELEMENTS ? TOTALS_TOO_MANY_ELEMENTS : TOTALS_NO_LIST;
+    }
+    record.refusal = (unsigned)TOTALS_REFUSAL(code);
+    record.place = TOTALS_PLACE(code);
     return record;
 }
 
@@ -535,6 +621,24 @@ static inline totals_record totals_dot_words(totals_format format, const uint64_
 {
     return totals_take_(format, settings, TOTALS_VALUE, 1, totals_list_of_(left, left_count, sizeof *left),
                         totals_list_of_(right, right_count, sizeof *right));
+}
+
+/* The pence of the exact sum of `count` elements, as totals_pence has them. A list may be NULL where its count is 0. */
+static inline totals_pence_record totals_pence_double(const double *values, size_t count)
+{
+    const totals_format f = {TOTALS_BINARY64, TOTALS_OWN_BIAS};
+    return totals_take_pence_(f, totals_list_of_(values, count, sizeof *values));
+}
+
+static inline totals_pence_record totals_pence_float(const float *values, size_t count)
+{
+    const totals_format f = {TOTALS_BINARY32, TOTALS_OWN_BIAS};
+    return totals_take_pence_(f, totals_list_of_(values, count, sizeof *values));
+}
+
+static inline totals_pence_record totals_pence_words(totals_format format, const uint64_t *values, size_t count)
+{
+    return totals_take_pence_(format, totals_list_of_(values, count, sizeof *values));
 }
 
 #ifdef __cplusplus

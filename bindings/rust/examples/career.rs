@@ -2,11 +2,14 @@
 //!
 //!     career forwards|backwards < examples/career.txt
 //!
-//! A line is the 16 hex digits of a month's amount in binary64. Result, flags and passes go to
-//! standard output; what a running total comes to in that order goes to standard error.
+//! A line is the 16 hex digits of a month's amount in binary64. Result, flags, passes and the pence
+//! of the sum go to standard output; what a running total comes to in that order goes to standard
+//! error.
 
 use std::error::Error;
 use std::{env, io};
+
+use fermuzhai::Refusal;
 
 fn main() -> Result<(), Box<dyn Error>> {
     let mut months = Vec::new();
@@ -25,6 +28,11 @@ fn main() -> Result<(), Box<dyn Error>> {
         total.flags.bits(),
         total.passes
     );
+    match fermuzhai::pence(&months) {
+        Ok(pence) => println!("{pence}"),
+        Err(Refusal::NoPence) => println!("none"),
+        Err(refusal) => return Err(refusal.into()),
+    }
     eprintln!("{:016x}", months.iter().sum::<f64>().to_bits());
     Ok(())
 }

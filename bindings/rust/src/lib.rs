@@ -89,3 +89,36 @@ pub fn square_sum<T: Float>(values: &[T]) -> Result<Record<T>, Refusal> {
 pub fn dot<T: Float>(left: &[T], right: &[T]) -> Result<Record<T>, Refusal> {
     Totals::new().dot(left, right)
 }
+
+/// The pence of the list: a hundred times the exact sum of its values, to the nearest whole number,
+/// a half away from zero.
+///
+/// The sum is not rounded to a float in between, so half a penny is told from a little less, beside
+/// amounts of any size that cancel too. A list of `f64` is read where it lies; one of `f32` is
+/// copied first, eight bytes a value.
+///
+/// # Errors
+///
+/// [`Refusal::TooManyElements`] where there are more than 1,048,576 values, else
+/// [`Refusal::NoPence`] where one is a NaN or an infinity, or the figure's magnitude is 2^63 or more.
+///
+/// Proved: `pence-by-chain`, `pence-order`, `one-pence` in
+/// `crates/totals_spec/proofs/Promises.antt`.
+///
+/// ```
+/// use fermuzhai::{pence, sum, Refusal};
+///
+/// assert_eq!(pence(&[0.125])?, 13);
+/// assert_eq!(pence(&[-0.125])?, -13);
+///
+/// // a little less than 12.5 pence, which the rounded sum does not show
+/// let less = [0.125, -2f64.powi(-60)];
+/// assert_eq!(pence(&less)?, 12);
+/// assert_eq!(sum(&less)?.result, 0.125);
+///
+/// assert_eq!(pence(&[1.0, f64::NAN]), Err(Refusal::NoPence));
+/// # Ok::<(), fermuzhai::Refusal>(())
+/// ```
+pub fn pence<T: Float>(values: &[T]) -> Result<i64, Refusal> {
+    Totals::new().pence(values)
+}

@@ -1,4 +1,4 @@
-//! The four byte entries of `libtotals.a`, as they are.
+//! The five entries of `libtotals.a`, as they are: four over bytes, and [`pence`] over words.
 //!
 //! The numbers and the layout of the answer are those of the repository's `docs/SPECIFICATION.md`.
 //! For most callers [`Totals`](crate::Totals) is the better way in.
@@ -91,6 +91,16 @@ mod entry {
             right_len: usize,
             answer: *mut u8,
             answer_len: usize,
+        ) -> u64;
+        pub fn totals_pence(
+            kind: u64,
+            exponent_bits: u64,
+            width: u64,
+            bias_named: u64,
+            bias: i64,
+            values: *const u64,
+            count: usize,
+            figure: *mut i64,
         ) -> u64;
     }
 }
@@ -273,7 +283,56 @@ pub fn dot_biased(
     }
 }
 
-/// Values as the entries read them: eight bytes a value, the least byte first.
+/// The pence of the list: a hundred times the exact sum of its values, to the nearest whole number,
+/// a half away from zero. `values` are encodings, one to a word in its low bits; `bias` is the one
+/// that the format names, or `None` for the kind's own.
+///
+/// # Errors
+///
+/// The code of a refusal, which [`Refusal::from_code`](crate::Refusal::from_code) reads: 3, 6, 7
+/// plus 256 times a place, or 8, the first that holds. What they mean is said at
+/// [`Totals::pence`](crate::Totals::pence).
+///
+/// Proved: the contract of `totals_pence` in `crates/totals/src/entry.rt`; `pence-by-chain`,
+/// `pence-order`, `one-pence`, `sum-pence-refused-exactly`, `pence-place` in
+/// `crates/totals_spec/proofs/Promises.antt`.
+///
+/// ```
+/// use fermuzhai::raw;
+///
+/// // 0.125 is 12.5 pence, and 2^−24 less is a little less, in binary16
+/// assert_eq!(raw::pence([0, 5, 16], None, &[0x3000]), Ok(13));
+/// assert_eq!(raw::pence([0, 5, 16], None, &[0x3000, 0x8001]), Ok(12));
+/// // with a bias of 25, 0x5800 is 2^(22 − 25)
+/// assert_eq!(raw::pence([0, 5, 16], Some(25), &[0x5800]), Ok(13));
+/// // a NaN; and a stray bit behind it, at index 1
+/// assert_eq!(raw::pence([0, 5, 16], None, &[0x7e00]), Err(8));
+/// assert_eq!(raw::pence([0, 5, 16], None, &[0x7e00, 0x1_0000]), Err(7 + 256));
+/// ```
+pub fn pence(f: Format, bias: Option<i64>, values: &[u64]) -> Result<i64, u64> {
+    let mut figure = 0;
+    // SAFETY: the pointer to the values comes with the count of the slice that it is taken from, and
+    // `figure` is this call's own. Of the numbers nothing is asked.
+    let code = unsafe {
+        entry::totals_pence(
+            f[0],
+            f[1],
+            f[2],
+            bias.is_some().into(),
+            bias.unwrap_or(0),
+            values.as_ptr(),
+            values.len(),
+            &mut figure,
+        )
+    };
+    if code == 0 {
+        Ok(figure)
+    } else {
+        Err(code)
+    }
+}
+
+/// Values as the byte entries read them: eight bytes a value, the least byte first.
 #[must_use]
 pub fn bytes(values: &[u64]) -> Vec<u8> {
     u64::bytes(values).into_owned()

@@ -26,7 +26,8 @@ impl Display for OfList {
 /// Why a total was not taken. Where several reasons hold, the first in this order is given. The
 /// numbers and their conditions stand in `docs/SPECIFICATION.md` of the repository.
 ///
-/// Proved: `sum-refusal`, `dot-refusal` in `crates/totals_spec/proofs/Promises.antt`.
+/// Proved: `sum-refusal`, `dot-refusal`, `sum-pence-refused-exactly` in
+/// `crates/totals_spec/proofs/Promises.antt`.
 ///
 /// ```
 /// use fermuzhai::{dot, Refusal};
@@ -71,6 +72,9 @@ pub enum Refusal {
         /// from [`Refusal::from_code`].
         list: Option<List>,
     },
+    /// 8: the sum of the list has no figure in pence. A value is a NaN or an infinity, or the
+    /// magnitude of the figure is 2^63 or more; −2^63 is refused too, though an `i64` could hold it.
+    NoPence,
     /// A code that this crate does not know: the archive is not the one that it was written for.
     Unknown {
         /// What the entry returned.
@@ -99,6 +103,7 @@ impl Refusal {
             4 => Self::SettingOutOfRange,
             5 => Self::DifferentLengths,
             6 => Self::TooManyElements,
+            8 => Self::NoPence,
             _ if code % 256 == 7 => Self::StrayBit {
                 place: (code / 256) as usize,
                 list: None,
@@ -140,6 +145,9 @@ impl Display for Refusal {
                     OfList(*list)
                 )
             }
+            Self::NoPence => out.write_str(
+                "the list holds a NaN or an infinity, or its sum is 2^63 pence or more, of either sign",
+            ),
             Self::Unknown { code } => {
                 write!(
                     out,
@@ -170,7 +178,9 @@ mod tests {
                 Some(Refusal::StrayBit { place, list: None })
             );
         }
-        for code in [8, 255, 256, 257, u64::MAX] {
+        assert_eq!(Refusal::from_code(8), Some(Refusal::NoPence));
+        // a place belongs to a stray bit alone
+        for code in [9, 255, 256, 257, 8 + 256, u64::MAX] {
             assert_eq!(Refusal::from_code(code), Some(Refusal::Unknown { code }));
         }
     }
@@ -205,6 +215,10 @@ mod tests {
                     list: Some(List::Left),
                 },
                 "the element at index 2 of the left list does not fit the format's width",
+            ),
+            (
+                Refusal::NoPence,
+                "the list holds a NaN or an infinity, or its sum is 2^63 pence or more, of either sign",
             ),
         ] {
             assert_eq!(refusal.to_string(), words);

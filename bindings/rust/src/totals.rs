@@ -2,7 +2,8 @@ use core::marker::PhantomData;
 
 use crate::{raw, Flags, Float, Format, List, Record, Refusal, Settings, Side, Summand, Value};
 
-/// The four totals in one format and under one choice of settings.
+/// The four totals in one format and under one choice of settings; and the pence of a sum, in which
+/// settings play no part.
 ///
 /// [`Totals::new`] is for the floats of Rust, [`Totals::of`] for encodings of any format.
 ///
@@ -124,6 +125,47 @@ impl<T: Value> Totals<T> {
     /// Proved: `dot-exact`, `dot-entry-order` in `crates/totals_spec/proofs/Promises.antt`.
     pub fn dot(&self, left: &[T], right: &[T]) -> Result<Record<T>, Refusal> {
         self.dot_bytes(&T::bytes(left), &T::bytes(right))
+    }
+
+    /// The pence of the list: a hundred times the exact sum of its values, to the nearest whole
+    /// number, a half away from zero.
+    ///
+    /// Nothing is rounded to the format in between: a sum that is too large for it can have pence.
+    /// The settings play no part. Subnormal values count as they are, and a precision is not looked
+    /// at. An empty list has 0, and so has a sum nearer to 0 than half a penny.
+    ///
+    /// # Errors
+    ///
+    /// The first of these that holds:
+    ///
+    /// - [`Refusal::NoSuchFormat`], of encodings of a format that the library does not have, or that
+    ///   names a bias out of its range
+    /// - [`Refusal::TooManyElements`], of more than 1,048,576 values
+    /// - [`Refusal::StrayBit`], of an encoding that is wider than the format
+    /// - [`Refusal::NoPence`], of a NaN or an infinity anywhere in the list, or a figure whose
+    ///   magnitude is 2^63 or more
+    ///
+    /// Proved: the contract of `totals_pence` in `crates/totals/src/entry.rt`; `pence-by-chain`,
+    /// `pence-order` (every order of a list without a stray bit has one answer), `one-pence` in
+    /// `crates/totals_spec/proofs/Promises.antt`.
+    ///
+    /// ```
+    /// use fermuzhai::{Format, Refusal, Totals};
+    ///
+    /// // 65504, the largest number of half precision, twice
+    /// let halves = Totals::of(Format::BINARY16);
+    /// assert_eq!(halves.pence(&[0x7bff, 0x7bff])?, 13_100_800);
+    ///
+    /// // a NaN, and behind it an encoding that is too wide, which is refused first
+    /// assert_eq!(halves.pence(&[0x7e00]), Err(Refusal::NoPence));
+    /// let stray = Refusal::StrayBit { place: 1, list: None };
+    /// assert_eq!(halves.pence(&[0x7e00, 0x1_0000]), Err(stray));
+    /// # Ok::<(), fermuzhai::Refusal>(())
+    /// ```
+    pub fn pence(&self, values: &[T]) -> Result<i64, Refusal> {
+        let named = self.format.named_bias;
+        raw::pence(self.format.into(), named, &T::encodings(values))
+            .map_err(|code| Refusal::from_code(code).unwrap_or(Refusal::Unknown { code }))
     }
 
     /// One of the three sums, chosen by its summand.

@@ -36,9 +36,14 @@ pub(crate) mod sealed {
         fn from_encoding(encoding: u64) -> Self;
         fn show(&self, out: &mut Formatter<'_>) -> fmt::Result;
 
-        /// The encodings as the entries read them: eight bytes a value, the least byte first.
+        /// The encodings as the byte entries read them: eight bytes a value, the least byte first.
         fn bytes(values: &[Self]) -> Cow<'_, [u8]> {
             Cow::Owned(copied(values))
+        }
+
+        /// The encodings, one to a word.
+        fn encodings(values: &[Self]) -> Cow<'_, [u64]> {
+            Cow::Owned(values.iter().map(|value| value.encoding()).collect())
         }
     }
 
@@ -59,6 +64,10 @@ pub(crate) mod sealed {
         fn bytes(values: &[Self]) -> Cow<'_, [u8]> {
             words(values)
         }
+
+        fn encodings(values: &[Self]) -> Cow<'_, [u64]> {
+            Cow::Borrowed(values)
+        }
     }
 
     impl Value for f64 {
@@ -76,6 +85,21 @@ pub(crate) mod sealed {
 
         fn bytes(values: &[Self]) -> Cow<'_, [u8]> {
             words(values)
+        }
+
+        /// The list itself, with nothing copied: in memory a float is its encoding, in whatever
+        /// order the platform has the bytes of both.
+        fn encodings(values: &[Self]) -> Cow<'_, [u64]> {
+            const {
+                assert!(size_of::<f64>() == size_of::<u64>());
+                assert!(align_of::<f64>() >= align_of::<u64>());
+            }
+            // SAFETY: the pointer and the count are those of one slice, which stays borrowed as long
+            // as the words are. A word has the size and no greater alignment than a float, whose
+            // every bit has a value, and may have any value.
+            Cow::Borrowed(unsafe {
+                core::slice::from_raw_parts(values.as_ptr().cast(), values.len())
+            })
         }
     }
 
@@ -137,6 +161,19 @@ pub(crate) mod sealed {
             let encodings = list.map(f64::to_bits);
             assert_eq!(u64::bytes(&encodings), f64::bytes(&list));
             assert!(matches!(u64::bytes(&encodings), Cow::Borrowed(_)));
+        }
+
+        #[test]
+        fn lent_words_are_the_encodings() {
+            let list = [0.0, -0.0, 1.5, f64::NAN, f64::INFINITY, 5e-324];
+            let encodings = list.map(f64::to_bits);
+            for lent in [f64::encodings(&list), u64::encodings(&encodings)] {
+                assert_eq!(*lent, encodings);
+                assert!(matches!(lent, Cow::Borrowed(_)));
+            }
+            assert_eq!(*f64::encodings(&list[1..3]), encodings[1..3]);
+            assert!(f64::encodings(&[]).is_empty());
+            assert_eq!(*f32::encodings(&[1.0, -0.0]), [0x3f80_0000, 0x8000_0000]);
         }
 
         #[test]

@@ -101,6 +101,17 @@ fn the_sum_is_the_expected_one_in_every_order() {
 }
 
 #[test]
+fn the_pence_are_the_expected_ones_in_every_order() {
+    let expected = EXPECTED.lines().last().unwrap().parse().unwrap();
+    let mut months = career();
+    let mut draw = Draw(2);
+    for _ in 0..SHUFFLES {
+        assert_eq!(fermuzhai::pence(&months), Ok(expected));
+        draw.shuffle(&mut months);
+    }
+}
+
+#[test]
 fn a_running_total_parts() {
     let months = career();
     let forwards: f64 = months.iter().sum();
