@@ -20,14 +20,17 @@ use Rattle.totals_spec.specs.Terms.{exactSum}
 use Rattle.totals_spec.specs.Totals.{Answer, stray, limit, refuseIf, firstIndex, sumTerms, sumRefusal, sumAnswer, dotRefusal, dotAnswer}
 use Rattle.totals_spec.specs.Bytes.{Entry, valuesIn, uneven, short, entered, written, sumEntry, dotEntry}
 use Rattle.totals_spec.specs.Pence.{Pence, refusedPence, refusedAt, penceOf, figureOf, penceAnswer, notNumber, sumFigure, sumPence}
-use Rattle.totals_spec.specs.Words.{misnamed, formatBy, FigureEntry, figureEntered, penceEntry}
+use Rattle.totals_spec.specs.Table.{Tabled, tableRefusal, tableAnswer}
+use Rattle.totals_spec.specs.Words.{misnamed, formatBy, FigureEntry, figureEntered, penceEntry, tableEntry}
 use Rattle.totals_spec.specs.Conditions.{Uneven, Short, FarBias, BadFormat, BadSettings, BadSummand, Unequal, TooMany, StrayBit, Stray, NoPence, NoNumber}
-use Rattle.totals_spec.specs.Conditions.{Condition, First, Misnamed, sumConditions, dotConditions, entryConditions, sumPenceConditions}
+use Rattle.totals_spec.specs.Conditions.{Condition, First, Misnamed, NoRoom, sumConditions, dotConditions, entryConditions, sumPenceConditions}
+use Rattle.totals_spec.specs.Conditions.{tableConditions}
 use Rattle.totals_spec.specs.Promises.{Sum-refused-exactly, Dot-refused-exactly, Entry-refused-exactly, Pence-refused-exactly, Sum-pence-refused-exactly}
-use Rattle.totals_spec.specs.Promises.{Pence-entry-refused-exactly}
+use Rattle.totals_spec.specs.Promises.{Pence-entry-refused-exactly, Table-refused-exactly, Table-entry-refused-exactly}
 use Rattle.totals_spec.proofs.Bits.{T-of}
 use Rattle.totals_spec.proofs.Valid.{format-bounds, settings-bounds}
 use Rattle.totals_spec.proofs.SumPence.{sum-pence-number}
+use Rattle.totals_spec.proofs.Table.{tableTested, table-number, table-small}
 use Rattle.totals_spec.proofs.Refused.{sum-refusal, dot-refusal, sum-small, dot-small}
 
 -- ---- tests in their order, each of which finds a condition, and the number of the first that is true
@@ -368,3 +371,45 @@ pence-entry-refused-exactly k e w named b l old n =
     let f = formatBy k e w named b in
     rw (figure-number (misnamed named b) (sumPence f l) old (sum-pence-number f l))
     (exactly (test (misnamed named b) (misnamed-found named b) (sum-pence-tests f l)) n)
+
+-- ---- tables
+
+room-found : (rows columns : ℕ) (old other : List ℕ) → T (ltb (length old) rows || ltb (length other) columns) ↔ NoRoom rows columns old other
+room-found rows columns old other =
+    either (ltb (length old) rows) (ltb (length other) columns) (ltb→lt (length old) rows, lt→ltb (length old) rows)
+    (ltb→lt (length other) columns, lt→ltb (length other) columns)
+
+table-tests : (f : Format) (c : Settings) (rows columns : ℕ) (cells old other : List ℕ)
+    → Tests (tableConditions f c rows columns cells old other) (tableRefusal f c rows columns cells old other)
+unfolding tableRefusal
+table-tests f c rows columns cells old other =
+    test (not (validFormat f)) (format-fails f)
+    (test (not (validSettings f c)) (settings-fail f c)
+    (test (ltb limit (length cells)) (many-found cells)
+    (test (not (eqb (rows * columns) (length cells))) (different (rows * columns) (length cells))
+    (test (ltb (length old) rows || ltb (length other) columns) (room-found rows columns old other)
+    (test (any (stray f) cells) (stray-found f cells) last)))))
+
+pub table-refused-exactly : Table-refused-exactly
+table-refused-exactly f c rows columns cells old other n =
+    rw (table-number f c rows columns cells old other) (exactly (table-tests f c rows columns cells old other) n)
+
+-- ---- and of their entry
+
+table-entry-number : (a b : Bool) (t : Tabled) (old other buffer : List ℕ) → t .grand .refusal < 256
+    → (tableTested a b t old other buffer) .code % 256 ≡ refuseIf a 2 (refuseIf b 3 (t .grand .refusal))
+table-entry-number true b t old other buffer h = refl
+table-entry-number false true t old other buffer h = refl
+table-entry-number false false t old other buffer h = entry-number false false (t .grand) buffer h
+
+pub table-entry-refused-exactly : Table-entry-refused-exactly
+unfolding tableEntry
+table-entry-refused-exactly k e w named b c rows columns cells old other buffer n =
+    let f = formatBy k e w named b in
+    let t = tableAnswer f c rows columns cells old other in
+    rw (
+      table-entry-number (short buffer) (misnamed named b) t old other buffer (table-small f c rows columns cells old other .number),
+      table-number f c rows columns cells old other,
+    )
+    (exactly (test (short buffer) (short-found buffer)
+    (test (misnamed named b) (misnamed-found named b) (table-tests f c rows columns cells old other))) n)

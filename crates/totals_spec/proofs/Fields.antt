@@ -97,7 +97,7 @@ module _ (f : Format) (c : Settings) (sub products : Bool) (l : List Item) where
   pub accepted-fields : (infinityFirst signaling : Bool) (v : Unpacked) → Fields (accepted f c sub products infinityFirst signaling v l)
   accepted-fields = accepted-has Fields f c sub products l without (by-passes _ _ _ (few-sum f c (grid f products) _ _))
 
-answered-fields : (n at : ℕ) (a : Answer) → Fields a → Fields (answered n at a)
+pub answered-fields : (n at : ℕ) (a : Answer) → Fields a → Fields (answered n at a)
 answered-fields n at a h = cond-has Fields (eqb n 0) a (refused n (cond (eqb n 7) at 0)) h (record { flags = omega arith; side = omega arith })
 
 pub sum-fields : (f : Format) (c : Settings) (u : ℕ) (l : List ℕ) → Fields (sumAnswer f c u l)

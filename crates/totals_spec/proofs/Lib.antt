@@ -48,6 +48,8 @@ pub mod Fits
 pub mod ReadBack
 -- A named bias.
 pub mod Own
+-- Tables.
+pub mod Table
 -- The pence of a list, and how a chain finds them.
 pub mod Nearest
 pub mod SumPence

@@ -17,10 +17,11 @@ use Rattle.totals_spec.specs.Terms.{Item, item, pairItem}
 use Rattle.totals_spec.specs.Chain.{Run}
 use Rattle.totals_spec.specs.Round.{Rounded, overflows, largest, overflow, numberOf, finished, tinySum, roundTo, round}
 use Rattle.totals_spec.specs.Encode.{zeroBits, nanBits, encode}
-use Rattle.totals_spec.specs.Totals.{special, reported, sumRounded, finiteTotal, withoutNan, accepted, sumRefusal, sumAccepted, sumAnswer}
+use Rattle.totals_spec.specs.Totals.{Answer, special, reported, sumRounded, finiteTotal, withoutNan, accepted, sumRefusal, sumAccepted, sumAnswer}
 use Rattle.totals_spec.specs.Totals.{pairs, operands, dotRefusal, dotPlace, dotAccepted, dotAnswer}
 use Rattle.totals_spec.specs.Bytes.{valuesIn, sumEntry, dotEntry}
 use Rattle.totals_spec.specs.Pence.{penceAnswer, notNumber, sumFigure, sumPence}
+use Rattle.totals_spec.specs.Table.{tableRefusal, tableAnswer}
 use Rattle.totals_spec.specs.Promises.{namingOwn, namingNone, Named-own}
 
 -- ---- the definitions that read the name: the kind's own bias may be named, and is the bias
@@ -167,6 +168,11 @@ module _ (f : Format) where
   unfolding sumPence sumFigure origin fall depth
   sum-pence-own l = cc (valid-own, bias-own, lift-own, numbers-own l, fun-ext (item-own noSettings value))
 
+  table-own : (c : Settings) (rows columns : ℕ) (cells old other : List ℕ)
+      → tableAnswer (namingOwn f) c rows columns cells old other ≡ tableAnswer (namingNone f) c rows columns cells old other
+  unfolding tableAnswer tableRefusal validSettings
+  table-own c rows columns cells old other = cc (valid-own, sum-own c 0 cells, fun-ext (λ (l : List ℕ). ap (λ (a : Answer). a .result) (sum-own c 0 l)))
+
 pub named-own : Named-own
 named-own f = record {
   sum = sum-own f;
@@ -175,4 +181,5 @@ named-own f = record {
   dot-entry = dot-entry-own f;
   pence = pence-own f;
   sum-pence = sum-pence-own f;
+  table = table-own f;
 }

@@ -17,6 +17,8 @@ use Rattle.totals_spec.specs.Promises.{Sum-zeros, Dot-zeros, Sum-refused
 use Rattle.totals_spec.specs.Promises.{Sum-fits, Dot-fits, Entry-read-back, Size-is-length, Rounded-back}
 use Rattle.totals_spec.specs.Promises.{Sum-pence-agree, Sum-pence-refused-exactly, Sum-pence-refused, Pence-place, One-pence, Pence-by-chain, Pence-order}
 use Rattle.totals_spec.specs.Promises.{Pence-entry-refused-exactly, Pence-entry-refused}
+use Rattle.totals_spec.specs.Promises.{Tables-agree, Table-refused-exactly, Table-entry-refused-exactly, Table-refused, Table-place, Table-entry-refused}
+use Rattle.totals_spec.specs.Promises.{Table-entry-read-back, Table-grand, Table-row, Table-column, Column-cells, Table-untouched}
 use Rattle.totals_spec.proofs.Bits.{low-divides, low-set, size-none, size-one-less}
 use Rattle.totals_spec.proofs.Good.{good-terms, good-pairs}
 use Rattle.totals_spec.proofs.Valid.{digits-le}
@@ -39,6 +41,7 @@ use Rattle.totals_spec.proofs.Binary64 as binary64s
 use Rattle.totals_spec.proofs.Own as biases
 use Rattle.totals_spec.proofs.SumPence as pence
 use Rattle.totals_spec.proofs.Hundredfold as hundredfold
+use Rattle.totals_spec.proofs.Table as tables
 
 -- ==== the document's examples (specs/Careers, which computes them, and Careers)
 
@@ -56,6 +59,9 @@ biases-agree = tests.biases-agree
 
 pub sum-pence-agree : Sum-pence-agree
 sum-pence-agree = tests.sum-pence-agree
+
+pub tables-agree : Tables-agree
+tables-agree = tests.tables-agree
 
 pub examples-agree : Examples-agree
 examples-agree = (tests.refusals-agree, tests.entry-agrees, tests.pence-agree, tests.program-agrees)
@@ -218,6 +224,41 @@ pence-by-chain = hundredfold.pence-by-chain
 
 pub pence-order : Pence-order
 pence-order = pence.pence-order
+
+-- ==== document 02, A.3: tables (Exactly, Table, ReadBack)
+
+pub table-refused-exactly : Table-refused-exactly
+table-refused-exactly = exactly.table-refused-exactly
+
+pub table-entry-refused-exactly : Table-entry-refused-exactly
+table-entry-refused-exactly = exactly.table-entry-refused-exactly
+
+pub table-refused : Table-refused
+table-refused = tables.table-refused
+
+pub table-place : Table-place
+table-place = tables.table-place
+
+pub table-entry-refused : Table-entry-refused
+table-entry-refused = tables.table-entry-refused
+
+pub table-entry-read-back : Table-entry-read-back
+table-entry-read-back = reading.table-entry-read-back
+
+pub table-grand : Table-grand
+table-grand = tables.table-grand
+
+pub table-row : Table-row
+table-row = tables.table-row
+
+pub table-column : Table-column
+table-column = tables.table-column
+
+pub column-cells : Column-cells
+column-cells = tables.column-cells
+
+pub table-untouched : Table-untouched
+table-untouched = tables.table-untouched
 
 -- ==== document 02, A.7: a named bias (Own)
 

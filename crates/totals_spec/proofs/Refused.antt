@@ -25,7 +25,7 @@ use Rattle.totals_spec.proofs.Places.{first-stray, dot-stray}
 
 -- ---- an accepted record has neither number nor place
 
-record Unrefused (a : Answer) : Type 0 where
+pub record Unrefused (a : Answer) : Type 0 where
   pub number : a .refusal ≡ 0
   pub place : a .place ≡ 0
 
@@ -53,34 +53,34 @@ module _ (n at : ℕ) (a : Answer) where
   answered-refused : n ≢ 0 → answered n at a ≡ refused n (cond (eqb n 7) at 0)
   answered-refused h = rw (ne-eqb n 0 h)
 
-  answered-number : Unrefused a → (answered n at a) .refusal ≡ n
+  pub answered-number : (n ≡ 0 → Unrefused a) → (answered n at a) .refusal ≡ n
   answered-number h = go (eqb n 0) (eqb→eq n 0)
     where
       go : (b : Bool) → (T b → n ≡ 0) → (cond b a (refused n (cond (eqb n 7) at 0))) .refusal ≡ n
-      go true e = h .number ∙ sym (e tt)
+      go true e = h (e tt) .number ∙ sym (e tt)
       go false e = refl
 
-  answered-whole : n ≢ 0 → answered n at a ≡ refused n ((answered n at a) .place)
+  pub answered-whole : n ≢ 0 → answered n at a ≡ refused n ((answered n at a) .place)
   answered-whole h = answered-refused h ∙ ap (refused n) (sym (ap (λ (x : Answer). x .place) (answered-refused h)))
 
-  no-place : Unrefused a → n ≢ 7 → (answered n at a) .place ≡ 0
-  no-place h k = rw (ne-eqb n 7 k) (go (eqb n 0))
+  pub no-place : (n ≡ 0 → Unrefused a) → n ≢ 7 → (answered n at a) .place ≡ 0
+  no-place h k = rw (ne-eqb n 7 k) (go (eqb n 0) (eqb→eq n 0))
     where
-      go : (b : Bool) → (cond b a (refused n 0)) .place ≡ 0
-      go true = h .place
-      go false = refl
+      go : (b : Bool) → (T b → n ≡ 0) → (cond b a (refused n 0)) .place ≡ 0
+      go true e = h (e tt) .place
+      go false e = refl
 
-  place-at : n ≡ 7 → (answered n at a) .place ≡ at
+  pub place-at : n ≡ 7 → (answered n at a) .place ≡ at
   place-at h = rw h
 
 -- ---- number 7 says that a stray bit is there, and that no other test has refused
 
 -- a test with another number has not refused
-passed : (b : Bool) (n rest : ℕ) → n ≢ 7 → refuseIf b n rest ≡ 7 → (b ≡ false) × (rest ≡ 7)
+pub passed : (b : Bool) (n rest : ℕ) → n ≢ 7 → refuseIf b n rest ≡ 7 → (b ≡ false) × (rest ≡ 7)
 passed true n rest k e = absurd (k e)
 passed false n rest k e = (refl, e)
 
-seven : (b : Bool) → refuseIf b 7 0 ≡ 7 → T b
+pub seven : (b : Bool) → refuseIf b 7 0 ≡ 7 → T b
 seven true e = tt
 seven false e = omega (arith, e)
 
@@ -118,11 +118,11 @@ dot-seven f c xs ys e =
 
 pub sum-refusal : Sum-refusal
 unfolding sumAnswer
-sum-refusal f c u l = answered-number (sumRefusal f c u l) (firstIndex (stray f) l) (sumAccepted f c (summandOf u) l) (sum-unrefused f c (summandOf u) l)
+sum-refusal f c u l = answered-number (sumRefusal f c u l) (firstIndex (stray f) l) (sumAccepted f c (summandOf u) l) (λ _. sum-unrefused f c (summandOf u) l)
 
 pub dot-refusal : Dot-refusal
 unfolding dotAnswer
-dot-refusal f c xs ys = answered-number (dotRefusal f c xs ys) (dotPlace f xs ys) (dotAccepted f c (pairs xs ys)) (dot-unrefused f c (pairs xs ys))
+dot-refusal f c xs ys = answered-number (dotRefusal f c xs ys) (dotPlace f xs ys) (dotAccepted f c (pairs xs ys)) (λ _. dot-unrefused f c (pairs xs ys))
 
 pub sum-refused : Sum-refused
 unfolding sumAnswer
@@ -135,7 +135,7 @@ dot-refused f c xs ys h = answered-whole (dotRefusal f c xs ys) (dotPlace f xs y
 pub sum-place : Sum-place
 unfolding sumAnswer
 sum-place f c u l = (
-  no-place (sumRefusal f c u l) (firstIndex (stray f) l) (sumAccepted f c (summandOf u) l) (sum-unrefused f c (summandOf u) l),
+  no-place (sumRefusal f c u l) (firstIndex (stray f) l) (sumAccepted f c (summandOf u) l) (λ _. sum-unrefused f c (summandOf u) l),
   λ h. subst (StrayAt f l) (sym (place-at (sumRefusal f c u l) (firstIndex (stray f) l) (sumAccepted f c (summandOf u) l) h))
       (first-stray f l (sum-seven f c u l h .some)),
 )
@@ -143,7 +143,7 @@ sum-place f c u l = (
 pub dot-place : Dot-place
 unfolding dotAnswer
 dot-place f c xs ys = (
-  no-place (dotRefusal f c xs ys) (dotPlace f xs ys) (dotAccepted f c (pairs xs ys)) (dot-unrefused f c (pairs xs ys)),
+  no-place (dotRefusal f c xs ys) (dotPlace f xs ys) (dotAccepted f c (pairs xs ys)) (λ _. dot-unrefused f c (pairs xs ys)),
   λ h. subst (DotStrayAt f xs ys) (sym (place-at (dotRefusal f c xs ys) (dotPlace f xs ys) (dotAccepted f c (pairs xs ys)) h))
       (dot-stray f xs ys (dot-seven f c xs ys h .some)),
 )
@@ -154,7 +154,7 @@ pub record Small (a : Answer) : Type 0 where
   pub number : a .refusal < 256
   pub place : a .place < 4294967296
 
-small-number : (b : Bool) (n rest : ℕ) → n < 256 → rest < 256 → refuseIf b n rest < 256
+pub small-number : (b : Bool) (n rest : ℕ) → n < 256 → rest < 256 → refuseIf b n rest < 256
 small-number true n rest h k = h
 small-number false n rest h k = k
 
@@ -176,7 +176,7 @@ dot-number f c xs ys =
     (small-number (any (stray f) xs || any (stray f) ys) 7 _ (omega arith) (omega arith)))))
 
 -- by whether the number is 7
-small-place : (n at : ℕ) → (n ≢ 7 → at ≡ 0) → (n ≡ 7 → at < limit) → at < 4294967296
+pub small-place : (n at : ℕ) → (n ≢ 7 → at ≡ 0) → (n ≡ 7 → at < limit) → at < 4294967296
 small-place n at other is = go (eqb n 7) (eqb→eq n 7) (λ e. T-of (eq-eqb n 7 e))
   where
     go : (b : Bool) → (T b → n ≡ 7) → (n ≡ 7 → T b) → at < 4294967296

@@ -30,6 +30,8 @@ use Rattle.totals_spec.specs.Totals.{Answer, special, sumRounded, report
 use Rattle.totals_spec.specs.Totals.{sumAnswer, dotRefusal, dotPlace, dotAccepted, dotAnswer}
 use Rattle.totals_spec.specs.Bytes.{Entry, valuesIn, written, entered, sumEntry}
 use Rattle.totals_spec.specs.Pence.{Pence, penceOf, penceAnswer, sumFigure, sumPence}
+use Rattle.totals_spec.specs.Table.{Tabled, tableRefusal, tableAnswer}
+use Rattle.totals_spec.specs.Words.{TableEntry, tableEntry}
 use Rattle.totals_spec.specs.Settled.{settled}
 use Rattle.totals_spec.specs.Hundredfold.{hundredItem, nearestWhole, wholeFigure, chainPence}
 use Rattle.totals_spec.specs.Program.{readFrom, hexText, decimalFrom, answerText, programText}
@@ -313,6 +315,68 @@ sumPenceExamples =
     && penceIs (pos 0) 3 (sumPence (record { kind = 4; E = 5; W = 16; named = none }) (0x10000 ∷ []))
     && penceIs (pos 0) 3 (sumPence (half16 (pos 268435457)) [])
 
+-- ---- tables (document 02, A.3), in binary16
+
+-- an accepted one: the two lists, and the record of all cells
+abbrev pub tableIs : (rowTotals columnTotals : List ℕ) (result flags passes side : ℕ) → Tabled → Bool
+tableIs rs cs result flags passes side t =
+    sameList (t .rowTotals) rs && sameList (t .columnTotals) cs && leansTo result flags side (t .grand) && eqb (t .grand .passes) passes
+
+-- a refused one: the number and its place, and the two lists as they were
+abbrev pub tableStays : (number place : ℕ) (rowList columnList : List ℕ) → Tabled → Bool
+tableStays n at rs cs t = refusedAs n at (t .grand) && sameList (t .rowTotals) rs && sameList (t .columnTotals) cs
+
+abbrev pub entryIs : (code : ℕ) (rowTotals columnTotals buffer : List ℕ) → TableEntry → Bool
+entryIs n rs cs buffer e = eqb (e .code) n && sameList (e .rowTotals) rs && sameList (e .columnTotals) cs && sameList (e .buffer) buffer
+
+unfoldable pub sixCells : List ℕ
+sixCells = 0x3c00 ∷ 0x4000 ∷ 0x4200 ∷ 0x3c00 ∷ 0x3c00 ∷ 0x3c00 ∷ []
+
+unfoldable pub tableExamples : Bool
+tableExamples =
+    -- 1, 2, 3 and 1, 1, 1, and a word behind the totals of the columns; the same cells as three rows, and as one
+    tableIs (0x4600 ∷ 0x4200 ∷ []) (0x4000 ∷ 0x4200 ∷ 0x4400 ∷ 9 ∷ []) 0x4880 0 1 0
+    (tableAnswer binary16 (withRounding 0) 2 3 sixCells (7 ∷ 7 ∷ []) (7 ∷ 7 ∷ 7 ∷ 9 ∷ []))
+    && tableIs (0x4200 ∷ 0x4400 ∷ 0x4000 ∷ []) (0x4500 ∷ 0x4400 ∷ []) 0x4880 0 1 0
+    (tableAnswer binary16 (withRounding 0) 3 2 sixCells (7 ∷ 7 ∷ 7 ∷ []) (7 ∷ 7 ∷ []))
+    && tableIs (0x4880 ∷ 8 ∷ 9 ∷ []) sixCells 0x4880 0 1 0 (tableAnswer binary16 (withRounding 0) 1 6 sixCells (7 ∷ 8 ∷ 9 ∷ []) (replicate 6 7))
+    -- 1, 2^−11 and 2^−11, 0: each total is rounded from its own cells, and that of all is no sum of rounded totals
+    && tableIs (0x3c00 ∷ 0x1000 ∷ []) (0x3c00 ∷ 0x1000 ∷ []) 0x3c01 0 1 0
+    (tableAnswer binary16 (withRounding 0) 2 2 (0x3c00 ∷ 0x1000 ∷ 0x1000 ∷ 0 ∷ []) (7 ∷ 7 ∷ []) (7 ∷ 7 ∷ []))
+    -- toward negative: 1 and −1 give −0; rows and columns without cells give +0, and the words behind them stay; a table without either
+    && tableIs (0x8000 ∷ []) (0x3c00 ∷ 0xbc00 ∷ []) 0x8000 0 1 0 (tableAnswer binary16 (withRounding 4) 1 2 (0x3c00 ∷ 0xbc00 ∷ []) (7 ∷ []) (7 ∷ 7 ∷ []))
+    && tableIs (0 ∷ 0 ∷ 0 ∷ 4 ∷ []) (5 ∷ []) 0 0 0 0 (tableAnswer binary16 (withRounding 4) 3 0 [] (1 ∷ 2 ∷ 3 ∷ 4 ∷ []) (5 ∷ []))
+    && tableIs (5 ∷ []) (0 ∷ 0 ∷ 3 ∷ []) 0 0 0 0 (tableAnswer binary16 (withRounding 4) 0 2 [] (5 ∷ []) (1 ∷ 2 ∷ 3 ∷ []))
+    && tableIs (5 ∷ []) [] 0 0 0 0 (tableAnswer binary16 (withRounding 0) 0 0 [] (5 ∷ []) [])
+    -- NaNs above and below an infinity: a row takes its first from the left, a column from the top; infinities of both signs in one column
+    && tableIs (0x7e01 ∷ 0x7c00 ∷ 0x7e03 ∷ []) (0x7e01 ∷ 0xfc00 ∷ []) 0x7e01 0 0 3
+    (tableAnswer binary16 (withRounding 0) 3 2 (0x7e01 ∷ 0x3c00 ∷ 0x7c00 ∷ 0x3c00 ∷ 0x7e03 ∷ 0xfc00 ∷ []) (7 ∷ 7 ∷ 7 ∷ []) (7 ∷ 7 ∷ []))
+    && tableIs (0x7c00 ∷ 0xfc00 ∷ []) (0x4000 ∷ 0x7e00 ∷ []) 0x7e00 1 0 3
+    (tableAnswer binary16 (withRounding 0) 2 2 (0x3c00 ∷ 0x7c00 ∷ 0x3c00 ∷ 0xfc00 ∷ []) (7 ∷ 7 ∷ []) (7 ∷ 7 ∷ []))
+    -- 9: a cell too few; 2^32 rows of 2^32 cells without a cell, which are 0 modulo 2^64
+    && tableStays 9 0 (7 ∷ 7 ∷ []) (7 ∷ 7 ∷ 7 ∷ []) (tableAnswer binary16 (withRounding 0) 2 3 (replicate 5 0) (7 ∷ 7 ∷ []) (7 ∷ 7 ∷ 7 ∷ []))
+    && tableStays 9 0 (7 ∷ []) (8 ∷ []) (tableAnswer binary16 (withRounding 0) 4294967296 4294967296 [] (7 ∷ []) (8 ∷ []))
+    -- 10: by the list of rows, and by that of columns; and of more rows than 6 allows cells, since they have none
+    && tableStays 10 0 (7 ∷ []) (7 ∷ 7 ∷ 7 ∷ []) (tableAnswer binary16 (withRounding 0) 2 3 sixCells (7 ∷ []) (7 ∷ 7 ∷ 7 ∷ []))
+    && tableStays 10 0 (7 ∷ 7 ∷ 7 ∷ []) (7 ∷ 7 ∷ []) (tableAnswer binary16 (withRounding 0) 2 3 sixCells (7 ∷ 7 ∷ 7 ∷ []) (7 ∷ 7 ∷ []))
+    && tableStays 10 0 (7 ∷ []) [] (tableAnswer binary16 (withRounding 0) 1048577 0 [] (7 ∷ []) [])
+    -- 7, with the place among all cells
+    && tableStays 7 2 (7 ∷ 7 ∷ []) (7 ∷ 7 ∷ [])
+    (tableAnswer binary16 (withRounding 0) 2 2 (0x3c00 ∷ 0 ∷ 0x10000 ∷ 0x20000 ∷ []) (7 ∷ 7 ∷ []) (7 ∷ 7 ∷ []))
+    -- two at once: 3 and 4 before 9, 9 before 10 and before 7, 10 before 7
+    && tableStays 3 0 (7 ∷ []) [] (tableAnswer (record { kind = 4; E = 5; W = 16; named = none }) (withRounding 8) 1 1 [] (7 ∷ []) [])
+    && tableStays 4 0 (7 ∷ []) [] (tableAnswer binary16 (withRounding 8) 1 1 [] (7 ∷ []) [])
+    && tableStays 9 0 [] (7 ∷ []) (tableAnswer binary16 (withRounding 0) 1 1 [] [] (7 ∷ []))
+    && tableStays 9 0 (7 ∷ []) (7 ∷ []) (tableAnswer binary16 (withRounding 0) 1 1 (0x10000 ∷ 0 ∷ []) (7 ∷ []) (7 ∷ []))
+    && tableStays 10 0 (7 ∷ []) [] (tableAnswer binary16 (withRounding 0) 1 1 (0x10000 ∷ []) (7 ∷ []) [])
+    -- the entry: the first table; 23 bytes, and no bias said beside one; no bias said beside one, and a shape that is none; 7 with its place
+    && entryIs 0 (0x4600 ∷ 0x4200 ∷ []) (0x4000 ∷ 0x4200 ∷ 0x4400 ∷ []) (0x80 ∷ 0x48 ∷ replicate 14 0 ++ (1 ∷ replicate 7 0 ++ (7 ∷ 7 ∷ [])))
+    (tableEntry 0 5 16 0 (pos 0) (withRounding 0) 2 3 sixCells (7 ∷ 7 ∷ []) (7 ∷ 7 ∷ 7 ∷ []) (replicate 26 7))
+    && entryIs 2 (7 ∷ []) (8 ∷ []) (replicate 23 7) (tableEntry 0 5 16 0 (pos 15) (withRounding 0) 1 1 (0 ∷ []) (7 ∷ []) (8 ∷ []) (replicate 23 7))
+    && entryIs 3 (7 ∷ []) (8 ∷ []) (replicate 24 7) (tableEntry 0 5 16 0 (pos 15) (withRounding 0) 1 1 [] (7 ∷ []) (8 ∷ []) (replicate 24 7))
+    && entryIs (7 + 256) (7 ∷ []) (8 ∷ 8 ∷ []) (replicate 24 7)
+    (tableEntry 0 5 16 1 (pos 15) (withRounding 0) 1 2 (0 ∷ 0x10000 ∷ []) (7 ∷ []) (8 ∷ 8 ∷ []) (replicate 24 7))
+
 -- ---- the program: what it reads and what it prints, as bytes. A hex digit d is the byte 48 + d, or 87 + d from a on; 10 ends a line
 
 pub record ProgramRun : Type 0 where
@@ -421,6 +485,16 @@ unfolding
     dropped roundedAt overflows largest overflow numberOf finished tinySum roundTo round encode leansOf sideOf defaultNanOf selectAll
     special sumRounded reported finiteTotal withoutNan accepted sumRefusal sumAccepted sumAnswer
 sum-pence-agree = tt
+
+pub tables-agree : Holds tableExamples
+unfolding
+    tableExamples sixCells binary16 withRounding tableRefusal tableAnswer tableEntry written entered
+    difference raised validFormat bias lift exponentRange depth origin fall grid rise validSettings precisionOf
+    decode isSubnormal operand single product item pairItem plusSum minusSum topOf
+    lostEnd lookAt half wrapped decide sumOf pass run chain size span climb
+    dropped roundedAt overflows largest overflow numberOf finished tinySum roundTo round encode leansOf sideOf defaultNanOf selectAll
+    special sumRounded reported finiteTotal withoutNan accepted sumRefusal sumAccepted sumAnswer
+tables-agree = tt
 
 pub biases-agree : Holds biases
 unfolding

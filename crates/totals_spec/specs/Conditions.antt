@@ -5,7 +5,7 @@ use mathlib.Core.Logic.{_≢_, _⊎_}
 use mathlib.Core.Bool.{false}
 use mathlib.Core.List.{List, [], _∷_}
 use mathlib.Core.Option.{Option, none, some}
-use Prim.Native.Nat.{ℕ, _+_, _%_, _^_, _≤_, _<_}
+use Prim.Native.Nat.{ℕ, _+_, _*_, _%_, _^_, _≤_, _<_}
 use lib.ListN.{length, getD}
 use lib.IntN.{ℤ, natAbs}
 use Rattle.totals_spec.specs.Basics.{Signed}
@@ -97,6 +97,14 @@ SomeNoNumber f l = (i : ℕ) × (i < length l) × NoNumber (decode f (getD l i 0
 abbrev pub BeyondPence : Format → Signed → Type 0
 BeyondPence f x = 2 ^ 63 ≤ penceOf (origin f false) (fall f false) (x .mag)
 
+-- ---- 9 and 10: rows times columns is not the number of cells, a list of totals too short for its rows or columns
+
+abbrev pub BadShape : (rows columns : ℕ) → List ℕ → Type 0
+BadShape rows columns cells = rows * columns ≢ length cells
+
+abbrev pub NoRoom : (rows columns : ℕ) → List ℕ → List ℕ → Type 0
+NoRoom rows columns rowList columnList = (length rowList < rows) ⊎ (length columnList < columns)
+
 -- ---- the first that holds
 
 -- a number and its condition
@@ -144,3 +152,17 @@ sumPenceConditions f l =
 
 abbrev pub penceEntryConditions : ℕ → ℤ → Format → List ℕ → List Condition
 penceEntryConditions named b f l = (3, Misnamed named b) ∷ sumPenceConditions f l
+
+abbrev pub tableConditions : Format → Settings → (rows columns : ℕ) → (cells rowList columnList : List ℕ) → List Condition
+tableConditions f c rows columns cells rowList columnList =
+    (3, BadFormat f)
+    ∷ (4, BadSettings f c)
+    ∷ (6, TooMany cells)
+    ∷ (9, BadShape rows columns cells)
+    ∷ (10, NoRoom rows columns rowList columnList)
+    ∷ (7, Stray f cells)
+    ∷ []
+
+-- the entry's own, and then those of the table
+abbrev pub tableEntryConditions : ℕ → ℤ → List ℕ → List Condition → List Condition
+tableEntryConditions named b old table = (2, Short old) ∷ (3, Misnamed named b) ∷ table

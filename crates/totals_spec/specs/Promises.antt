@@ -5,7 +5,7 @@ use mathlib.Core.Logic.{_≢_, _↔_, _⊎_}
 use mathlib.Core.Bool.{Bool, true, false, _||_}
 use mathlib.Core.List.{List, [], _∷_, map}
 use mathlib.Core.Option.{none, some}
-use Prim.Native.Nat.{ℕ, _+_, _-_, _/_, _%_, _^_, _≤_, _<_, max}
+use Prim.Native.Nat.{ℕ, _+_, _*_, _-_, _/_, _%_, _^_, _≤_, _<_, max}
 use lib.ListN.{length, replicate, take, drop, getD}
 use lib.IntN.{ℤ, pos}
 use lib.Dec.{T as Holds, eqb}
@@ -26,13 +26,14 @@ use Rattle.totals_spec.specs.Limit.{lowBit, mostPasses}
 use Rattle.totals_spec.specs.Side.{sideOf}
 use Rattle.totals_spec.specs.Settled.{chainTotal}
 use Rattle.totals_spec.specs.Conditions.{Uneven, First, sumConditions, dotConditions, entryConditions, penceConditions, sumPenceConditions}
-use Rattle.totals_spec.specs.Conditions.{penceEntryConditions}
+use Rattle.totals_spec.specs.Conditions.{penceEntryConditions, tableConditions, tableEntryConditions}
 use Rattle.totals_spec.specs.Places.{StrayAt, DotStrayAt}
 use Rattle.totals_spec.specs.Pence.{penceAnswer, sumFigure, sumPence}
-use Rattle.totals_spec.specs.Words.{formatBy, penceEntry}
+use Rattle.totals_spec.specs.Table.{columnOf, tableRefusal, tableAnswer}
+use Rattle.totals_spec.specs.Words.{formatBy, penceEntry, tableEntry}
 use Rattle.totals_spec.specs.Hundredfold.{chainPence}
 use Rattle.totals_spec.specs.Careers.{binary64, withRounding, careers, margins, allAgree, sideExamples, refusals, entryExample}
-use Rattle.totals_spec.specs.Careers.{penceExamples, biases, sumPenceExamples, programRuns, programAgrees}
+use Rattle.totals_spec.specs.Careers.{penceExamples, biases, sumPenceExamples, tableExamples, programRuns, programAgrees}
 
 -- ==== the document's examples
 
@@ -55,6 +56,10 @@ Biases-agree = Holds biases
 -- the pence of lists: at a tie and beside one, beyond the format, at 2^63, with and without a named bias, and each refusal but 6
 abbrev pub Sum-pence-agree : Type 0
 Sum-pence-agree = Holds sumPenceExamples
+
+-- tables: of both shapes of the same cells, without rows or columns, with NaNs and infinities, each refusal but 6 and two at once, and their entry
+abbrev pub Tables-agree : Type 0
+Tables-agree = Holds tableExamples
 
 -- the examples of the refusals, of a byte entry, of pence and of the program
 abbrev pub Examples-agree : Type 0
@@ -281,6 +286,73 @@ One-pence = (f : Format) (b : ℕ) → sumPence f (b ∷ []) ≡ penceAnswer f b
 abbrev pub Pence-by-chain : Type 0
 Pence-by-chain = (f : Format) (l : List ℕ) → length l ≤ limit → chainPence f l ≡ sumFigure f (exactSum (sumTerms f noSettings value l))
 
+-- ==== tables (document 02, A.3)
+
+-- the number in the record of all cells is that of the first condition that holds, in the order 3, 4, 6, 9, 10, 7; and 0 exactly where none holds
+abbrev pub Table-refused-exactly : Type 0
+Table-refused-exactly = (f : Format) (c : Settings) (rows columns : ℕ) (cells old other : List ℕ) (n : ℕ)
+    → (tableAnswer f c rows columns cells old other) .grand .refusal ≡ n ↔ First (tableConditions f c rows columns cells old other) n
+
+-- of its entry, in the lowest byte of the number that it returns, 2 and the naming of the bias before these
+abbrev pub Table-entry-refused-exactly : Type 0
+Table-entry-refused-exactly =
+    (k e w named : ℕ) (b : ℤ) (c : Settings) (rows columns : ℕ) (cells old other buffer : List ℕ) (n : ℕ)
+    → (tableEntry k e w named b c rows columns cells old other buffer) .code % 256 ≡ n
+    ↔ First (tableEntryConditions named b buffer (tableConditions (formatBy k e w named b) c rows columns cells old other)) n
+
+-- a refused table leaves both lists as they were, and its record is 0 but for number and place
+abbrev pub Table-refused : Type 0
+Table-refused = (f : Format) (c : Settings) (rows columns : ℕ) (cells old other : List ℕ) → tableRefusal f c rows columns cells old other ≢ 0
+    → let t = tableAnswer f c rows columns cells old other in
+    (t .grand ≡ refused (tableRefusal f c rows columns cells old other) (t .grand .place)) × (t .rowTotals ≡ old) × (t .columnTotals ≡ other)
+
+-- its place is 0 but for number 7, and there that of the first cell with a stray bit
+abbrev pub Table-place : Type 0
+Table-place = (f : Format) (c : Settings) (rows columns : ℕ) (cells old other : List ℕ)
+    → let r = (tableAnswer f c rows columns cells old other) .grand in (r .refusal ≢ 7 → r .place ≡ 0) × (r .refusal ≡ 7 → StrayAt f cells (r .place))
+
+-- a refused entry writes nothing
+abbrev pub Table-entry-refused : Type 0
+Table-entry-refused =
+    (k e w named : ℕ) (b : ℤ) (c : Settings) (rows columns : ℕ) (cells old other buffer : List ℕ)
+    → let t = tableEntry k e w named b c rows columns cells old other buffer in
+    t .code ≢ 0 → (t .rowTotals ≡ old) × (t .columnTotals ≡ other) × (t .buffer ≡ buffer)
+
+-- where it returns 0, the buffer holds the record of the plain sum of all cells
+abbrev pub Table-entry-read-back : Type 0
+Table-entry-read-back =
+    (k e w named : ℕ) (b : ℤ) (c : Settings) (rows columns : ℕ) (cells old other buffer : List ℕ)
+    → let t = tableEntry k e w named b c rows columns cells old other buffer in
+    t .code ≡ 0 → ReadsBack (sumAnswer (formatBy k e w named b) c 0 cells) buffer (t .buffer)
+
+-- of an accepted table: all cells, each row and each column are accepted by the plain sum, and their totals are what it gives
+abbrev pub Table-grand : Type 0
+Table-grand = (f : Format) (c : Settings) (rows columns : ℕ) (cells old other : List ℕ) → tableRefusal f c rows columns cells old other ≡ 0
+    → (sumRefusal f c 0 cells ≡ 0) × ((tableAnswer f c rows columns cells old other) .grand ≡ sumAnswer f c 0 cells)
+
+abbrev pub Table-row : Type 0
+Table-row = (f : Format) (c : Settings) (rows columns : ℕ) (cells old other : List ℕ) → tableRefusal f c rows columns cells old other ≡ 0
+    → (i : ℕ) → i < rows → let row = take columns (drop (i * columns) cells) in
+    (sumRefusal f c 0 row ≡ 0) × (getD ((tableAnswer f c rows columns cells old other) .rowTotals) i 0 ≡ (sumAnswer f c 0 row) .result)
+
+abbrev pub Table-column : Type 0
+Table-column = (f : Format) (c : Settings) (rows columns : ℕ) (cells old other : List ℕ) → tableRefusal f c rows columns cells old other ≡ 0
+    → (j : ℕ) → j < columns → let column = columnOf rows columns cells j in
+    (sumRefusal f c 0 column ≡ 0) × (getD ((tableAnswer f c rows columns cells old other) .columnTotals) j 0 ≡ (sumAnswer f c 0 column) .result)
+
+-- the cell i of a column j stands at i × columns + j, and a column has as many cells as there are rows
+abbrev pub Column-cells : Type 0
+Column-cells = (rows columns : ℕ) (cells : List ℕ) (j : ℕ)
+    → (length (columnOf rows columns cells j) ≡ rows)
+    × ((i : ℕ) → i < rows → getD (columnOf rows columns cells j) i 0 ≡ getD cells (i * columns + j) 0)
+
+-- each list keeps its length, and what lies beyond the totals; of refused calls too
+abbrev pub Table-untouched : Type 0
+Table-untouched = (f : Format) (c : Settings) (rows columns : ℕ) (cells old other : List ℕ)
+    → let t = tableAnswer f c rows columns cells old other in
+    (length (t .rowTotals) ≡ length old) × (drop rows (t .rowTotals) ≡ drop rows old)
+    × (length (t .columnTotals) ≡ length other) × (drop columns (t .columnTotals) ≡ drop columns other)
+
 -- ==== PROMISE 3: the order
 
 -- a rearrangement of an accepted list without a NaN is accepted, and has the same record
@@ -346,6 +418,8 @@ pub record AnswerAlike (f g : Format) : Type 0 where
   pub dot-entry : (c : Settings) (left right old : List ℕ) → dotEntry f c left right old ≡ dotEntry g c left right old
   pub pence : (b : ℕ) → penceAnswer f b ≡ penceAnswer g b
   pub sum-pence : (l : List ℕ) → sumPence f l ≡ sumPence g l
+  pub table : (c : Settings) (rows columns : ℕ) (cells old other : List ℕ)
+      → tableAnswer f c rows columns cells old other ≡ tableAnswer g c rows columns cells old other
 
 -- naming the kind's own bias is the same as naming none
 abbrev pub Named-own : Type 0
