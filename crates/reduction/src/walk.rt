@@ -32,8 +32,8 @@ ghost use Rattle.totals_spec.specs.Totals as totals;
 ghost use Rattle.totals_spec.specs.Hundredfold.{hundredTerms};
 ghost use Rattle.totals_spec.specs.Bounds.{FormatBounds};
 ghost use Rattle.format.specs.Joined.{formatOf, settingsOf};
-ghost use Rattle.values.specs.Sources.{Within, elements};
-ghost use Rattle.values.specs.Walks.{addedIn};
+ghost use Rattle.values.specs.Sources.{Within, Straight, elements};
+ghost use Rattle.values.specs.Walks.{Orderly, addedIn};
 ghost use Rattle.window.specs.Joined.{Passed};
 ghost use Rattle.reduction.specs.Held.{Sums};
 
@@ -54,10 +54,12 @@ fn pass_singles(
     let mut total = middle();
     let mut lost: u64 = 0;
     let mut i: usize = 0;
+    let mut place: usize = source.start;
     while i < source.count {
-        let b = element(source, words, bytes, i);
+        let b = element(source, words, bytes, place);
         let t = element_term(f, c, u, b);
         i += 1;
+        place += source.step;
         if is_blank(f, b) {
             continue;
         }
@@ -84,9 +86,10 @@ fn pass_singles(
     finished(total, lost)
 }
 
-// The same over squares: terms of two words, which reach three. The three loops over products are apart, so that none tests for another in each turn.
+// The same over squares: terms of two words, which reach three. The three loops over products are apart, so that none tests for another in each turn; their
+// elements stand side by side, since a step of its own takes a tenth off the speed of squares.
 fn pass_squares(f: Format, c: Settings, source: Source, words: &[u64], bytes: &[u8], w: u64) -> Pass
-    requires { ⌜ FormatBounds (formatOf f) × Within source (now words) (now bytes) ⌝ }
+    requires { ⌜ FormatBounds (formatOf f) × Within source (now words) (now bytes) × Straight source ⌝ }
     ensures { λ r. ⌜ Passed (totals.sumTerms (formatOf f) (settingsOf c) env.square (elements source (now (words .entry)) (now (bytes .entry)))) w r ⌝ }
 {
     let mut total = middle();
@@ -136,7 +139,7 @@ fn pass_hundreds(
     bytes: &[u8],
     w: u64,
 ) -> Pass
-    requires { ⌜ FormatBounds (formatOf f) × Within source (now words) (now bytes) ⌝ }
+    requires { ⌜ FormatBounds (formatOf f) × Within source (now words) (now bytes) × Straight source ⌝ }
     ensures { λ r. ⌜ Passed (hundredTerms (formatOf f) (settingsOf c) (elements source (now (words .entry)) (now (bytes .entry)))) w r ⌝ }
 {
     let mut total = middle();
@@ -188,7 +191,7 @@ fn pass_pairs(
     right_bytes: &[u8],
     w: u64,
 ) -> Pass
-    requires { ⌜ FormatBounds (formatOf f) × Within source (now «left_words») (now «left_bytes») × Within source (now «right_words») (now «right_bytes») ⌝ }
+    requires { ⌜ FormatBounds (formatOf f) × Within source (now «left_words») (now «left_bytes») × Within source (now «right_words») (now «right_bytes») × Straight source ⌝ }
     ensures { λ r. ⌜ Passed (totals.dotTerms (formatOf f) (settingsOf c) (elements source (now («left_words» .entry)) (now («left_bytes» .entry))) (elements source (now («right_words» .entry)) (now («right_bytes» .entry)))) w r ⌝ }
 {
     let mut total = middle();
@@ -233,7 +236,7 @@ fn pass(
     right_bytes: &[u8],
     w: u64,
 ) -> Pass
-    requires { ⌜ FormatBounds (formatOf f) × Within (k .source) (now «left_words») (now «left_bytes») × Within (k .source) (now «right_words») (now «right_bytes») ⌝ }
+    requires { ⌜ FormatBounds (formatOf f) × Within (k .source) (now «left_words») (now «left_bytes») × Within (k .source) (now «right_words») (now «right_bytes») × Orderly k ⌝ }
     ensures { λ r. ⌜ Passed (terms.terms (addedIn (formatOf f) (settingsOf c) k (now («left_words» .entry)) (now («left_bytes» .entry)) (now («right_words» .entry)) (now («right_bytes» .entry)))) w r ⌝ }
 {
     let source = k.source;
@@ -270,7 +273,7 @@ pub fn exact(
     p: u64,
     top: u64,
 ) -> ExactSum
-    requires { ⌜ FormatBounds (formatOf f) × Within (k .source) (now «left_words») (now «left_bytes») × Within (k .source) (now «right_words») (now «right_bytes») × (k .source .count ≤ totals.limit) × (p ≤ 64) ⌝ }
+    requires { ⌜ FormatBounds (formatOf f) × Within (k .source) (now «left_words») (now «left_bytes») × Within (k .source) (now «right_words») (now «right_bytes») × (k .source .count ≤ totals.limit) × (p ≤ 64) × Orderly k ⌝ }
     requires { ⌜ (top ≡ terms.topOf (terms.terms (addedIn (formatOf f) (settingsOf c) k (now «left_words») (now «left_bytes») (now «right_words») (now «right_bytes»)))) × (0 < top) ⌝ }
     ensures { λ r. ⌜ Sums p (terms.terms (addedIn (formatOf f) (settingsOf c) k (now («left_words» .entry)) (now («left_bytes» .entry)) (now («right_words» .entry)) (now («right_bytes» .entry)))) r ⌝ }
 {

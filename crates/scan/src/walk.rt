@@ -15,7 +15,8 @@ ghost use Rattle.totals_spec.specs.Settings as env;
 ghost use Rattle.totals_spec.specs.Totals as totals;
 ghost use Rattle.totals_spec.specs.Bounds.{FormatBounds};
 ghost use Rattle.format.specs.Joined.{formatOf, settingsOf};
-ghost use Rattle.values.specs.Sources.{Within, elements};
+ghost use Rattle.values.specs.Sources.{Within, Straight, elements};
+ghost use Rattle.values.specs.Walks.{Orderly};
 ghost use Rattle.scan.specs.Joined.{Scanned, ScannedPairs};
 ghost use Rattle.scan.specs.Walked.{ScannedWalk};
 
@@ -27,9 +28,11 @@ fn scan_list(f: Format, c: Settings, u: u64, source: Source, words: &[u64], byte
     let mut s = Scan::new();
     let mut greatest: u64 = 0;
     let mut i: usize = 0;
+    let mut place: usize = source.start;
     while i < source.count {
-        let x = element(source, words, bytes, i);
+        let x = element(source, words, bytes, place);
         i += 1;
+        place += source.step;
         let field = plain_field(f, x);
         if field == 0 {
             s = take(f, c, u, s, x);
@@ -50,7 +53,7 @@ fn scan_pairs(
     right_words: &[u64],
     right_bytes: &[u8],
 ) -> Scan
-    requires { ⌜ FormatBounds (formatOf f) × Within source (now «left_words») (now «left_bytes») × Within source (now «right_words») (now «right_bytes») ⌝ }
+    requires { ⌜ FormatBounds (formatOf f) × Within source (now «left_words») (now «left_bytes») × Within source (now «right_words») (now «right_bytes») × Straight source ⌝ }
     ensures { λ r. ⌜ ScannedPairs (formatOf f) (settingsOf c) (totals.pairs (elements source (now («left_words» .entry)) (now («left_bytes» .entry))) (elements source (now («right_words» .entry)) (now («right_bytes» .entry)))) r ⌝ }
 {
     let mut s = Scan::new();
@@ -80,7 +83,7 @@ pub fn scan(
     right_words: &[u64],
     right_bytes: &[u8],
 ) -> Scan
-    requires { ⌜ FormatBounds (formatOf f) × Within (k .source) (now «left_words») (now «left_bytes») × Within (k .source) (now «right_words») (now «right_bytes») ⌝ }
+    requires { ⌜ FormatBounds (formatOf f) × Within (k .source) (now «left_words») (now «left_bytes») × Within (k .source) (now «right_words») (now «right_bytes») × Orderly k ⌝ }
     ensures { λ r. ⌜ ScannedWalk (formatOf f) (settingsOf c) k (now («left_words» .entry)) (now («left_bytes» .entry)) (now («right_words» .entry)) (now («right_bytes» .entry)) r ⌝ }
 {
     let source = k.source;

@@ -5,3 +5,5 @@ pub mod Figures
 mod Counted
 mod Totalled
 mod Listed
+mod Columns
+mod TableWritten

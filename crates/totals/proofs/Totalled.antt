@@ -27,7 +27,8 @@ use Rattle.scan.specs.declared.Early.{Early}
 use Rattle.scan.specs.declared.Early.the-variants.{Given, Terms}
 use Rattle.scan.specs.Joined.{Scanned}
 use Rattle.scan.specs.Walked.{GatheredIn}
-use Rattle.values.specs.Walks.{itemsOf, addedBy}
+use Rattle.values.specs.declared.Walk.{Walk}
+use Rattle.values.specs.Walks.{Orderly, isHundred, itemsOf, addedBy}
 use Rattle.window.specs.declared.ExactSum.{ExactSum}
 use Rattle.reduction.specs.Held.{Sums}
 use Rattle.reduction.specs.Answered.{LeftOf, productsIn, firstIn}
@@ -37,6 +38,14 @@ use Rattle.totals.specs.declared.report.Report.{Report}
 use Rattle.totals.specs.PenceRecord.{penceRecord, listFigure}
 use Rattle.totals.specs.Reported.{odd, PenceDecides, DecidesBy, specialPence, EarlyAsks, EarlyTells, EndAsks, EndTells, TotalAsks, TotalTells}
 use Rattle.totals.proofs.Counted.{met-figure, zero-figure, chain-figure, raised-top}
+
+-- the walk that a scan takes is of values, where the walk is for pence
+pub scanned-orderly : (k r : Walk) → r .source ≡ k .source → r .summand ≡ cond (isHundred k) 0 (k .summand) → Orderly k → Orderly r
+scanned-orderly k r e g h = go (isHundred k) g
+  where
+    go : (b : Bool) → r .summand ≡ cond b 0 (k .summand) → Orderly r
+    go true q m = absurd (omega (arith, q, m))
+    go false q m = rw e (h (omega (arith, q, m)))
 
 module _ (f : spec.Format) (c : env.Settings) (u : ℕ) (x y : List ℕ) where
   -- the summand of the scan, and what that gathers

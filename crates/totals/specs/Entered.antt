@@ -10,7 +10,7 @@ use Rattle.totals_spec.specs.Format.{Format}
 use Rattle.totals_spec.specs.Settings.{Settings}
 use Rattle.totals_spec.specs.Totals.{Answer}
 use Rattle.totals_spec.specs.Bytes.{Entry}
-use Rattle.totals_spec.specs.Words.{FigureEntry}
+use Rattle.totals_spec.specs.Words.{FigureEntry, TableEntry}
 
 pub record Enters (e : Entry) (code : ℕ) (buffer : List ℕ) : Type 0 where
   pub code-is : code ≡ e .code
@@ -20,6 +20,13 @@ pub record Enters (e : Entry) (code : ℕ) (buffer : List ℕ) : Type 0 where
 pub record EntersFigure (e : FigureEntry) (code : ℕ) (figure : ℤ) : Type 0 where
   pub code-is : code ≡ e .code
   pub figure-is : figure ≡ e .figure
+
+-- and of one that lends two lists of totals beside the buffer
+pub record EntersTable (e : TableEntry) (code : ℕ) (rows columns buffer : List ℕ) : Type 0 where
+  pub code-is : code ≡ e .code
+  pub rows-are : rows ≡ e .rowTotals
+  pub columns-are : columns ≡ e .columnTotals
+  pub buffer-is : buffer ≡ e .buffer
 
 -- a record that can be entered: the buffer has room for it, and each field fits where it is written
 pub record Fits (a : Answer) (buffer : List ℕ) : Type 0 where

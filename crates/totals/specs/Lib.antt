@@ -4,3 +4,4 @@ pub mod Walked
 pub mod Entered
 pub mod PenceRecord
 pub mod Reported
+pub mod Tables

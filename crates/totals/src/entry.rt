@@ -2,6 +2,7 @@
 use crate::dot_bytes;
 use crate::pence::pence_of_sum;
 use crate::sum_bytes;
+use crate::table::table;
 use format::Format;
 use format::Named;
 use format::env::Settings;
@@ -13,7 +14,7 @@ ghost use Rattle.totals_spec.specs.Bytes as bytes;
 ghost use Rattle.totals_spec.specs.Words as words;
 ghost use Rattle.format.specs.Joined.{formatOf, settingsOf};
 ghost use Rattle.reduction.specs.Answered.{answerOf};
-ghost use Rattle.totals.specs.Entered.{Enters, EntersFigure, Fits, formatFrom, formatWith, biasedFrom, settingsFrom};
+ghost use Rattle.totals.specs.Entered.{Enters, EntersFigure, EntersTable, Fits, formatFrom, formatWith, biasedFrom, settingsFrom};
 
 // The side is the third byte of its word, above the flags.
 const SIDE: u64 = 65536;
@@ -357,4 +358,51 @@ pub extern "C" fn totals_pence(
     let n = p.figure;
     *figure = n;
     0
+}
+
+// The totals of a table of words: the answer's 24 bytes are those of the total of all cells.
+#[no_mangle]
+pub extern "C" fn totals_table(
+    kind: u64,
+    exponent_bits: u64,
+    width: u64,
+    bias_named: u64,
+    bias: i64,
+    rounding: u64,
+    tininess: u64,
+    nan_propagation: u64,
+    default_nan_negative: u64,
+    flush_to_zero: u64,
+    denormals_are_zero: u64,
+    saturate: u64,
+    precision: u64,
+    rows: usize,
+    columns: usize,
+    cells: &[u64],
+    row_totals: &mut [u64],
+    column_totals: &mut [u64],
+    answer: &mut [u8],
+) -> u64
+    ensures { λ r. ⌜ EntersTable (words.tableEntry kind «exponent_bits» width «bias_named» bias (settingsFrom rounding tininess «nan_propagation» «default_nan_negative» «flush_to_zero» «denormals_are_zero» saturate precision) rows columns (now (cells .entry)) (now («row_totals» .entry)) (now («column_totals» .entry)) (now (answer .entry))) r (now («row_totals» .exit)) (now («column_totals» .exit)) (now (answer .exit)) ⌝ }
+{
+    if answer.len() < 24 {
+        return 2;
+    }
+    if misnamed(bias_named, bias) {
+        return 3;
+    }
+    let named = bias_named == 1;
+    let f = format_with(kind, exponent_bits, width, named, bias);
+    let c = settings(
+        rounding,
+        tininess,
+        nan_propagation,
+        default_nan_negative,
+        flush_to_zero,
+        denormals_are_zero,
+        saturate,
+        precision,
+    );
+    let grand = table(f, c, rows, columns, cells, row_totals, column_totals);
+    enter(grand, answer)
 }

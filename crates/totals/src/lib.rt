@@ -5,6 +5,7 @@ pub mod pence;
 pub mod refusal;
 mod report;
 mod stray;
+pub mod table;
 
 use crate::refusal::dot_refusal;
 use crate::refusal::sum_refusal;

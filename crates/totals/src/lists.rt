@@ -21,17 +21,20 @@ use reduction::walk::exact;
 use scan::Early;
 use scan::walk::scan;
 use values::HUNDREDFOLD;
+use values::Source;
 use values::Walk;
 use values::whole;
 ghost use mathlib.Core.Path.{_≡_};
-ghost use Prim.Native.Nat.{_/_};
+ghost use Prim.Native.Nat.{_*_, _/_, _<_, _≤_};
 ghost use lib.Dec.{eqb};
 ghost use lib.ListN.{length};
 ghost use mathlib.Core.Bool.{true, false};
 ghost use Rattle.totals_spec.specs.Bytes.{valuesIn};
 ghost use Rattle.format.specs.Joined.{formatOf, settingsOf};
-ghost use Rattle.values.specs.Sources.{Within, elements, laidOut};
-ghost use Rattle.values.specs.Walks.{isDot, isHundred};
+ghost use Rattle.totals_spec.specs.Table.{columnOf};
+ghost use Rattle.totals_spec.specs.Totals as totals;
+ghost use Rattle.values.specs.Sources.{Within, elements};
+ghost use Rattle.values.specs.Walks.{Orderly, isDot, isHundred};
 ghost use Rattle.reduction.specs.Answered.{answerOf};
 ghost use Rattle.totals.specs.PenceRecord.{penceRecord, listPence};
 ghost use Rattle.totals.specs.Walked.{numbersIn, answerTo};
@@ -47,7 +50,7 @@ fn total(
     right_words: &[u64],
     right_bytes: &[u8],
 ) -> Report
-    requires { ⌜ Within (k .source) (now «left_words») (now «left_bytes») × Within (k .source) (now «right_words») (now «right_bytes») ⌝ }
+    requires { ⌜ Within (k .source) (now «left_words») (now «left_bytes») × Within (k .source) (now «right_words») (now «right_bytes») × Orderly k ⌝ }
     requires { ⌜ TotalAsks (isHundred k) (isDot k) (formatOf f) (settingsOf c) (k .summand) (elements (k .source) (now «left_words») (now «left_bytes»)) (elements (k .source) (now «right_words») (now «right_bytes»)) ⌝ }
     ensures { λ r. ⌜ TotalTells (isHundred k) (isDot k) (formatOf f) (settingsOf c) (k .summand) (elements (k .source) (now («left_words» .entry)) (now («left_bytes» .entry))) (elements (k .source) (now («right_words» .entry)) (now («right_bytes» .entry))) r ⌝ }
 {
@@ -81,23 +84,20 @@ fn total(
     }
 }
 
-// Of whole lists: of words (layout 0), or of values in bytes.
+// Of the lists of a walk.
 fn listed(
     f: Format,
     c: Settings,
-    u: u64,
-    layout: u64,
-    count: usize,
+    k: Walk,
     left_words: &[u64],
     left_bytes: &[u8],
     right_words: &[u64],
     right_bytes: &[u8],
 ) -> Report
-    requires { ⌜ (count ≡ length (laidOut (eqb layout 0) (now «left_words») (now «left_bytes»))) × (count ≡ length (laidOut (eqb layout 0) (now «right_words») (now «right_bytes»))) ⌝ }
-    requires { ⌜ ListAsks (eqb u 4) (eqb u 3) (formatOf f) (settingsOf c) u count ⌝ }
-    ensures { λ r. ⌜ ListTells (eqb u 4) (eqb u 3) (formatOf f) (settingsOf c) u (laidOut (eqb layout 0) (now («left_words» .entry)) (now («left_bytes» .entry))) (laidOut (eqb layout 0) (now («right_words» .entry)) (now («right_bytes» .entry))) r ⌝ }
+    requires { ⌜ Within (k .source) (now «left_words») (now «left_bytes») × Within (k .source) (now «right_words») (now «right_bytes») × Orderly k ⌝ }
+    requires { ⌜ ListAsks (isHundred k) (isDot k) (formatOf f) (settingsOf c) (k .summand) (k .source .count) ⌝ }
+    ensures { λ r. ⌜ ListTells (isHundred k) (isDot k) (formatOf f) (settingsOf c) (k .summand) (elements (k .source) (now («left_words» .entry)) (now («left_bytes» .entry))) (elements (k .source) (now («right_words» .entry)) (now («right_bytes» .entry))) r ⌝ }
 {
-    let k = whole(u, layout, count);
     match walk_stray(f.width, k, left_words, left_bytes, right_words, right_bytes) {
         Found::At(i) => strayed(i),
         Found::Nothing => total(f, c, k, left_words, left_bytes, right_words, right_bytes),
@@ -110,7 +110,8 @@ pub fn words(f: Format, c: Settings, u: u64, left: &[u64], right: &[u64]) -> Ans
     requires { ⌜ numbersIn (eqb u 3) (formatOf f) (settingsOf c) u (length (now left)) ≡ 0 ⌝ }
     ensures { λ r. ⌜ answerOf r ≡ answerTo (eqb u 3) (formatOf f) (settingsOf c) u (now (left .entry)) (now (right .entry)) ⌝ }
 {
-    answer_of(listed(f, c, u, 0, left.len(), left, b"", right, b""))
+    let k = whole(u, 0, left.len());
+    answer_of(listed(f, c, k, left, b"", right, b""))
 }
 
 pub fn bytes(f: Format, c: Settings, u: u64, left: &[u8], right: &[u8]) -> Answer
@@ -119,7 +120,8 @@ pub fn bytes(f: Format, c: Settings, u: u64, left: &[u8], right: &[u8]) -> Answe
     ensures { λ r. ⌜ answerOf r ≡ answerTo (eqb u 3) (formatOf f) (settingsOf c) u (valuesIn (now (left .entry))) (valuesIn (now (right .entry))) ⌝ }
 {
     let none = [0u64; 1];
-    answer_of(listed(f, c, u, 1, left.len() / 8, &none, left, &none, right))
+    let k = whole(u, 1, left.len() / 8);
+    answer_of(listed(f, c, k, &none, left, &none, right))
 }
 
 // The pence of a list of words.
@@ -127,5 +129,31 @@ pub fn pence(f: Format, c: Settings, values: &[u64]) -> Pence
     requires { ⌜ ListAsks true false (formatOf f) (settingsOf c) 4 (length (now values)) ⌝ }
     ensures { λ r. ⌜ penceRecord r ≡ listPence (formatOf f) (now (values .entry)) ⌝ }
 {
-    pence_of(listed(f, c, HUNDREDFOLD, 0, values.len(), values, b"", values, b""))
+    let k = whole(HUNDREDFOLD, 0, values.len());
+    pence_of(listed(f, c, k, values, b"", values, b""))
+}
+
+// The plain sum of a column: of every step-th word from `first` on, `count` of them.
+pub fn column(
+    f: Format,
+    c: Settings,
+    first: usize,
+    step: usize,
+    count: usize,
+    cells: &[u64],
+) -> Answer
+    requires { ⌜ (count * step ≤ length (now cells)) × (first < step) ⌝ }
+    requires { ⌜ numbersIn false (formatOf f) (settingsOf c) 0 count ≡ 0 ⌝ }
+    ensures { λ r. ⌜ answerOf r ≡ totals.sumAnswer (formatOf f) (settingsOf c) 0 (columnOf count step (now (cells .entry)) first) ⌝ }
+{
+    let k = Walk {
+        summand: 0,
+        source: Source {
+            layout: 0,
+            start: first,
+            step,
+            count,
+        },
+    };
+    answer_of(listed(f, c, k, cells, b"", cells, b""))
 }

@@ -33,11 +33,13 @@ pub fn find_stray(width: u64, source: Source, words: &[u64], bytes: &[u8]) -> Fo
     let most = greatest(width);
     let count = source.count;
     let mut i: usize = 0;
+    let mut place: usize = source.start;
     while i < count {
-        if element(source, words, bytes, i) > most {
+        if element(source, words, bytes, place) > most {
             return Found::At(i);
         }
         i += 1;
+        place += source.step;
     }
     Found::Nothing
 }

@@ -2,8 +2,9 @@
 use mathlib.Core.Path.{_≡_, refl, sym, ap, _∙_}
 use mathlib.Core.Bool.{Bool, true, false}
 use mathlib.Core.List.{List}
-use Prim.Native.Nat.{ℕ, zero, suc, _+_, _*_, _/_, _<_}
-use native.Mathlib.Nat.{le-of-suc-le-suc, not-suc-le-zero, add-zero, zero-mul, mul-one, zero-add}
+use Prim.Native.Nat.{ℕ, zero, suc, _+_, _*_, _/_, _^_, _<_, _≤_}
+use native.Mathlib.Nat.{le-of-suc-le-suc, not-suc-le-zero, add-zero, zero-mul, mul-one, zero-add, mul-le-mul-right}
+use native.Mathlib.Numerals.{add-one-le}
 use native.Mathlib.Omega.{arith}
 use lib.Dec.{eqb, lit<}
 use lib.ListN.{length, getD}
@@ -11,7 +12,7 @@ use lib.Seq.{ext-getD}
 use Rattle.totals_spec.specs.Bytes.{valuesIn}
 use Rattle.totals_spec.proofs.Values.{values-length, values-small}
 use Rattle.values.specs.declared.Source.{Source}
-use Rattle.values.specs.Sources.{strided, laidOut, values, elements, Within, Whole}
+use Rattle.values.specs.Sources.{strided, laidOut, values, elements, Within, Straight, Whole}
 
 pub strided-length : (at step n : ℕ) (l : List ℕ) → length (strided at step n l) ≡ n
 strided-length at step zero l = refl
@@ -34,6 +35,26 @@ strided-all l =
 pub elements-length : (s : Source) (words bytes : List ℕ) → length (elements s words bytes) ≡ s .count
 unfolding elements
 elements-length s words bytes = strided-length (s .start) (s .step) (s .count) _
+
+-- the element i stands i steps behind the first
+module _ (s : Source) (words bytes : List ℕ) (i at : ℕ) (h : i < s .count) (e : at ≡ s .start + i * s .step) where
+  pub element-there : Within s words bytes → at < length (values s words bytes)
+  element-there w = rw e (w .there i h)
+
+  pub element-is : getD (values s words bytes) at 0 ≡ getD (elements s words bytes) i 0
+  unfolding elements
+  element-is = rw e (sym (strided-at (s .start) (s .step) (s .count) (values s words bytes) i h))
+
+  -- and the next one a step on
+  pub next-place : at + s .step ≡ s .start + (i + 1) * s .step
+  next-place = rw e (omega arith)
+
+  pub next-fits : Within s words bytes → at + s .step < 2 ^ 64
+  next-fits w = rw next-place (omega (arith, w .room, mul-le-mul-right (s .step) (add-one-le h)))
+
+-- where they stand side by side, at its index
+pub straight-place : {s : Source} → Straight s → (i : ℕ) → i ≡ s .start + i * s .step
+straight-place h i = rw (h .start-is, h .step-is) (omega arith)
 
 -- what bounds every value bounds every element
 strided-small : (b at step n : ℕ) (l : List ℕ) → 0 < b → ((k : ℕ) → getD l k 0 < b) → (i : ℕ) → getD (strided at step n l) i 0 < b
@@ -58,14 +79,21 @@ pub record Gives (s : Source) (words bytes l : List ℕ) : Type 0 where
   pub are : elements s words bytes ≡ l
 
 -- a whole one
-module _ {layout count : ℕ} {s : Source} (h : Whole layout count s) (words bytes l : List ℕ) (e : values s words bytes ≡ l) (n : count ≡ length l) where
+module _ {layout count : ℕ} {s : Source} (h : Whole layout count s) (words bytes l : List ℕ) (e : values s words bytes ≡ l) (n : count ≡ length l)
+    (few : count < 2 ^ 64) where
   whole-gives : Gives s words bytes l
   unfolding elements
   whole-gives = record {
-    within = record { there = λ i k. rw (e, h .start-is, h .step-is) (omega (arith, k, h .count-is, n)) };
+    within = record {
+      there = λ i k. rw (e, h .start-is, h .step-is) (omega (arith, k, h .count-is, n));
+      room = rw (h .start-is, h .step-is, h .count-is) (omega (arith, few));
+    };
     are = rw (e, h .start-is, h .step-is, h .count-is ∙ n) (strided-all l);
   }
 
 pub laid-gives : {layout count : ℕ} {s : Source} → Whole layout count s → (words bytes : List ℕ) → count ≡ length (laidOut (eqb layout 0) words bytes)
-    → Gives s words bytes (laidOut (eqb layout 0) words bytes)
-laid-gives {layout} h words bytes n = whole-gives h words bytes (laidOut (eqb layout 0) words bytes) (rw (h .layout-is)) n
+    → count < 2 ^ 64 → Gives s words bytes (laidOut (eqb layout 0) words bytes)
+laid-gives {layout} h words bytes n few = whole-gives h words bytes (laidOut (eqb layout 0) words bytes) (rw (h .layout-is)) n few
+
+pub whole-straight : {layout count : ℕ} {s : Source} → Whole layout count s → Straight s
+whole-straight h = record { start-is = h .start-is; step-is = h .step-is }

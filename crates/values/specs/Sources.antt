@@ -2,7 +2,7 @@
 use mathlib.Core.Path.{_≡_}
 use mathlib.Core.Bool.{Bool, true, false}
 use mathlib.Core.List.{List, [], _∷_}
-use Prim.Native.Nat.{ℕ, zero, suc, _+_, _*_, _<_}
+use Prim.Native.Nat.{ℕ, zero, suc, _+_, _*_, _^_, _<_}
 use lib.Dec.{eqb}
 use lib.ListN.{length, getD}
 use Rattle.totals_spec.specs.Bytes.{valuesIn}
@@ -23,9 +23,15 @@ values s words bytes = laidOut (eqb (s .layout) 0) words bytes
 unfoldable pub elements : Source → List ℕ → List ℕ → List ℕ
 elements s words bytes = strided (s .start) (s .step) (s .count) (values s words bytes)
 
--- each of them is there
+-- each of them is there, and the place behind the last has a number
 pub record Within (s : Source) (words bytes : List ℕ) : Type 0 where
   pub there : (i : ℕ) → i < s .count → s .start + i * s .step < length (values s words bytes)
+  pub room : s .start + s .count * s .step < 2 ^ 64
+
+-- they stand side by side from the first value on
+pub record Straight (s : Source) : Type 0 where
+  pub start-is : s .start ≡ 0
+  pub step-is : s .step ≡ 1
 
 -- they are all the values there are
 pub record Whole (layout count : ℕ) (s : Source) : Type 0 where

@@ -1,7 +1,7 @@
 -- The items of a walk: those of the elements of one list, or of the pairs of two.
 use mathlib.Core.Bool.{Bool, true, false}
 use mathlib.Core.List.{List, map}
-use Prim.Native.Nat.{ℕ}
+use Prim.Native.Nat.{ℕ, _≤_}
 use lib.Dec.{eqb}
 use Rattle.totals_spec.specs.Format.{Format}
 use Rattle.totals_spec.specs.Settings.{Settings, Summand, summandOf}
@@ -9,10 +9,14 @@ use Rattle.totals_spec.specs.Terms.{Item, item, pairItem}
 use Rattle.totals_spec.specs.Totals.{pairs}
 use Rattle.totals_spec.specs.Hundredfold.{hundredItem}
 use Rattle.values.specs.declared.Walk.{Walk}
-use Rattle.values.specs.Sources.{elements}
+use Rattle.values.specs.Sources.{elements, Straight}
 
 abbrev pub isDot : Walk → Bool
 isDot k = eqb (k .summand) 3
+
+-- products, and values a hundred times each, are of elements that stand side by side
+abbrev pub Orderly : Walk → Type 0
+Orderly k = 2 ≤ k .summand → Straight (k .source)
 
 abbrev pub itemsOf : Bool → Format → Settings → Summand → List ℕ → List ℕ → List Item
 itemsOf true f c u x y = map (pairItem f c) (pairs x y)

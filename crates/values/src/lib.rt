@@ -4,7 +4,7 @@ ghost use Prim.Native.Nat.{_+_, _*_, _/_, _<_, _≤_};
 ghost use lib.ListN.{length, getD};
 ghost use Rattle.totals_spec.specs.Bytes.{valuesIn};
 ghost use Rattle.values.specs.Laid.{laid};
-ghost use Rattle.values.specs.Sources.{Within, Whole, elements};
+ghost use Rattle.values.specs.Sources.{Whole, values};
 
 fn wide(x: u8) -> u64
     ensures { λ r. ⌜ (r ≡ x) × (r < 256) ⌝ }
@@ -54,7 +54,8 @@ pub struct Source {
 }
 
 // What a total walks over: the values (summand 0), the magnitudes (1) or the squares (2) of the elements of one list, or the products (3) of those of
-// two, which stand alike; or, for pence, the values a hundred times each (4).
+// two, which stand alike; or, for pence, the values a hundred times each (4). The last three are taken from a source that is read straight on, value
+// after value.
 pub struct Walk {
     pub summand: u64,
     pub source: Source,
@@ -78,12 +79,12 @@ pub fn whole(summand: u64, layout: u64, count: usize) -> Walk
     }
 }
 
-// The element i of a source.
-pub fn element(s: Source, words: &[u64], bytes: &[u8], i: usize) -> u64
-    requires { ⌜ Within s (now words) (now bytes) × (i < s .count) ⌝ }
-    ensures { λ r. ⌜ r ≡ getD (elements s (now (words .entry)) (now (bytes .entry))) i 0 ⌝ }
+// The value at a place among the words or bytes of a source. A walk keeps count of the place beside the index: their product in each turn would take a
+// fifth off the speed of a sum.
+pub fn element(s: Source, words: &[u64], bytes: &[u8], at: usize) -> u64
+    requires { ⌜ at < length (values s (now words) (now bytes)) ⌝ }
+    ensures { λ r. ⌜ r ≡ getD (values s (now (words .entry)) (now (bytes .entry))) at 0 ⌝ }
 {
-    let at = s.start + i * s.step;
     if s.layout == 0 {
         words[at]
     } else {

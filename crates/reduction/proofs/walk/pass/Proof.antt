@@ -37,7 +37,9 @@ by : (s : tie.Start) (r : Pass) (b t : Bool) → isDot (s .args .k) ≡ b → is
 by s r b t e g = subst₂ (PassedBy s r) (sym e) (sym g)
 
 pass-hundreds-requires : tie.Need-pass-hundreds-requires
-pass-hundreds-requires c κs = search needs
+pass-hundreds-requires c κs =
+    let s = entry (c .before) in
+    (s .pre .0, s .pre .1, s .pre .3 (omega (arith, c .if1 .taken)))
 
 returns : tie.Need-returns
 returns c =
@@ -53,7 +55,9 @@ plain : (d : tie.After-struct-known2) → isHundred (entry (d .before .before) .
 plain d = ne-eqb _ 4 (d .before .if1 .left)
 
 pass-pairs-requires : tie.Need-pass-pairs-requires
-pass-pairs-requires c κs = search needs
+pass-pairs-requires c κs =
+    let s = entry (c .before .before .before) in
+    (s .pre .0, s .pre .1, s .pre .2, s .pre .3 (omega (arith, c .if2 .taken)))
 
 returns-2 : tie.Need-returns-2
 returns-2 c =
@@ -76,7 +80,9 @@ returns-3 c =
     by (entry (first d .before .before)) _ false false (single d) (plain (first d)) (c .pass-singles .ensures)
 
 pass-squares-requires : tie.Need-pass-squares-requires
-pass-squares-requires c κs = search needs
+pass-squares-requires c κs =
+    let s = entry (first (c .before) .before .before) in
+    (s .pre .0, s .pre .1, s .pre .3 (omega (arith, c .if3 .left)))
 
 returns-4 : tie.Need-returns-4
 returns-4 c =

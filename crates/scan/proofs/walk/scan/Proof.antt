@@ -1,6 +1,7 @@
 -- `scan::walk::scan` meets its contract.
 use mathlib.Core.Path.{sym, subst}
 use mathlib.Core.Bool.{Bool}
+use native.Mathlib.Omega.{arith}
 use borrow.Author.Needs.{needs}
 use borrow.Author.Tests.{eq-eqb, ne-eqb}
 use Rattle.totals_spec.specs.Settings.{summandOf}
@@ -21,6 +22,12 @@ Is s r b =
 abbrev entry : tie.After-struct-known → tie.Start
 entry k = let s = k .before .before .before in s .before .before .before
 
+-- pairs stand side by side
+scan-pairs-requires : tie.Need-scan-pairs-requires
+scan-pairs-requires c κs =
+    let s = entry (c .before) in
+    (s .pre .0, s .pre .1, s .pre .2, s .pre .3 (omega (arith, c .if1 .taken)))
+
 returns : tie.Need-returns
 returns c =
     let t = c .before in
@@ -32,4 +39,4 @@ returns-2 c =
     subst (Is (entry (t .before)) (c .scan-list .result)) (sym (ne-eqb _ 3 (t .if1 .left))) (c .scan-list .ensures)
 
 pub scan-spec : {M : Type 1} → statement M
-scan-spec = tie.close (tie.spec (λ c κs. search needs) returns (λ c κs. search needs) returns-2)
+scan-spec = tie.close (tie.spec scan-pairs-requires returns (λ c κs. search needs) returns-2)

@@ -1,7 +1,7 @@
 -- `scan::walk::scan_pairs` meets its contract. The invariant: the scan, withTop to the position of the fields kept apart, is that of the first i pairs.
 use mathlib.Core.Path.{_≡_, sym, _∙_}
 use mathlib.Core.List.{List}
-use Prim.Native.Nat.{ℕ, _≤_, _-_, _<_}
+use Prim.Native.Nat.{ℕ, _+_, _*_, _≤_, _-_, _<_}
 use native.Mathlib.Numerals.{add-one-le}
 use native.Mathlib.Omega.{arith}
 use borrow.Author.Needs.{needs}
@@ -14,7 +14,7 @@ use Rattle.format.specs.Joined.{formatOf, settingsOf}
 use Rattle.arithmetic.specs.Joined.{fieldsTop}
 use Rattle.arithmetic.proofs.Pairs.{plain-fields-small}
 use Rattle.values.specs.Sources.{elements}
-use Rattle.values.proofs.Sources.{elements-length}
+use Rattle.values.proofs.Sources.{elements-length, element-there, element-is, straight-place}
 use Rattle.scan.specs.Joined.{withTop, ScannedPairs}
 use Rattle.scan.proofs.Step.{Reading, Plainly, Turn, walk-start, walk-taken, walk-plain, walk-done}
 use Rattle.scan.proofs.Lists.{dot, pair-here, pair-plainly}
@@ -76,15 +76,22 @@ head t = inside t .before .before
 abbrev pair : Known → ℕ × ℕ
 pair t = (t .before .before .element .result, t .before .element2 .result)
 
+-- each element stands at its index
+place : (t : Known) → let s = entry (head t) .args .source in head t .loop .i ≡ s .start + head t .loop .i * s .step
+place t = straight-place (entry (head t) .pre .3) (head t .loop .i)
+
 turn : (t : Known) → let e = entry (head t) in let l = head t .loop in
     Turn (form e) (env e) (by e) (all e) (0, 0) (l .i) (pair t) (l .s) (l .greatest)
 turn t =
     let e = entry (head t) in
+    let a = e .args in
     let y = t .before in
     let i = inside t .if1 .taken in
     record {
       inside = rw (long e) i;
-      here = pair-here (left e) (right e) _ _ _ (alike e) (rw (many e) i) (y .before .element .ensures) (y .element2 .ensures);
+      here = pair-here (left e) (right e) _ _ _ (alike e) (rw (many e) i)
+          (y .before .element .ensures ∙ element-is (a .source) (a .left-words .now) (a .left-bytes .now) _ _ i (place t))
+          (y .element2 .ensures ∙ element-is (a .source) (a .right-words .now) (a .right-bytes .now) _ _ i (place t));
       so-far = head t .loop .inv .2;
     }
 
@@ -96,6 +103,19 @@ loop-holds c =
     let s = c .before .before .before in
     let e = s .before .before in
     (search needs, search needs, walk-start (form e) (env e) (by e) (all e) _ (c .new .ensures .1 (form e) (env e)))
+
+element-requires : tie.Need-element-requires Inv-loop μ-loop
+element-requires c κs =
+    let h = c .before .before in
+    let e = entry h in
+    element-there (e .args .source) _ _ _ _ (c .if1 .taken) (straight-place (e .pre .3) (h .loop .i)) (e .pre .1)
+
+element-requires-2 : tie.Need-element-requires-2 Inv-loop μ-loop
+element-requires-2 c κs =
+    let t = c .before in
+    let h = t .before .before in
+    let e = entry h in
+    element-there (e .args .source) _ _ _ _ (t .if1 .taken) (straight-place (e .pre .3) (h .loop .i)) (e .pre .2)
 
 loop-again : tie.Need-loop-again Inv-loop μ-loop
 loop-again c =
@@ -130,8 +150,8 @@ scan-pairs-spec =
     μ-loop
     (λ c κs. search needs)
     loop-holds
-    (λ c κs. search needs)
-    (λ c κs. search needs)
+    element-requires
+    element-requires-2
     (λ c. search needs)
     (λ c κs. search needs)
     (λ c κs. search needs)

@@ -1,16 +1,15 @@
 -- `totals::lists::listed` meets its contract.
-use mathlib.Core.Path.{refl}
+use mathlib.Core.Path.{_≡_, refl, sym}
 use mathlib.Core.List.{List}
 use Prim.Native.Nat.{ℕ}
 use borrow.Author.Needs.{needs}
-use lib.Dec.{eqb}
+use lib.ListN.{length}
 use Rattle.totals_spec.specs.Format.{Format}
 use Rattle.totals_spec.specs.Settings.{Settings}
 use Rattle.format.specs.Joined.{formatOf, settingsOf}
-use Rattle.values.specs.Sources.{laidOut}
-use Rattle.values.proofs.Sources.{Gives, laid-gives}
-use Rattle.totals.specs.Stray.{FoundOn}
-use Rattle.totals.specs.Reported.{TotalAsks}
+use Rattle.values.specs.Sources.{elements}
+use Rattle.values.specs.Walks.{isDot, isHundred}
+use Rattle.values.proofs.Sources.{elements-length}
 use Rattle.totals.proofs.Listed.{list-width, list-strayed, list-asks, list-told}
 use Rattle.totals.proofs.lists.listed.Statement.{statement}
 use Rattle.totals.proofs.lists.listed.Tie as tie
@@ -22,70 +21,64 @@ form s = formatOf (s .args .f)
 abbrev env : tie.Start → Settings
 env s = settingsOf (s .args .c)
 
+abbrev u : tie.Start → ℕ
+u s = s .args .k .summand
+
 abbrev left : tie.Start → List ℕ
-left s = laidOut (eqb (s .args .layout) 0) (s .args .left-words .now) (s .args .left-bytes .now)
+left s = elements (s .args .k .source) (s .args .left-words .now) (s .args .left-bytes .now)
 
 abbrev right : tie.Start → List ℕ
-right s = laidOut (eqb (s .args .layout) 0) (s .args .right-words .now) (s .args .right-bytes .now)
+right s = elements (s .args .k .source) (s .args .right-words .now) (s .args .right-bytes .now)
 
--- once the walk is made: what it gives of each list
-abbrev entry : tie.After-whole → tie.Start
-entry t = let k = t .before .before in k .before .before .before
+many-left : (s : tie.Start) → s .args .k .source .count ≡ length (left s)
+many-left s = sym (elements-length (s .args .k .source) (s .args .left-words .now) (s .args .left-bytes .now))
 
-gives-left : (t : tie.After-whole) → let s = entry t in Gives (t .whole .result .source) (s .args .left-words .now) (s .args .left-bytes .now) (left s)
-gives-left t = let s = entry t in laid-gives (t .whole .ensures .1) (s .args .left-words .now) (s .args .left-bytes .now) (s .pre .0 .0)
+many-right : (s : tie.Start) → s .args .k .source .count ≡ length (right s)
+many-right s = sym (elements-length (s .args .k .source) (s .args .right-words .now) (s .args .right-bytes .now))
 
-gives-right : (t : tie.After-whole) → let s = entry t in Gives (t .whole .result .source) (s .args .right-words .now) (s .args .right-bytes .now) (right s)
-gives-right t = let s = entry t in laid-gives (t .whole .ensures .1) (s .args .right-words .now) (s .args .right-bytes .now) (s .pre .0 .1)
+-- once the walk is searched
+abbrev entry : tie.After-shared-slice-known4 → tie.Start
+entry k = k .before .before .before .before
 
-found : (t : tie.After-walk-stray) → let s = entry (t .before) in FoundOn (eqb (s .args .u) 3) (t .walk-stray .result) (form s .W) (left s) (right s)
-found t =
-    let w = t .before in
-    rw (w .whole .ensures .0, gives-left w .are, gives-right w .are) at (t .walk-stray .ensures)
-
--- and where nothing was found
-asks : (e : tie.After-enum-told) → let s = entry (e .before .before .before) in
-    TotalAsks (eqb (s .args .u) 4) (eqb (s .args .u) 3) (form s) (env s) (s .args .u) (left s) (right s)
-asks e =
-    let t = e .before .before in
-    let s = entry (t .before) in
-    list-asks (form s) (env s) (s .args .u) (left s) (right s) (s .pre .0 .0) (s .pre .0 .1) (eqb (s .args .u) 4) refl (s .pre .1) _ (found t)
-    (e .enum-told .given .1)
+abbrev begun : tie.After-walk-stray → tie.Start
+begun t = entry (t .before)
 
 walk-stray-requires : tie.Need-walk-stray-requires
 walk-stray-requires c κs =
     let s = entry c in (
-      list-width (form s) (env s) (s .args .u) (left s) (right s) _ (eqb (s .args .u) 4) (eqb (s .args .u) 3) (s .pre .1),
-      (gives-left c .within, gives-right c .within),
+      list-width (form s) (env s) (u s) (left s) (right s) _ (isHundred (s .args .k)) (isDot (s .args .k)) (s .pre .1),
+      (s .pre .0 .0, s .pre .0 .1),
     )
 
 total-requires : tie.Need-total-requires
 total-requires c κs =
-    let w = c .before .before .before in
-    ((gives-left w .within, gives-right w .within), rw (w .whole .ensures .0, gives-left w .are, gives-right w .are) (asks c))
+    let t = c .before .before in
+    let s = begun t in (
+      s .pre .0,
+      list-asks (form s) (env s) (u s) (left s) (right s) (many-left s) (many-right s) (isHundred (s .args .k)) refl (s .pre .1) _ (t .walk-stray .ensures)
+          (c .enum-told .given .1),
+    )
 
 returns : tie.Need-returns
 returns c =
     let i = c .before .before in
     let t = i .before .before in
-    let s = entry (t .before) in
-    list-strayed (form s) (env s) (s .args .u) (left s) (right s) (s .pre .0 .0) (s .pre .0 .1) (eqb (s .args .u) 4) refl (s .pre .1) _ _ (found t)
+    let s = begun t in
+    list-strayed (form s) (env s) (u s) (left s) (right s) (many-left s) (many-right s) (isHundred (s .args .k)) refl (s .pre .1) _ _ (t .walk-stray .ensures)
     (i .i .given .1) _ (c .strayed .ensures)
 
 returns-2 : tie.Need-returns-2
 returns-2 c =
     let e = c .before in
     let t = e .before .before in
-    let w = t .before in
-    let s = entry w in
-    list-told (form s) (env s) (s .args .u) (left s) (right s) (s .pre .0 .0) (s .pre .0 .1) (eqb (s .args .u) 4) refl (s .pre .1) _ (found t)
-    (e .enum-told .given .1) _ (rw (w .whole .ensures .0, gives-left w .are, gives-right w .are) at (c .total .ensures))
+    let s = begun t in
+    list-told (form s) (env s) (u s) (left s) (right s) (many-left s) (many-right s) (isHundred (s .args .k)) refl (s .pre .1) _ (t .walk-stray .ensures)
+    (e .enum-told .given .1) _ (c .total .ensures)
 
 pub listed-spec : {M : Type 1} → statement M
 listed-spec =
     tie.close
     (tie.spec
-    (λ c κs. search needs)
     walk-stray-requires
     (λ c. search needs)
     (λ c κs. search needs)

@@ -14,7 +14,7 @@ use Rattle.values.specs.Walks.{isDot, isHundred, addedIn}
 use Rattle.values.proofs.Sources.{elements-length}
 use Rattle.reduction.specs.Held.{Sums}
 use Rattle.totals.specs.Reported.{TotalAsks}
-use Rattle.totals.proofs.Totalled.{Seen, asks-format, asks-few, digits-most, top-room, early-asks, early-told, exact-asks, end-asks, end-told}
+use Rattle.totals.proofs.Totalled.{Seen, scanned-orderly, asks-format, asks-few, digits-most, top-room, early-asks, early-told, exact-asks, end-asks, end-told}
 use Rattle.totals.proofs.lists.total.Statement.{statement}
 use Rattle.totals.proofs.lists.total.Tie as tie
 
@@ -53,6 +53,7 @@ scan-requires c κs =
       asks-format (form s) (env s) (u s) (left s) (right s) (hundred s) (isDot (s .args .k)) (s .pre .1),
       rw (c .scanned .ensures .0) (s .pre .0 .0),
       rw (c .scanned .ensures .0) (s .pre .0 .1),
+      scanned-orderly (s .args .k) (c .scanned .result) (c .scanned .ensures .0) (c .scanned .ensures .1) (s .pre .0 .2),
     )
 
 early-requires : tie.Need-early-requires
@@ -102,6 +103,7 @@ exact-requires c κs =
         rw (elements-length (a .k .source) (a .left-words .now) (a .left-bytes .now)) at
             (asks-few f (env s) (u s) (left s) (right s) (hundred s) (isDot (a .k)) b),
         rw (p .digits-for .ensures) (digits-most f (env s) (u s) (left s) (right s) (hundred s) (isDot (a .k)) b),
+        s .pre .0 .2,
       ),
       rw (c .top-for .ensures)
           (exact-asks f (env s) (u s) (left s) (right s) _ _ (e .enum-told .given .1) (hundred s) refl (seen (d .before)) b (d .decided-by .ensures)),

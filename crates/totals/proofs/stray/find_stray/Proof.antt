@@ -1,21 +1,22 @@
--- `totals::stray::find_stray` meets its contract.
-use mathlib.Core.Path.{_≡_}
+-- `totals::stray::find_stray` meets its contract. The invariant: the first i elements have no stray bit, and the next one stands at the place that is kept
+-- beside i.
+use mathlib.Core.Path.{_≡_, _∙_}
 use mathlib.Core.List.{List}
-use Prim.Native.Nat.{ℕ, _-_, _<_}
+use Prim.Native.Nat.{ℕ, _+_, _*_, _-_, _<_}
 use native.Mathlib.Omega.{arith}
 use borrow.Author.Needs.{needs}
-use lib.ListN.{length}
+use lib.ListN.{length, getD}
 use Rattle.values.specs.Sources.{elements}
-use Rattle.values.proofs.Sources.{elements-length, elements-small}
+use Rattle.values.proofs.Sources.{elements-length, elements-small, element-there, element-is, next-place, next-fits}
 use Rattle.totals.proofs.Search.{Clear, clear-start, clear-next, clear-found, clear-end, word-wide}
 use Rattle.totals.proofs.stray.find_stray.Statement.{statement}
 use Rattle.totals.proofs.stray.find_stray.Tie as tie
 
 abbrev Inv-loop : tie.InvT-loop
-Inv-loop width source words bytes most count i₀ i = Clear width (elements source words bytes) i
+Inv-loop width source words bytes most count i₀ place₀ i place = Clear width (elements source words bytes) i × (place ≡ source .start + i * source .step)
 
 abbrev μ-loop : tie.MeasureT-loop
-μ-loop width source words bytes most count i₀ i = count - i
+μ-loop width source words bytes most count i₀ place₀ i place = count - i
 
 -- at the entry: the elements
 abbrev list : tie.Start Inv-loop μ-loop → List ℕ
@@ -34,6 +35,12 @@ head t = t .before .before
 there : (t : tie.After-element Inv-loop μ-loop) → head t .loop .i < length (list (entry (head t)))
 there t = omega (arith, long (entry (head t)))
 
+-- the element stands at the place
+here : (t : tie.After-element Inv-loop μ-loop) → t .element .result ≡ getD (list (entry (head t))) (head t .loop .i) 0
+here t =
+    let a = entry (head t) .args in
+    t .element .ensures ∙ element-is (a .source) (a .words .now) (a .bytes .now) _ _ (t .before .loop-test .taken) (head t .loop .inv .1)
+
 returns : tie.Need-returns Inv-loop μ-loop
 returns c =
     let t = c .before in
@@ -45,15 +52,24 @@ greatest-requires : tie.Need-greatest-requires Inv-loop μ-loop
 greatest-requires c κs = search needs
 
 loop-holds : tie.Need-loop-holds Inv-loop μ-loop
-loop-holds c = clear-start _ _
+loop-holds c = (clear-start _ _, omega arith)
 
 element-requires : tie.Need-element-requires Inv-loop μ-loop
-element-requires c κs = (entry (c .before) .pre .2, omega arith)
+element-requires c κs =
+    let h = c .before in
+    let s = entry h in
+    element-there (s .args .source) _ _ _ _ (c .loop-test .taken) (h .loop .inv .1) (s .pre .2)
 
 returns-2 : tie.Need-returns-2 Inv-loop μ-loop
 returns-2 c =
     let t = c .before in
-    clear-found (head t .before .greatest .ensures) (head t .loop .inv) (there t) (t .element .ensures) (omega arith)
+    clear-found (head t .before .greatest .ensures) (head t .loop .inv .0) (there t) (here t) (omega arith)
+
+add-place : tie.Need-add-place Inv-loop μ-loop
+add-place c =
+    let t = c .before .before in
+    let s = entry (head t) in
+    record { fits = next-fits (s .args .source) _ _ _ _ (t .before .loop-test .taken) (head t .loop .inv .1) (s .pre .2) }
 
 add-i : tie.Need-add-i Inv-loop μ-loop
 add-i c = search needs
@@ -63,11 +79,14 @@ loop-less c = search needs
 
 loop-again : tie.Need-loop-again Inv-loop μ-loop
 loop-again c =
-    let t = c .before in
-    clear-next (head t .before .greatest .ensures) (head t .loop .inv) (there t) (t .element .ensures) (omega arith)
+    let t = c .before .before in
+    let a = entry (head t) .args in (
+      clear-next (head t .before .greatest .ensures) (head t .loop .inv .0) (there t) (here t) (omega arith),
+      next-place (a .source) (a .words .now) (a .bytes .now) _ _ (t .before .loop-test .taken) (head t .loop .inv .1),
+    )
 
 returns-3 : tie.Need-returns-3 Inv-loop μ-loop
-returns-3 c = clear-end (c .before .loop .inv) (omega (arith, long (entry (c .before))))
+returns-3 c = clear-end (c .before .loop .inv .0) (omega (arith, long (entry (c .before))))
 
 pub find-stray-spec : {M : Type 1} → statement M
 find-stray-spec =
@@ -81,6 +100,7 @@ find-stray-spec =
     element-requires
     returns-2
     add-i
+    add-place
     loop-less
     loop-again
     returns-3)

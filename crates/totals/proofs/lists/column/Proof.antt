@@ -1,0 +1,44 @@
+-- `totals::lists::column` meets its contract.
+use mathlib.Core.Path.{_≡_, _∙_}
+use mathlib.Core.List.{List}
+use Prim.Native.Nat.{ℕ}
+use native.Mathlib.Omega.{arith}
+use borrow.Author.Needs.{needs}
+use lib.ListN.{length}
+use Rattle.totals_spec.specs.Table.{columnOf}
+use Rattle.format.specs.Joined.{formatOf, settingsOf}
+use Rattle.values.specs.declared.Source.{Source}
+use Rattle.values.specs.Sources.{elements, Within}
+use Rattle.totals.proofs.Columns.{column-strided, column-there, column-room}
+use Rattle.totals.proofs.lists.column.Statement.{statement}
+use Rattle.totals.proofs.lists.column.Tie as tie
+
+-- at the entry: where the cells stand
+abbrev source : tie.Start → Source
+source s = record { layout = 0; start = s .args .first; step = s .args .step; count = s .args .count }
+
+within : (s : tie.Start) (b : List ℕ) → Within (source s) (s .args .cells .now) b
+within s b = record {
+  there = column-there (s .args .count) (s .args .step) (s .args .first) (s .args .cells .now) (s .pre .0 .0) (s .pre .0 .1);
+  room =
+      column-room (s .args .count) (s .args .step) (s .args .first) (length (s .args .cells .now)) (s .pre .0 .0) (omega arith) (s .pre .0 .1) (omega arith);
+}
+
+are : (s : tie.Start) (b : List ℕ) → elements (source s) (s .args .cells .now) b ≡ columnOf (s .args .count) (s .args .step) (s .args .cells .now) (s .args .first)
+unfolding elements
+are s b = column-strided (s .args .count) (s .args .step) (s .args .first) (s .args .cells .now)
+
+abbrev entry : tie.After-listed-arg2 → tie.Start
+entry t = t .before .before .before
+
+listed-requires : tie.Need-listed-requires
+listed-requires c κs = let s = entry c in ((within s _, within s _, λ h. absurd (omega (arith, h))), s .pre .1)
+
+returns : tie.Need-returns
+returns c =
+    let l = c .before in
+    let s = entry (l .before) in
+    c .answer-of .ensures ∙ rw (are s _) at (l .listed .ensures)
+
+pub column-spec : {M : Type 1} → statement M
+column-spec = tie.close (tie.spec (λ c. search needs) (λ c. search needs) listed-requires (λ c κs. search needs) returns)
