@@ -807,6 +807,384 @@ static void pence_refused(void)
     CHECK(totals_pence_words(wide, NULL, 0).refusal == TOTALS_ACCEPTED);
 }
 
+#define GUARD 0xa5a5a5a5a5a5a5a5
+/* Words behind the totals. */
+#define BEYOND 3
+/* The most rows, and the most columns, of the tables below. */
+#define LINES 40
+
+static uint64_t row_totals[LINES + BEYOND], column_totals[LINES + BEYOND];
+
+static void clear_totals(void)
+{
+    size_t i;
+    for (i = 0; i < LINES + BEYOND; i++) {
+        row_totals[i] = column_totals[i] = GUARD;
+    }
+    clear();
+}
+
+static int guarded_from(const uint64_t *totals, size_t at)
+{
+    for (; at < LINES + BEYOND; at++) {
+        if (totals[at] != GUARD) {
+            return 0;
+        }
+    }
+    return 1;
+}
+
+static int all_untouched(void)
+{
+    return guarded_from(row_totals, 0) && guarded_from(column_totals, 0) && untouched_from(0);
+}
+
+/* The entry, into lists with room for so many. */
+static uint64_t table_entry(totals_format f, const totals_settings *c, const uint64_t *cells, size_t count, uint64_t rows, uint64_t columns,
+                            size_t row_room, size_t column_room, size_t answer_len)
+{
+    clear_totals();
+    return totals_table(f.kind, f.exponent_bits, f.width, f.bias_named, f.bias, c->rounding, c->tininess, c->nan_propagation,
+                        c->default_nan_negative, c->flush_to_zero, c->denormals_are_zero, c->saturate, c->precision, rows, columns, cells, count,
+                        row_totals, row_room, column_totals, column_room, answer, answer_len);
+}
+
+/* Each total is what the plain sum gives for its cells in their order; the answer is its record. Through the entry and through the words. */
+static int sums_are_plain(totals_format f, const totals_settings *c, const uint64_t *cells, size_t rows, size_t columns)
+{
+    const size_t count = rows * columns;
+    const totals_record grand = totals_sum_words(f, TOTALS_VALUE, cells, count, c);
+    uint64_t list[LINES];
+    totals_record record;
+    int holds_so = 1, turn;
+    size_t i, j;
+
+    for (turn = 0; turn < 2; turn++) {
+        if (turn == 0) {
+            holds_so &= table_entry(f, c, cells, count, rows, columns, rows + BEYOND, columns + BEYOND, ROOM) == 0;
+            holds_so &= holds(grand.result, grand.flags, grand.passes, grand.side);
+        } else {
+            clear_totals();
+            record = totals_table_words(f, cells, count, rows, columns, row_totals, rows, column_totals, columns, c);
+            holds_so &= alike(record, grand) && untouched_from(0);
+        }
+        for (i = 0; i < rows; i++) {
+            holds_so &= row_totals[i] == totals_sum_words(f, TOTALS_VALUE, cells + i * columns, columns, c).result;
+        }
+        for (j = 0; j < columns; j++) {
+            for (i = 0; i < rows; i++) {
+                list[i] = cells[i * columns + j];
+            }
+            holds_so &= column_totals[j] == totals_sum_words(f, TOTALS_VALUE, list, rows, c).result;
+        }
+        holds_so &= guarded_from(row_totals, rows) && guarded_from(column_totals, columns);
+    }
+    return holds_so;
+}
+
+static const totals_settings plain = TOTALS_SETTINGS_INIT;
+/* 1 2 3 and 1 1 1 in binary16 */
+static const uint64_t six[6] = {0x3c00, 0x4000, 0x4200, 0x3c00, 0x3c00, 0x3c00};
+
+/* Sums worked out by hand. */
+static void tables(void)
+{
+    const totals_format half = {TOTALS_BINARY16, TOTALS_OWN_BIAS};
+    const struct {
+        uint64_t rounding, nan_propagation;
+        uint64_t cells[4], of_rows[2], of_columns[2], grand;
+    } rows[] = {
+        /* the first two rows of zeros; 1 and a quarter of its last place, which cancel in their columns */
+        {EVEN, 0, {0, 0x8000, 0x8000, 0x8000}, {0, 0x8000}, {0, 0x8000}, 0},
+        {TOTALS_TOWARD_NEGATIVE, 0, {0, 0x8000, 0, 0}, {0x8000, 0}, {0, 0x8000}, 0x8000},
+        {EVEN, 0, {0x3c00, 0x0c00, 0xbc00, 0x8c00}, {0x3c00, 0xbc00}, {0, 0}, 0},
+        {TOTALS_TOWARD_POSITIVE, 0, {0x3c00, 0x0c00, 0xbc00, 0x8c00}, {0x3c01, 0xbc00}, {0, 0}, 0},
+        {TOTALS_TOWARD_NEGATIVE, 0, {0x3c00, 0x0c00, 0xbc00, 0x8c00}, {0x3c00, 0xbc01}, {0x8000, 0x8000}, 0x8000},
+        /* infinities of both signs in one column; 65504 twice */
+        {EVEN, 0, {0x7c00, 0x3c00, 0xfc00, 0x4000}, {0x7c00, 0xfc00}, {0x7e00, 0x4200}, 0x7e00},
+        {EVEN, 0, {0x7bff, 0x3c00, 0x7bff, 0xbc00}, {0x7bff, 0x7bff}, {0x7c00, 0}, 0x7c00},
+        /* the NaN of a row from left to right, that of a column from top to bottom */
+        {EVEN, TOTALS_SIGNALING_FIRST, {0x7e01, 0x7e04, 0x7e03, 0x7e02}, {0x7e01, 0x7e03}, {0x7e01, 0x7e04}, 0x7e01},
+        {EVEN, TOTALS_LARGER_SIGNIFICAND, {0x7e01, 0x7e04, 0x7e03, 0x7e02}, {0x7e04, 0x7e03}, {0x7e03, 0x7e04}, 0x7e04},
+        {EVEN, TOTALS_SIGNALING_FIRST, {0x7e01, 0x7c05, 0xfc06, 0x3c00}, {0x7e05, 0xfe06}, {0xfe06, 0x7e05}, 0x7e05},
+        {EVEN, TOTALS_FIRST_OPERAND, {0x7e01, 0x7c05, 0xfc06, 0x3c00}, {0x7e01, 0xfe06}, {0x7e01, 0x7e05}, 0x7e01},
+    };
+    totals_settings settings = TOTALS_SETTINGS_INIT;
+    size_t i;
+
+    CHECK(table_entry(half, &plain, six, 6, 2, 3, 4, 4, ROOM) == 0 && holds(0x4880, 0, 1, TOTALS_EQUAL));
+    CHECK(row_totals[0] == 0x4600 && row_totals[1] == 0x4200 && guarded_from(row_totals, 2));
+    CHECK(column_totals[0] == 0x4000 && column_totals[1] == 0x4200 && column_totals[2] == 0x4400 && guarded_from(column_totals, 3));
+    CHECK(table_entry(half, &plain, six, 6, 3, 2, 3, 2, 24) == 0 && holds(0x4880, 0, 1, TOTALS_EQUAL));
+    CHECK(row_totals[0] == 0x4200 && row_totals[1] == 0x4400 && row_totals[2] == 0x4000 && guarded_from(row_totals, 3));
+    CHECK(column_totals[0] == 0x4500 && column_totals[1] == 0x4400 && guarded_from(column_totals, 2));
+    CHECK(table_entry(half, &plain, six, 6, 1, 6, 1, 6, 24) == 0 && row_totals[0] == 0x4880 && memcmp(column_totals, six, sizeof six) == 0);
+    CHECK(table_entry(half, &plain, six, 6, 6, 1, 6, 1, 24) == 0 && column_totals[0] == 0x4880 && memcmp(row_totals, six, sizeof six) == 0);
+
+    for (i = 0; i < sizeof rows / sizeof *rows; i++) {
+        settings.rounding = rows[i].rounding;
+        settings.nan_propagation = rows[i].nan_propagation;
+        if (table_entry(half, &settings, rows[i].cells, 4, 2, 2, 2, 2, ROOM) != 0 || word(0) != rows[i].grand
+            || memcmp(row_totals, rows[i].of_rows, 16) != 0 || memcmp(column_totals, rows[i].of_columns, 16) != 0
+            || !sums_are_plain(half, &settings, rows[i].cells, 2, 2)) {
+            fprintf(stderr, "tables: row %d\n", (int)i);
+            failures++;
+        }
+    }
+}
+
+/* No columns, no rows, neither: each total is +0, toward negative too. */
+static void empty_tables(void)
+{
+    const totals_format half = {TOTALS_BINARY16, TOTALS_OWN_BIAS};
+    totals_settings settings = TOTALS_SETTINGS_INIT;
+    double of_doubles[2] = {7, 7};
+    float of_floats[2] = {7, 7};
+    size_t i;
+
+    for (settings.rounding = 0; settings.rounding < 8; settings.rounding++) {
+        CHECK(table_entry(half, &settings, six, 0, 3, 0, 4, 4, ROOM) == 0 && holds(0, 0, 0, TOTALS_EQUAL));
+        CHECK(row_totals[0] == 0 && row_totals[1] == 0 && row_totals[2] == 0 && guarded_from(row_totals, 3) && guarded_from(column_totals, 0));
+        CHECK(table_entry(half, &settings, six, 0, 0, 3, 0, 3, ROOM) == 0 && holds(0, 0, 0, TOTALS_EQUAL));
+        CHECK(column_totals[0] == 0 && column_totals[1] == 0 && column_totals[2] == 0 && guarded_from(column_totals, 3) && guarded_from(row_totals, 0));
+        CHECK(table_entry(half, &settings, six, 0, 0, 0, 0, 0, ROOM) == 0 && holds(0, 0, 0, TOTALS_EQUAL));
+        CHECK(guarded_from(row_totals, 0) && guarded_from(column_totals, 0));
+        for (i = 0; i <= LINES; i++) {
+            CHECK(sums_are_plain(half, &settings, six, i, 0) && sums_are_plain(half, &settings, six, 0, i));
+        }
+    }
+    /* an empty list needs no pointer */
+    CHECK(totals_table_words(half, NULL, 0, 0, 0, NULL, 0, NULL, 0, NULL).refusal == TOTALS_ACCEPTED);
+    CHECK(totals_table_double(NULL, 0, 2, 0, of_doubles, 2, NULL, 0, &plain).refusal == TOTALS_ACCEPTED);
+    CHECK(of_doubles[0] == 0 && of_doubles[1] == 0);
+    CHECK(totals_table_float(NULL, 0, 0, 1, NULL, 0, of_floats, 2, NULL).refusal == TOTALS_ACCEPTED);
+    CHECK(of_floats[0] == 0 && of_floats[1] == 7);
+}
+
+static void tables_of_doubles(void)
+{
+    const double cells[6] = {power(1000), 1, -power(1000), 0.5, 2, 4};
+    double of_rows[3] = {7, 7, 7}, of_columns[4] = {7, 7, 7, 7}, *many, *lines;
+    totals_settings settings = TOTALS_SETTINGS_INIT;
+    totals_double_record record = totals_table_double(cells, 6, 2, 3, of_rows, 3, of_columns, 4, NULL);
+    size_t i, k;
+
+    CHECK(record.refusal == TOTALS_ACCEPTED && record.result == 7.5 && record.flags == 0 && record.passes == 2 && record.place == 0);
+    CHECK(record.side == TOTALS_EQUAL && record.bits == 0x401e000000000000);
+    CHECK(of_rows[0] == 1 && of_rows[1] == 6.5 && of_rows[2] == 7);
+    CHECK(of_columns[0] == power(1000) && of_columns[1] == 3 && of_columns[2] == -power(1000) && of_columns[3] == 7);
+    /* 24 digits, upwards: 2^60 + 1 is no such number */
+    settings.rounding = TOTALS_TOWARD_POSITIVE;
+    settings.precision = 24;
+    of_rows[0] = power(60);
+    of_rows[1] = 1;
+    record = totals_table_double(of_rows, 2, 1, 2, of_columns, 1, of_columns + 1, 2, &settings);
+    CHECK(record.result == power(60) + power(37) && record.flags == TOTALS_INEXACT + TOTALS_ROUNDED_UP && record.side == TOTALS_ABOVE);
+    CHECK(of_columns[0] == record.result && of_columns[1] == power(60) && of_columns[2] == 1 && of_columns[3] == 7);
+
+    /* a million cells, of which i is i mod 7, less 3 */
+    many = (double *)malloc(TOTALS_MOST_ELEMENTS * sizeof *many);
+    lines = (double *)malloc(2048 * sizeof *lines);
+    for (i = 0; i < TOTALS_MOST_ELEMENTS; i++) {
+        many[i] = (double)(i % 7) - 3;
+    }
+    CHECK(totals_table_double(many, TOTALS_MOST_ELEMENTS, 1024, 1024, lines, 1024, lines + 1024, 1024, NULL).refusal == TOTALS_ACCEPTED);
+    for (i = 0; i < 1024; i++) {
+        long row = 0, column = 0;
+        for (k = 0; k < 1024; k++) {
+            row += (long)((1024 * i + k) % 7) - 3;
+            column += (long)((1024 * k + i) % 7) - 3;
+        }
+        CHECK(lines[i] == row && lines[1024 + i] == column);
+    }
+    free(many);
+    free(lines);
+}
+
+static void tables_of_floats(void)
+{
+    const float cells[6] = {16777216, 1, -16777216, 0.5f, 2, 4};
+    /* a signaling NaN beyond the totals, which stays bit for bit */
+    const uint32_t guard = 0x7f800001;
+    uint32_t of_rows[3] = {guard, guard, guard}, of_columns[4] = {guard, guard, guard, guard};
+    float rows[3], columns[4], many[TOTALS_ROOM_ + 1], lines[TOTALS_ROOM_ + 2];
+    totals_float_record record;
+    size_t i, n;
+
+    memcpy(rows, of_rows, sizeof rows);
+    memcpy(columns, of_columns, sizeof columns);
+    CHECK(REFUSED(totals_table_float(cells, 6, 3, 3, rows, 3, columns, 4, NULL), TOTALS_BAD_SHAPE, 0));
+    CHECK(REFUSED(totals_table_float(cells, 6, 6, 1, rows, 3, columns, 4, NULL), TOTALS_NO_ROOM, 0));
+    CHECK(memcmp(rows, of_rows, sizeof rows) == 0 && memcmp(columns, of_columns, sizeof columns) == 0);
+    record = totals_table_float(cells, 6, 2, 3, rows, 3, columns, 4, NULL);
+    CHECK(record.refusal == TOTALS_ACCEPTED && record.result == 7.5f && record.bits == 0x40f00000 && record.flags == 0 && record.side == TOTALS_EQUAL);
+    CHECK(rows[0] == 1 && rows[1] == 6.5f && columns[0] == 16777216 && columns[1] == 3 && columns[2] == -16777212);
+    CHECK(memcmp(rows + 2, of_rows, 4) == 0 && memcmp(columns + 3, of_columns, 4) == 0);
+
+    /* as many cells as find room without memory of their own, and one more; so many totals, and one more */
+    for (i = 0; i <= TOTALS_ROOM_; i++) {
+        many[i] = (float)i;
+    }
+    for (n = TOTALS_ROOM_ - 2; n <= TOTALS_ROOM_ + 1; n++) {
+        const float sum_of_all = (float)(n * (n - 1) / 2);
+        CHECK(totals_table_float(many, n, 1, n, lines, 1, lines + 1, n, NULL).result == sum_of_all);
+        CHECK(lines[0] == sum_of_all && memcmp(lines + 1, many, n * sizeof *many) == 0 && owned == 0);
+        CHECK(totals_table_float(many, n, n, 1, lines, n, lines + n, 1, NULL).result == sum_of_all);
+        CHECK(lines[n] == sum_of_all && memcmp(lines, many, n * sizeof *many) == 0 && owned == 0);
+    }
+    has_memory = 0;
+    lines[0] = 7;
+    CHECK(totals_table_float(many, TOTALS_ROOM_ - 1, 1, TOTALS_ROOM_ - 1, lines, 1, lines + 1, TOTALS_ROOM_, NULL).refusal == TOTALS_ACCEPTED);
+    lines[0] = 7;
+    CHECK(REFUSED(totals_table_float(many, TOTALS_ROOM_, 1, TOTALS_ROOM_, lines, 1, lines + 1, TOTALS_ROOM_, NULL), TOTALS_NO_MEMORY, 0));
+    CHECK(REFUSED(totals_table_float(many, TOTALS_ROOM_ + 1, 1, TOTALS_ROOM_ + 1, lines, 1, lines + 1, TOTALS_ROOM_, NULL), TOTALS_NO_MEMORY, 0));
+    CHECK(REFUSED(totals_table_float(NULL, 0, SIZE_MAX, 0, lines, SIZE_MAX, NULL, 0, NULL), TOTALS_NO_MEMORY, 0) && lines[0] == 7);
+    /* no memory is asked for where the shape is refused */
+    CHECK(REFUSED(totals_table_float(many, 6, SIZE_MAX, 2, lines, SIZE_MAX, lines + 1, SIZE_MAX, NULL), TOTALS_BAD_SHAPE, 0));
+    has_memory = 1;
+    CHECK(REFUSED(totals_table_float(NULL, 0, SIZE_MAX, 0, lines, SIZE_MAX, NULL, 0, NULL), TOTALS_NO_MEMORY, 0) && lines[0] == 7);
+    CHECK(owned == 0);
+}
+
+/* Tables of encodings of every sort, in each format that the header names and some with a bias, under many settings. */
+static void tables_of_words(void)
+{
+    static const totals_format formats[15] = {
+        {TOTALS_BINARY64, TOTALS_OWN_BIAS}, {TOTALS_BINARY32, TOTALS_OWN_BIAS}, {TOTALS_BINARY16, TOTALS_OWN_BIAS},
+        {TOTALS_BFLOAT16, TOTALS_OWN_BIAS}, {TOTALS_TF32, TOTALS_OWN_BIAS}, {TOTALS_E5M2, TOTALS_OWN_BIAS}, {TOTALS_E4M3, TOTALS_OWN_BIAS},
+        {TOTALS_E5M2_FNUZ, TOTALS_OWN_BIAS}, {TOTALS_E4M3_FNUZ, TOTALS_OWN_BIAS}, {TOTALS_E3M2, TOTALS_OWN_BIAS},
+        {TOTALS_E2M3, TOTALS_OWN_BIAS}, {TOTALS_E2M1, TOTALS_OWN_BIAS}, {TOTALS_BINARY16, TOTALS_BIAS(-40)},
+        {TOTALS_BINARY16, TOTALS_BIAS(TOTALS_FARTHEST_BIAS)}, {TOTALS_E4M3_FNUZ, TOTALS_BIAS(11)}
+    };
+    static const size_t shapes[8][2] = {{2, 3}, {6, 5}, {1, LINES}, {LINES, 1}, {3, 13}, {1, 1}, {0, 4}, {4, 0}};
+    uint64_t cells[LINES], state = 3;
+    size_t i, j, k, m;
+
+    for (i = 0; i < 15; i++) {
+        const uint64_t cut = UINT64_MAX >> (64 - formats[i].width);
+        for (j = 0; j < 8; j++) {
+            for (k = 0; k < 32; k++) {
+                const totals_settings c = {k % 8, k / 2 % 2, k / 8 % 4, k % 2, k / 4 % 2, k / 3 % 2, k / 5 % 2, k % 3};
+                for (m = 0; m < shapes[j][0] * shapes[j][1]; m++) {
+                    state = state * 6364136223846793005 + 1442695040888963407;
+                    /* in half of the tables below the greatest exponent, so that no NaN hides the rest */
+                    cells[m] = state >> (64 - formats[i].width) & (k % 2 ? cut : cut & ~(UINT64_C(1) << (formats[i].width - 2)));
+                }
+                CHECK(sums_are_plain(formats[i], &c, cells, shapes[j][0], shapes[j][1]));
+            }
+        }
+    }
+}
+
+/* Rows times columns are whole numbers, not modulo 2^64. */
+static void shapes_refused(void)
+{
+    const totals_format half = {TOTALS_BINARY16, TOTALS_OWN_BIAS};
+    const uint64_t top = UINT64_C(1) << 63;
+    const struct {
+        uint64_t rows, columns;
+        size_t count;
+    } bad[] = {
+        {UINT64_C(1) << 32, UINT64_C(1) << 32, 0}, {top, 2, 0}, {top, top, 0}, {UINT64_MAX, UINT64_MAX, 1}, {top + 3, 2, 6},
+        {0, 0, 1}, {0, 6, 6}, {1, 1, 0}, {2, 2, 6}, {3, 3, 6}, {7, 1, 6}, {5, 1, 6}, {UINT64_MAX, 1, 6},
+    };
+    const uint64_t large[5] = {LINES + 1, UINT64_C(1) << 32, top, top + 1, UINT64_MAX};
+    size_t i;
+
+    for (i = 0; i < sizeof bad / sizeof *bad; i++) {
+        const uint64_t m = bad[i].rows, n = bad[i].columns;
+        CHECK(table_entry(half, &plain, six, bad[i].count, m, n, LINES, LINES, ROOM) == TOTALS_BAD_SHAPE && all_untouched());
+        CHECK(table_entry(half, &plain, six, bad[i].count, n, m, LINES, LINES, ROOM) == TOTALS_BAD_SHAPE && all_untouched());
+        CHECK(REFUSED(totals_table_words(half, six, bad[i].count, m, n, row_totals, LINES, column_totals, LINES, NULL), TOTALS_BAD_SHAPE, 0));
+        CHECK(REFUSED(totals_table_words(half, six, bad[i].count, n, m, row_totals, LINES, column_totals, LINES, NULL), TOTALS_BAD_SHAPE, 0));
+        CHECK(all_untouched());
+    }
+    for (i = 0; i < 5; i++) {
+        CHECK(table_entry(half, &plain, six, 0, large[i], 0, LINES, LINES, ROOM) == TOTALS_NO_ROOM && all_untouched());
+        CHECK(table_entry(half, &plain, six, 0, 0, large[i], LINES, LINES, ROOM) == TOTALS_NO_ROOM && all_untouched());
+        CHECK(REFUSED(totals_table_words(half, NULL, 0, large[i], 0, row_totals, LINES, NULL, 0, NULL), TOTALS_NO_ROOM, 0));
+        CHECK(REFUSED(totals_table_words(half, NULL, 0, 0, large[i], NULL, 0, column_totals, LINES, NULL), TOTALS_NO_ROOM, 0));
+        CHECK(all_untouched());
+    }
+    /* a room that is said to be larger than any is not written beyond the totals */
+    clear_totals();
+    CHECK(totals_table_words(half, six, 6, 2, 3, row_totals, SIZE_MAX, column_totals, SIZE_MAX, NULL).result == 0x4880);
+    CHECK(row_totals[1] == 0x4200 && column_totals[2] == 0x4400 && guarded_from(row_totals, 2) && guarded_from(column_totals, 3));
+}
+
+/* Every choice of conditions: the first in the order 2, 3, 4, 6, 9, 10, 7 is returned, and nothing is written. */
+static void tables_refused(void)
+{
+    static const unsigned order[7] = {2, 3, 4, 6, 9, 10, 7};
+    const size_t most = TOTALS_MOST_ELEMENTS;
+    const totals_format misnamed[4] = {{4, 5, 16, TOTALS_OWN_BIAS}, {TOTALS_BINARY16, 2, 15}, {TOTALS_BINARY16, 0, 40},
+                                       {TOTALS_BINARY16, TOTALS_BIAS(TOTALS_FARTHEST_BIAS + 1)}};
+    const totals_format half = {TOTALS_BINARY16, TOTALS_OWN_BIAS};
+    uint64_t *many = (uint64_t *)calloc(most + 1, sizeof *many), few[6];
+    totals_settings bad = TOTALS_SETTINGS_INIT;
+    double of_doubles[2] = {7, 7};
+    const double one = 1;
+    const float single = 1;
+    unsigned holding, lacking, i;
+
+    bad.rounding = 8;
+    for (holding = 0; holding < 128; holding++) {
+#define HOLDS(place) (holding >> (place) & 1)
+        const totals_format f = HOLDS(1) ? misnamed[holding / 2 % 4] : half;
+        const uint64_t *cells = HOLDS(3) ? many : few;
+        const size_t count = HOLDS(3) ? most + 1 : 6;
+        /* 2^20 + 1 is 17 times 61681 */
+        const uint64_t rows = HOLDS(4) ? 2 : HOLDS(3) ? 17 : 2, columns = HOLDS(4) ? 2 : HOLDS(3) ? 61681 : 3;
+        memcpy(few, six, sizeof few);
+        few[4] = many[4] = HOLDS(6) ? 0x10000 : 0x3c00;
+        few[5] = many[5] = HOLDS(6) ? UINT64_C(1) << 63 : 0x3c00;
+        /* too short by one: the rows', the columns', both. Of the many columns there is never room, and 6 comes before that. */
+        for (lacking = HOLDS(5); lacking <= 3 * HOLDS(5); lacking++) {
+            const size_t row_room = (size_t)rows - (lacking & 1), column_room = columns > LINES ? 1 : (size_t)columns - (lacking >> 1);
+            const uint64_t code =
+                table_entry(f, HOLDS(2) ? &bad : &plain, cells, count, rows, columns, row_room, column_room, HOLDS(0) ? 23 : 24);
+            totals_record record;
+            uint64_t wanted = 0;
+            for (i = 7; i-- > 0;) {
+                if (HOLDS(i)) {
+                    wanted = order[i] == TOTALS_STRAY_BIT ? TOTALS_STRAY_BIT + 256 * 4 : order[i];
+                }
+            }
+            if (code != wanted || (code != 0 && !all_untouched())) {
+                fprintf(stderr, "tables_refused: %u %u\n", holding, lacking);
+                failures++;
+            }
+            if (!HOLDS(0) && code != 0) {
+                record = totals_table_words(f, cells, count, rows, columns, row_totals, row_room, column_totals, column_room,
+                                            HOLDS(2) ? &bad : NULL);
+                CHECK(REFUSED(record, TOTALS_REFUSAL(wanted), TOTALS_PLACE(wanted)) && all_untouched());
+            }
+        }
+    }
+    free(many);
+
+    /* a NULL list that is not empty comes after 3, 4 and 6; a count that no list has is not looked into */
+    for (i = 0; i < 4; i++) {
+        CHECK(REFUSED(totals_table_words(misnamed[i], NULL, 6, 2, 3, NULL, 2, NULL, 3, &bad), TOTALS_NO_SUCH_FORMAT, 0));
+        CHECK(REFUSED(totals_table_words(misnamed[i], NULL, SIZE_MAX, 1, 1, NULL, 2, NULL, 3, &bad), TOTALS_NO_SUCH_FORMAT, 0));
+    }
+    clear_totals();
+    CHECK(REFUSED(totals_table_words(half, NULL, 6, 2, 3, NULL, 2, NULL, 3, &bad), TOTALS_SETTING_OUT_OF_RANGE, 0));
+    CHECK(REFUSED(totals_table_words(half, NULL, most + 1, 2, 3, NULL, 2, NULL, 3, NULL), TOTALS_TOO_MANY_ELEMENTS, 0));
+    CHECK(REFUSED(totals_table_words(half, NULL, 6, 2, 3, row_totals, 2, column_totals, 3, NULL), TOTALS_NO_LIST, 0));
+    CHECK(REFUSED(totals_table_words(half, six, 6, 2, 3, NULL, 2, column_totals, 3, NULL), TOTALS_NO_LIST, 0));
+    CHECK(REFUSED(totals_table_words(half, six, 6, 2, 3, row_totals, 2, NULL, 3, NULL), TOTALS_NO_LIST, 0));
+    CHECK(REFUSED(totals_table_words(half, six, 6, 2, 2, row_totals, 2, NULL, 3, NULL), TOTALS_NO_LIST, 0));
+    CHECK(REFUSED(totals_table_words(half, six, 6, 2, 3, NULL, 0, column_totals, 3, NULL), TOTALS_NO_ROOM, 0));
+    CHECK(all_untouched());
+    CHECK(REFUSED(totals_table_double(&one, SIZE_MAX / 8 + 2, 1, 1, of_doubles, 1, of_doubles + 1, 1, NULL), TOTALS_TOO_MANY_ELEMENTS, 0));
+    CHECK(REFUSED(totals_table_float(&single, SIZE_MAX / 8 + 1, 1, 1, NULL, 0, NULL, 0, NULL), TOTALS_TOO_MANY_ELEMENTS, 0));
+    CHECK(REFUSED(totals_table_double(&one, 1, 1, 1, of_doubles, 1, of_doubles + 1, 1, &bad), TOTALS_SETTING_OUT_OF_RANGE, 0));
+    CHECK(REFUSED(totals_table_double(&one, 1, 1, 1, of_doubles, 1, of_doubles + 1, 0, NULL), TOTALS_NO_ROOM, 0));
+    CHECK(REFUSED(totals_table_float(&single, 1, 1, 1, NULL, 1, NULL, 1, NULL), TOTALS_NO_LIST, 0));
+    CHECK(of_doubles[0] == 7 && of_doubles[1] == 7 && owned == 0);
+}
+
 /* The raw entry writes nothing where it refuses, and the inline functions lend it a buffer of their own: no list is touched. */
 static void lists_are_only_read(void)
 {
@@ -822,9 +1200,9 @@ static void lists_are_only_read(void)
 /* Every refusal has words of its own. */
 static void refusals_in_words(void)
 {
-    const unsigned known[11] = {0, 1, 2, 3, 4, 5, 6, 7, TOTALS_NO_PENCE, TOTALS_NO_LIST, TOTALS_NO_MEMORY};
+    const unsigned known[13] = {0, 1, 2, 3, 4, 5, 6, 7, TOTALS_NO_PENCE, TOTALS_BAD_SHAPE, TOTALS_NO_ROOM, TOTALS_NO_LIST, TOTALS_NO_MEMORY};
     size_t i, k;
-    for (i = 0; i < 11; i++) {
+    for (i = 0; i < 13; i++) {
         CHECK(strcmp(totals_strerror(known[i]), totals_strerror(100)) != 0);
         for (k = 0; k < i; k++) {
             CHECK(strcmp(totals_strerror(known[i]), totals_strerror(known[k])) != 0);
@@ -839,7 +1217,7 @@ static void version(void)
 {
     char text[32];
     sprintf(text, "%d.%d.%d", TOTALS_VERSION_MAJOR, TOTALS_VERSION_MINOR, TOTALS_VERSION_PATCH);
-    CHECK(strcmp(text, TOTALS_VERSION) == 0 && TOTALS_VERSION_NUMBER == 300);
+    CHECK(strcmp(text, TOTALS_VERSION) == 0 && TOTALS_VERSION_NUMBER == 400);
 }
 
 int main(void)
@@ -860,6 +1238,13 @@ int main(void)
     pence_biased();
     pence_in_every_order();
     pence_refused();
+    tables();
+    empty_tables();
+    tables_of_doubles();
+    tables_of_floats();
+    tables_of_words();
+    shapes_refused();
+    tables_refused();
     lists_are_only_read();
     refusals_in_words();
     version();

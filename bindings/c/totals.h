@@ -7,13 +7,14 @@
  *   totals_sum_float   totals_magnitude_sum_float   totals_square_sum_float   totals_dot_float
  *   totals_sum_words   totals_dot_words     encodings of any format
  *   totals_pence_double  totals_pence_float  totals_pence_words   the exact sum in whole pence
+ *   totals_table_double  totals_table_float  totals_table_words   the sums of the rows and columns of a table
  *   totals_strerror                         a refusal in words
  *   totals_sum         totals_dot           the functions of the library, over bytes
  *   totals_sum_biased  totals_dot_biased    the same in a format that names its bias
- *   totals_pence                            and over words
+ *   totals_pence       totals_table         and over words
  *
- * The first thirteen count elements, and answer with a record. They are inline, plain C, and call the
- * last five, which are proved. docs/LINKING.md has each with its special cases and an example.
+ * The first sixteen count elements, and answer with a record. They are inline, plain C, and call the
+ * last six, which are proved. docs/LINKING.md has each with its special cases and an example.
  * What is claimed of the library stands in docs/PROMISES.md, the exact meaning of each number below
  * in docs/SPECIFICATION.md. No function keeps a state, and all may be called from several threads.
  */
@@ -27,9 +28,9 @@
 
 /* The version of this header and of the archive that it was written for. */
 #define TOTALS_VERSION_MAJOR 0
-#define TOTALS_VERSION_MINOR 3
+#define TOTALS_VERSION_MINOR 4
 #define TOTALS_VERSION_PATCH 0
-#define TOTALS_VERSION "0.3.0"
+#define TOTALS_VERSION "0.4.0"
 #define TOTALS_VERSION_NUMBER (TOTALS_VERSION_MAJOR * 10000 + TOTALS_VERSION_MINOR * 100 + TOTALS_VERSION_PATCH)
 
 #ifdef __cplusplus
@@ -157,10 +158,13 @@ enum {
     TOTALS_NO_COMPARISON = 3 /* there is nothing to compare: a NaN, or an infinity */
 };
 
-/* The most elements of a list, or pairs of a dot. */
+/* The most elements of a list, pairs of a dot, or cells of a table. */
 #define TOTALS_MOST_ELEMENTS 1048576
 
-/* Refusals: in a record, or what TOTALS_REFUSAL makes of the number that a call returned. The lowest that holds is given. */
+/*
+ * Refusals: in a record, or what TOTALS_REFUSAL makes of the number that a call returned. The lowest that holds is given, but that of
+ * a table 9 and 10 come before 7.
+ */
 enum {
     TOTALS_ACCEPTED = 0,
     TOTALS_UNEVEN_LENGTH = 1,        /* a length that is not a multiple of 8 */
@@ -169,9 +173,11 @@ enum {
                                         or a named bias outside -268,435,456..268,435,456 */
     TOTALS_SETTING_OUT_OF_RANGE = 4, /* a setting or the summand out of its range */
     TOTALS_DIFFERENT_LENGTHS = 5,    /* dot: the lists differ in length */
-    TOTALS_TOO_MANY_ELEMENTS = 6,    /* over 1,048,576 elements (of a dot: pairs) */
+    TOTALS_TOO_MANY_ELEMENTS = 6,    /* over 1,048,576 elements (of a dot: pairs; of a table: cells) */
     TOTALS_STRAY_BIT = 7,            /* an element is 2^width or more */
     TOTALS_NO_PENCE = 8,             /* pence: a NaN or an infinity in the list, or a figure of magnitude 2^63 or more */
+    TOTALS_BAD_SHAPE = 9,            /* table: rows times columns, as whole numbers, is not the number of cells */
+    TOTALS_NO_ROOM = 10,             /* table: a list of totals is shorter than there are rows, or columns */
     TOTALS_NO_LIST = 254,            /* this and the next from the inline functions alone: NULL for a list that is not empty */
     TOTALS_NO_MEMORY = 255           /* a long list of float could not be copied */
 };
@@ -254,6 +260,42 @@ uint64_t totals_pence(uint64_t kind, uint64_t exponent_bits, uint64_t width, uin
                       int64_t *figure);
 
 /*
+ * The plain sums of the rows, of the columns and of all cells of a table. Each is what totals_sum gives for its own cells, a row from
+ * left to right, a column from top to bottom. Rows without columns, and columns without rows, are empty: their sum is +0, toward
+ * negative too.
+ *
+ *   bias_named, bias             as in totals_pence
+ *   rounding to precision        the eight settings, as in totals_sum
+ *   cells, count                 encodings, one to a word, row after row, and the number of them
+ *   row_totals, row_room         a word for the result of each row, and the number of words, at least rows
+ *   column_totals, column_room   the same for the columns
+ *   answer                       at least 24 bytes
+ *
+ * count, row_room and column_room are numbers of elements, answer_len is one of bytes. No pointer may be NULL, not even where there is
+ * nothing to read or to write. What is written lies apart from each other and from the cells.
+ *
+ * Returns 0, writes the first rows words of row_totals, the first columns words of column_totals, and to bytes 0 to 23 of the answer the
+ * record of all cells, as totals_sum does. What lies beyond stays as it was. Or writes nothing at all and returns the first of these that
+ * holds:
+ *
+ *   TOTALS_SHORT_BUFFER
+ *   TOTALS_NO_SUCH_FORMAT         also where bias_named is above 1, or is 0 and bias is not
+ *   TOTALS_SETTING_OUT_OF_RANGE
+ *   TOTALS_TOO_MANY_ELEMENTS      of the cells; rows are not counted
+ *   TOTALS_BAD_SHAPE              2^32 rows and 2^32 columns are not 0 cells
+ *   TOTALS_NO_ROOM
+ *   TOTALS_STRAY_BIT              plus 256 times the lowest index of such a cell
+ */
+uint64_t totals_table(uint64_t kind, uint64_t exponent_bits, uint64_t width, uint64_t bias_named, int64_t bias,
+                      uint64_t rounding, uint64_t tininess, uint64_t nan_propagation, uint64_t default_nan_negative,
+                      uint64_t flush_to_zero, uint64_t denormals_are_zero, uint64_t saturate, uint64_t precision,
+                      uint64_t rows, uint64_t columns,
+                      const uint64_t *cells, size_t count,
+                      uint64_t *row_totals, size_t row_room,
+                      uint64_t *column_totals, size_t column_room,
+                      uint8_t *answer, size_t answer_len);
+
+/*
  * Records: what the inline functions answer. Where refusal is TOTALS_ACCEPTED, result, flags, passes and side hold the total, or
  * figure its pence. Else refusal says why there is none, and every other field is 0 but for the place of a TOTALS_STRAY_BIT. Later
  * versions add fields at the end.
@@ -309,6 +351,8 @@ static inline const char *totals_strerror(uint64_t refusal)
     case TOTALS_TOO_MANY_ELEMENTS: return "there are more than 1,048,576 elements";
     case TOTALS_STRAY_BIT: return "an element does not fit the format's width";
     case TOTALS_NO_PENCE: return "the list holds a NaN or an infinity, or its sum is 2^63 pence or more, of either sign";
+    case TOTALS_BAD_SHAPE: return "rows times columns is not the number of cells";
+    case TOTALS_NO_ROOM: return "there is no room for the total of each row and column";
     case TOTALS_NO_LIST: return "the list is NULL, and its length is not 0";
     case TOTALS_NO_MEMORY: return "there is no memory for a copy of the list";
     default: return "a refusal that this header does not know";
@@ -519,6 +563,91 @@ static inline totals_pence_record totals_take_pence_(totals_format f, totals_lis
     return record;
 }
 
+/* The words of the totals as the float that they encode, in the caller's list. */
+static inline void totals_give_floats_(const uint64_t *words, size_t count, void *totals)
+{
+    size_t i;
+    for (i = 0; i < count; i++) {
+        const uint32_t half = (uint32_t)words[i];
+        memcpy((uint8_t *)totals + i * 4, &half, 4);
+    }
+}
+
+/*
+ * A list of double may be lent as words to be written, too, as totals_words_ has it. Of float the totals go to words of their own, and
+ * are given to the lists where the table is accepted. A shape that is refused needs none of these words, however large it is.
+ */
+static inline totals_record totals_take_table_(totals_format f, const totals_settings *settings, totals_list_ cells, size_t rows,
+                                               size_t columns, void *row_totals, size_t row_room, void *column_totals,
+                                               size_t column_room)
+{
+    static const totals_settings defaults = TOTALS_SETTINGS_INIT;
+    const totals_settings *c = settings == NULL ? &defaults : settings;
+    const int is_missing = totals_is_missing_(cells) || (row_totals == NULL && row_room != 0)
+                           || (column_totals == NULL && column_room != 0);
+    /* As in totals_take_: a format or a setting is refused first, with an empty table too. */
+    const int is_refused = cells.count > TOTALS_MOST_ELEMENTS || is_missing;
+    const totals_list_ lent = is_refused ? totals_list_of_(NULL, 0, cells.size) : cells;
+    const int is_shaped = columns == 0 ? lent.count == 0 : lent.count % columns == 0 && lent.count / columns == rows;
+    const int is_copied = cells.size != 8;
+    /* no more than there are totals: a room that is said to be endless is not lent */
+    size_t of_rows = row_room < rows ? row_room : rows, of_columns = column_room < columns ? column_room : columns;
+    totals_record record = {0, 0, 0, 0, 0, 0};
+    uint8_t answer[TOTALS_ANSWER_BYTES];
+    uint64_t none = 0, cell_room[TOTALS_ROOM_], total_room[TOTALS_ROOM_], *cells_owned = NULL, *totals_owned = NULL;
+    uint64_t *row_words = &none, *column_words = &none, code;
+    const uint64_t *words;
+
+    if (is_refused) {
+        rows = columns = 0;
+    }
+    if (is_refused || (is_copied && !is_shaped)) {
+        of_rows = of_columns = 0;
+    }
+    words = totals_words_(lent, cell_room, &cells_owned);
+    if (is_copied) {
+        row_words = total_room;
+        if (of_rows > TOTALS_ROOM_ || of_columns > TOTALS_ROOM_ - of_rows) {
+            const int fits = of_rows <= SIZE_MAX / 32 && of_columns <= SIZE_MAX / 32;
+            row_words = totals_owned = fits ? (uint64_t *)TOTALS_MALLOC(8 * (of_rows + of_columns)) : NULL;
+        }
+        column_words = row_words == NULL ? NULL : row_words + of_rows;
+    } else {
+        if (of_rows != 0) {
+            row_words = (uint64_t *)row_totals;
+        }
+        if (of_columns != 0) {
+            column_words = (uint64_t *)column_totals;
+        }
+    }
+    if (words == NULL || row_words == NULL) {
+        code = TOTALS_NO_MEMORY;
+    } else {
+        code = totals_table(f.kind, f.exponent_bits, f.width, f.bias_named, f.bias, c->rounding, c->tininess, c->nan_propagation,
+                            c->default_nan_negative, c->flush_to_zero, c->denormals_are_zero, c->saturate, c->precision, rows, columns,
+                            words, lent.count, row_words, of_rows, column_words, of_columns, answer, TOTALS_ANSWER_BYTES);
+    }
+    if (code == TOTALS_ACCEPTED && is_refused) {
+        code = cells.count > TOTALS_MOST_ELEMENTS ? TOTALS_TOO_MANY_ELEMENTS : TOTALS_NO_LIST;
+    }
+    if (code == TOTALS_ACCEPTED) {
+        if (is_copied) {
+            totals_give_floats_(row_words, of_rows, row_totals);
+            totals_give_floats_(column_words, of_columns, column_totals);
+        }
+        record.result = totals_get_(answer);
+        record.flags = answer[8];
+        record.side = answer[10];
+        record.passes = totals_get_(answer + 16);
+    } else {
+        record.refusal = (unsigned)TOTALS_REFUSAL(code);
+        record.place = TOTALS_PLACE(code);
+    }
+    TOTALS_FREE(cells_owned);
+    TOTALS_FREE(totals_owned);
+    return record;
+}
+
 static inline totals_double_record totals_as_double_(totals_record record)
 {
     totals_double_record of;
@@ -639,6 +768,37 @@ static inline totals_pence_record totals_pence_float(const float *values, size_t
 static inline totals_pence_record totals_pence_words(totals_format format, const uint64_t *values, size_t count)
 {
     return totals_take_pence_(format, totals_list_of_(values, count, sizeof *values));
+}
+
+/*
+ * The sums of the rows and of the columns of a table of `count` cells, row after row, as totals_table has them. The record is that of all
+ * cells. row_room and column_room say how many totals there is room for. A list may be NULL where it is empty, and settings NULL for
+ * TOTALS_SETTINGS_INIT. Lists of double are written where they lie; of float the cells and the totals are copied, eight bytes each.
+ */
+static inline totals_double_record totals_table_double(const double *cells, size_t count, size_t rows, size_t columns, double *row_totals,
+                                                       size_t row_room, double *column_totals, size_t column_room,
+                                                       const totals_settings *settings)
+{
+    const totals_format f = {TOTALS_BINARY64, TOTALS_OWN_BIAS};
+    return totals_as_double_(totals_take_table_(f, settings, totals_list_of_(cells, count, sizeof *cells), rows, columns, row_totals,
+                                                row_room, column_totals, column_room));
+}
+
+static inline totals_float_record totals_table_float(const float *cells, size_t count, size_t rows, size_t columns, float *row_totals,
+                                                     size_t row_room, float *column_totals, size_t column_room,
+                                                     const totals_settings *settings)
+{
+    const totals_format f = {TOTALS_BINARY32, TOTALS_OWN_BIAS};
+    return totals_as_float_(totals_take_table_(f, settings, totals_list_of_(cells, count, sizeof *cells), rows, columns, row_totals,
+                                               row_room, column_totals, column_room));
+}
+
+static inline totals_record totals_table_words(totals_format format, const uint64_t *cells, size_t count, size_t rows, size_t columns,
+                                               uint64_t *row_totals, size_t row_room, uint64_t *column_totals, size_t column_room,
+                                               const totals_settings *settings)
+{
+    return totals_take_table_(format, settings, totals_list_of_(cells, count, sizeof *cells), rows, columns, row_totals, row_room,
+                              column_totals, column_room);
 }
 
 #ifdef __cplusplus

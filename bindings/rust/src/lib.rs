@@ -8,6 +8,7 @@ pub mod raw;
 mod record;
 mod refusal;
 mod settings;
+mod table;
 mod totals;
 mod value;
 
@@ -15,6 +16,7 @@ pub use format::{Format, Kind};
 pub use record::{Flags, Record, Side};
 pub use refusal::{List, Refusal};
 pub use settings::{NanPropagation, Rounding, Settings, Summand, Tininess};
+pub use table::Table;
 pub use totals::Totals;
 pub use value::{Float, Value};
 
@@ -121,4 +123,40 @@ pub fn dot<T: Float>(left: &[T], right: &[T]) -> Result<Record<T>, Refusal> {
 /// ```
 pub fn pence<T: Float>(values: &[T]) -> Result<i64, Refusal> {
     Totals::new().pence(values)
+}
+
+/// The exact sum of each row, of each column and of all cells of a table, each rounded once to the
+/// nearest, ties to even. The cells are one list, row after row.
+///
+/// Each total is what [`sum`] gives for its own cells. The sum of all cells is that of the cells, not
+/// of totals that were rounded.
+///
+/// # Errors
+///
+/// The first of these that holds: [`Refusal::TooManyElements`] where there are more than 1,048,576
+/// cells; [`Refusal::BadShape`] where `rows` times `columns` is not the number of cells;
+/// [`Refusal::NoRoom`] where there are no cells, and more than 1,048,576 rows or columns.
+/// [`Totals::table_into`] lends lists of the caller's, and has no such bound.
+///
+/// Proved: `table-row`, `table-column`, `table-grand`, `table-refused-exactly` in
+/// `crates/totals_spec/proofs/Promises.antt`.
+///
+/// ```
+/// use fermuzhai::{table, Refusal};
+///
+/// // two members, three months
+/// let cells = [
+///     0.5, 1e100, -1e100, //
+///     0.25, 1.0, 2.0,
+/// ];
+/// let totals = table(&cells, 2, 3)?;
+/// assert_eq!(totals.rows, [0.5, 3.25]);
+/// assert_eq!(totals.columns, [0.75, 1e100, -1e100]);
+/// assert_eq!(totals.grand.result, 3.75);
+///
+/// assert_eq!(table(&cells, 3, 3), Err(Refusal::BadShape));
+/// # Ok::<(), fermuzhai::Refusal>(())
+/// ```
+pub fn table<T: Float>(cells: &[T], rows: usize, columns: usize) -> Result<Table<T>, Refusal> {
+    Totals::new().table(cells, rows, columns)
 }

@@ -1,4 +1,5 @@
-//! The five entries of `libtotals.a`, as they are: four over bytes, and [`pence`] over words.
+//! The six entries of `libtotals.a`, as they are: four over bytes, and [`pence`] and [`table`] over
+//! words.
 //!
 //! The numbers and the layout of the answer are those of the repository's `docs/SPECIFICATION.md`.
 //! For most callers [`Totals`](crate::Totals) is the better way in.
@@ -13,6 +14,9 @@ pub type Format = [u64; 3];
 /// Rounding, tininess, NaN propagation, sign of the default NaN, flush to zero, denormals are
 /// zero, saturate, precision.
 pub type Settings = [u64; 8];
+
+/// Rows, columns.
+pub type Shape = [u64; 2];
 
 mod entry {
     extern "C" {
@@ -101,6 +105,31 @@ mod entry {
             values: *const u64,
             count: usize,
             figure: *mut i64,
+        ) -> u64;
+        pub fn totals_table(
+            kind: u64,
+            exponent_bits: u64,
+            width: u64,
+            bias_named: u64,
+            bias: i64,
+            rounding: u64,
+            tininess: u64,
+            nan_propagation: u64,
+            default_nan_negative: u64,
+            flush_to_zero: u64,
+            denormals_are_zero: u64,
+            saturate: u64,
+            precision: u64,
+            rows: u64,
+            columns: u64,
+            cells: *const u64,
+            count: usize,
+            row_totals: *mut u64,
+            row_room: usize,
+            column_totals: *mut u64,
+            column_room: usize,
+            answer: *mut u8,
+            answer_len: usize,
         ) -> u64;
     }
 }
@@ -329,6 +358,79 @@ pub fn pence(f: Format, bias: Option<i64>, values: &[u64]) -> Result<i64, u64> {
         Ok(figure)
     } else {
         Err(code)
+    }
+}
+
+/// The plain sums of the rows, of the columns and of all cells of a table. `cells` are encodings, row
+/// after row; `bias` is as in [`pence`]. `totals` are two lists, for the totals of the rows and for
+/// those of the columns.
+///
+/// Returns 0, writes the totals in front of the two lists and the record of all cells to bytes 0 to
+/// 23 of the answer, as [`sum`] does; what lies beyond stays as it was. Or returns a refusal's code
+/// and writes nothing at all: 2, 3, 4, 6, 9, 10, or 7 plus 256 times a place, the first that holds
+/// in this order. What they mean is said at [`Totals::table_into`](crate::Totals::table_into).
+///
+/// Proved: the contract of `totals_table` in `crates/totals/src/entry.rt`; `table-row`,
+/// `table-column`, `table-grand`, `table-untouched`, `table-refused-exactly`, `table-entry-refused`
+/// in `crates/totals_spec/proofs/Promises.antt`.
+///
+/// ```
+/// use fermuzhai::raw;
+///
+/// // 1 2 3 and 1 1 1, in binary16
+/// let cells = [0x3c00, 0x4000, 0x4200, 0x3c00, 0x3c00, 0x3c00];
+/// let (mut rows, mut columns, mut answer) = ([7; 3], [7; 3], [0; 24]);
+/// let mut table = |shape, cells: &[u64]| {
+///     raw::table([0, 5, 16], None, [0; 8], shape, cells, [&mut rows, &mut columns], &mut answer)
+/// };
+/// assert_eq!(table([2, 3], &cells), 0);
+/// assert_eq!(table([4, 2], &cells), 9); // 8 is not 6
+/// assert_eq!(table([6, 1], &cells), 10); // there is room for three rows
+/// assert_eq!(table([1 << 32, 1 << 32], &[]), 9); // 2^64 is not 0
+/// assert_eq!(rows, [0x4600, 0x4200, 7]); // 6 and 3, and a word that stays
+/// assert_eq!(columns, [0x4000, 0x4200, 0x4400]); // 2, 3 and 4
+/// assert_eq!(answer[..2], [0x80, 0x48]); // 9
+/// ```
+#[must_use = "the totals are written only where 0 is returned"]
+pub fn table(
+    f: Format,
+    bias: Option<i64>,
+    c: Settings,
+    shape: Shape,
+    cells: &[u64],
+    totals: [&mut [u64]; 2],
+    answer: &mut [u8],
+) -> u64 {
+    let [row_totals, column_totals] = totals;
+    // SAFETY: each pointer comes with the length of the slice that it is taken from, and the three
+    // that are borrowed for writing lie apart from each other and from `cells`. Of the numbers nothing
+    // is asked.
+    unsafe {
+        entry::totals_table(
+            f[0],
+            f[1],
+            f[2],
+            bias.is_some().into(),
+            bias.unwrap_or(0),
+            c[0],
+            c[1],
+            c[2],
+            c[3],
+            c[4],
+            c[5],
+            c[6],
+            c[7],
+            shape[0],
+            shape[1],
+            cells.as_ptr(),
+            cells.len(),
+            row_totals.as_mut_ptr(),
+            row_totals.len(),
+            column_totals.as_mut_ptr(),
+            column_totals.len(),
+            answer.as_mut_ptr(),
+            answer.len(),
+        )
     }
 }
 

@@ -23,10 +23,11 @@ impl Display for OfList {
     }
 }
 
-/// Why a total was not taken. Where several reasons hold, the first in this order is given. The
-/// numbers and their conditions stand in `docs/SPECIFICATION.md` of the repository.
+/// Why a total was not taken. Where several reasons hold, the first in this order is given, but that
+/// of a table 9 and 10 come before 7. The numbers and their conditions stand in
+/// `docs/SPECIFICATION.md` of the repository.
 ///
-/// Proved: `sum-refusal`, `dot-refusal`, `sum-pence-refused-exactly` in
+/// Proved: `sum-refusal`, `dot-refusal`, `sum-pence-refused-exactly`, `table-refused-exactly` in
 /// `crates/totals_spec/proofs/Promises.antt`.
 ///
 /// ```
@@ -62,19 +63,24 @@ pub enum Refusal {
     SettingOutOfRange,
     /// 5: the two lists of a dot have different lengths.
     DifferentLengths,
-    /// 6: over 1,048,576 elements (of a dot: pairs).
+    /// 6: over 1,048,576 elements (of a dot: pairs; of a table: cells).
     TooManyElements,
     /// 7: an element is 2 to the power of the format's width, or more.
     StrayBit {
         /// The index of the first such element; a dot looks into its left list first.
         place: usize,
-        /// Which list of a dot it stands in, the left one where both hold one; `None` in a sum, and
-        /// from [`Refusal::from_code`].
+        /// Which list of a dot it stands in, the left one where both hold one; `None` in a sum and
+        /// in a table, and from [`Refusal::from_code`].
         list: Option<List>,
     },
     /// 8: the sum of the list has no figure in pence. A value is a NaN or an infinity, or the
     /// magnitude of the figure is 2^63 or more; −2^63 is refused too, though an `i64` could hold it.
     NoPence,
+    /// 9: rows times columns, as whole numbers, is not the number of cells.
+    BadShape,
+    /// 10: there are fewer places for the totals of a table than it has rows, or fewer than it has
+    /// columns.
+    NoRoom,
     /// A code that this crate does not know: the archive is not the one that it was written for.
     Unknown {
         /// What the entry returned.
@@ -104,6 +110,8 @@ impl Refusal {
             5 => Self::DifferentLengths,
             6 => Self::TooManyElements,
             8 => Self::NoPence,
+            9 => Self::BadShape,
+            10 => Self::NoRoom,
             _ if code % 256 == 7 => Self::StrayBit {
                 place: (code / 256) as usize,
                 list: None,
@@ -148,6 +156,8 @@ impl Display for Refusal {
             Self::NoPence => out.write_str(
                 "the list holds a NaN or an infinity, or its sum is 2^63 pence or more, of either sign",
             ),
+            Self::BadShape => out.write_str("rows times columns is not the number of cells"),
+            Self::NoRoom => out.write_str("there is no room for the total of each row and column"),
             Self::Unknown { code } => {
                 write!(
                     out,
@@ -179,8 +189,10 @@ mod tests {
             );
         }
         assert_eq!(Refusal::from_code(8), Some(Refusal::NoPence));
+        assert_eq!(Refusal::from_code(9), Some(Refusal::BadShape));
+        assert_eq!(Refusal::from_code(10), Some(Refusal::NoRoom));
         // a place belongs to a stray bit alone
-        for code in [9, 255, 256, 257, 8 + 256, u64::MAX] {
+        for code in [11, 255, 256, 257, 8 + 256, 9 + 256, 10 + 256, u64::MAX] {
             assert_eq!(Refusal::from_code(code), Some(Refusal::Unknown { code }));
         }
     }
@@ -219,6 +231,14 @@ mod tests {
             (
                 Refusal::NoPence,
                 "the list holds a NaN or an infinity, or its sum is 2^63 pence or more, of either sign",
+            ),
+            (
+                Refusal::BadShape,
+                "rows times columns is not the number of cells",
+            ),
+            (
+                Refusal::NoRoom,
+                "there is no room for the total of each row and column",
             ),
         ] {
             assert_eq!(refusal.to_string(), words);

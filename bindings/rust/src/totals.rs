@@ -1,9 +1,16 @@
+use alloc::vec;
 use core::marker::PhantomData;
 
-use crate::{raw, Flags, Float, Format, List, Record, Refusal, Settings, Side, Summand, Value};
+use crate::{
+    raw, Flags, Float, Format, List, Record, Refusal, Settings, Side, Summand, Table, Value,
+};
 
-/// The four totals in one format and under one choice of settings; and the pence of a sum, in which
-/// settings play no part.
+/// The most rows, and the most columns, that [`Totals::table`] makes room for. No table with a cell
+/// has more.
+const MOST_LINES: usize = 1 << 20;
+
+/// The four totals in one format and under one choice of settings; the sums of the rows and columns
+/// of a table; and the pence of a sum, in which settings play no part.
 ///
 /// [`Totals::new`] is for the floats of Rust, [`Totals::of`] for encodings of any format.
 ///
@@ -166,6 +173,111 @@ impl<T: Value> Totals<T> {
         let named = self.format.named_bias;
         raw::pence(self.format.into(), named, &T::encodings(values))
             .map_err(|code| Refusal::from_code(code).unwrap_or(Refusal::Unknown { code }))
+    }
+
+    /// The sum of each row, of each column and of all cells of a table. The cells are one list, row
+    /// after row.
+    ///
+    /// Each total is what [`Totals::sum`] gives for its own cells, a row from left to right, a column
+    /// from top to bottom. Rows without columns, and columns without rows, are empty: their sum is +0,
+    /// toward negative too.
+    ///
+    /// # Errors
+    ///
+    /// Those of [`Totals::table_into`]. Room is made for at most 1,048,576 rows and as many columns.
+    /// A table without cells that has more of either is refused with [`Refusal::NoRoom`], and no
+    /// memory is taken for it.
+    ///
+    /// Proved: `table-row`, `table-column`, `table-grand`, `table-refused-exactly` in
+    /// `crates/totals_spec/proofs/Promises.antt`.
+    ///
+    /// ```
+    /// use fermuzhai::{Format, Refusal, Totals};
+    ///
+    /// // 1 2 3 and 1 1 1
+    /// let cells = [0x3c00, 0x4000, 0x4200, 0x3c00, 0x3c00, 0x3c00];
+    /// let halves = Totals::of(Format::BINARY16);
+    /// let table = halves.table(&cells, 2, 3)?;
+    /// assert_eq!(table.rows, [0x4600, 0x4200]); // 6 and 3
+    /// assert_eq!(table.columns, [0x4000, 0x4200, 0x4400]); // 2, 3 and 4
+    /// assert_eq!(table.grand.result, 0x4880); // 9
+    ///
+    /// assert_eq!(halves.table(&[], 3, 0)?.rows, [0, 0, 0]);
+    /// assert_eq!(halves.table(&cells, 2, 2), Err(Refusal::BadShape));
+    /// assert_eq!(halves.table(&[], usize::MAX, 0), Err(Refusal::NoRoom));
+    /// # Ok::<(), fermuzhai::Refusal>(())
+    /// ```
+    pub fn table(&self, cells: &[T], rows: usize, columns: usize) -> Result<Table<T>, Refusal> {
+        // where none is made the library refuses, if nothing else comes before
+        let room = |n| vec![T::from_encoding(0); if n > MOST_LINES { 0 } else { n }];
+        let (mut row_totals, mut column_totals) = (room(rows), room(columns));
+        let grand = self.table_into(cells, rows, columns, &mut row_totals, &mut column_totals)?;
+        Ok(Table {
+            rows: row_totals,
+            columns: column_totals,
+            grand,
+        })
+    }
+
+    /// [`Totals::table`] into two lists of the caller's. Returns the record of all cells.
+    ///
+    /// The first `rows` elements of `row_totals` and the first `columns` of `column_totals` are the
+    /// totals. What lies beyond stays as it was, and a refused call leaves both lists so. Lists of
+    /// `f64` and of encodings are written where they lie; of `f32` the cells and both lists are copied.
+    ///
+    /// # Errors
+    ///
+    /// The first of these that holds:
+    ///
+    /// - [`Refusal::NoSuchFormat`], of encodings of a format that the library does not have, or that
+    ///   names a bias out of its range
+    /// - [`Refusal::PrecisionOutOfRange`]
+    /// - [`Refusal::TooManyElements`], of more than 1,048,576 cells
+    /// - [`Refusal::BadShape`], where `rows` times `columns`, as whole numbers, is not the number of
+    ///   cells
+    /// - [`Refusal::NoRoom`], of a list of totals that is shorter than `rows` or `columns` asks for
+    /// - [`Refusal::StrayBit`], of an encoding that is wider than the format, with the lowest index
+    ///   of one in the cells
+    ///
+    /// Proved: the contract of `totals_table` in `crates/totals/src/entry.rt`; `table-row`,
+    /// `table-column`, `table-grand`, `table-untouched`, `table-refused-exactly`,
+    /// `table-entry-refused` in `crates/totals_spec/proofs/Promises.antt`.
+    ///
+    /// ```
+    /// use fermuzhai::{Refusal, Totals};
+    ///
+    /// let totals = Totals::<f64>::new();
+    /// let (mut rows, mut columns) = ([7.0; 3], [7.0; 2]);
+    /// let cells = [1e100, 1.0, -1e100, 0.5];
+    /// let grand = totals.table_into(&cells, 2, 2, &mut rows, &mut columns)?;
+    /// assert_eq!(rows, [1e100, -1e100, 7.0]);
+    /// assert_eq!(columns, [0.0, 1.5]);
+    /// assert_eq!(grand.result, 1.5); // and not the sum of the rounded totals of the rows, 0
+    ///
+    /// let refused = totals.table_into(&cells, 4, 1, &mut rows, &mut columns);
+    /// assert_eq!(refused, Err(Refusal::NoRoom));
+    /// assert_eq!(rows, [1e100, -1e100, 7.0]);
+    /// # Ok::<(), fermuzhai::Refusal>(())
+    /// ```
+    pub fn table_into(
+        &self,
+        cells: &[T],
+        rows: usize,
+        columns: usize,
+        row_totals: &mut [T],
+        column_totals: &mut [T],
+    ) -> Result<Record<T>, Refusal> {
+        let shape = [rows as u64, columns as u64];
+        let bias = self.format.named_bias;
+        let cells = T::encodings(cells);
+        self.answer(|f, c, answer| {
+            T::lend(row_totals, |of_rows| {
+                T::lend(column_totals, |of_columns| {
+                    raw::table(f, bias, c, shape, &cells, [of_rows, of_columns], answer)
+                })
+            })
+        })
+        .map_err(|refusal| self.with_setting(refusal))
     }
 
     /// One of the three sums, chosen by its summand.

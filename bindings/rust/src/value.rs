@@ -45,6 +45,16 @@ pub(crate) mod sealed {
         fn encodings(values: &[Self]) -> Cow<'_, [u64]> {
             Cow::Owned(values.iter().map(|value| value.encoding()).collect())
         }
+
+        /// Lends the list as encodings, one to a word, and keeps what is then written to them.
+        fn lend<R>(values: &mut [Self], call: impl FnOnce(&mut [u64]) -> R) -> R {
+            let mut words = Self::encodings(values).into_owned();
+            let answer = call(&mut words);
+            for (value, word) in values.iter_mut().zip(words) {
+                *value = Self::from_encoding(word);
+            }
+            answer
+        }
     }
 
     impl Value for u64 {
@@ -67,6 +77,10 @@ pub(crate) mod sealed {
 
         fn encodings(values: &[Self]) -> Cow<'_, [u64]> {
             Cow::Borrowed(values)
+        }
+
+        fn lend<R>(values: &mut [Self], call: impl FnOnce(&mut [u64]) -> R) -> R {
+            call(values)
         }
     }
 
@@ -99,6 +113,15 @@ pub(crate) mod sealed {
             // every bit has a value, and may have any value.
             Cow::Borrowed(unsafe {
                 core::slice::from_raw_parts(values.as_ptr().cast(), values.len())
+            })
+        }
+
+        /// As in [`Value::encodings`]: the list itself.
+        fn lend<R>(values: &mut [Self], call: impl FnOnce(&mut [u64]) -> R) -> R {
+            // SAFETY: as there. The slice is borrowed for writing as long as the words are, and a
+            // float, too, may have any bits.
+            call(unsafe {
+                core::slice::from_raw_parts_mut(values.as_mut_ptr().cast(), values.len())
             })
         }
     }
@@ -174,6 +197,29 @@ pub(crate) mod sealed {
             assert_eq!(*f64::encodings(&list[1..3]), encodings[1..3]);
             assert!(f64::encodings(&[]).is_empty());
             assert_eq!(*f32::encodings(&[1.0, -0.0]), [0x3f80_0000, 0x8000_0000]);
+        }
+
+        /// The second of three is written; the first is a signaling NaN, and every bit of it stays.
+        #[test]
+        fn what_is_written_is_kept() {
+            fn written<T: Value>(mut list: [T; 3], encoding: u64) -> [u64; 3] {
+                let before = list[1].encoding();
+                let given = T::lend(&mut list, |words| {
+                    assert_eq!(words.len(), 3);
+                    core::mem::replace(&mut words[1], encoding)
+                });
+                assert_eq!(given, before);
+                T::lend(&mut list[..0], |words| assert!(words.is_empty()));
+                list.map(T::encoding)
+            }
+            let nan = 0x7ff0_0000_0000_0001;
+            let one = 0x3ff0_0000_0000_0000;
+            let doubles = [nan, one, nan + 1].map(f64::from_bits);
+            assert_eq!(written(doubles, nan + 7), [nan, nan + 7, nan + 1]);
+            assert_eq!(written([5, 6, 7], 8), [5, 8, 7]);
+            let singles = [0x7f80_0001, 0x3f80_0000, 0x8000_0000].map(f32::from_bits);
+            let wanted = [0x7f80_0001, 0xff80_0001, 0x8000_0000];
+            assert_eq!(written(singles, 0xff80_0001), wanted);
         }
 
         #[test]
