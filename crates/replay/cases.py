@@ -67,6 +67,17 @@ column  0      p
        34      a note of what the list is, 44 bytes
        79      twelve values, 16 digits each
       283      the bias, in a row that names one
+
+Last come the rows of tables, without and with a named bias, each part with its number first. Such a row has 487 or 505 bytes, with the format, the
+settings, the length of the buffer and the record that is expected of all cells where a sum's row has them; and else:
+
+column  0      t
+       21      number of cells
+       23      lengths of the lists that are lent for the totals: of the rows, of the columns
+       79      twelve cells, 16 digits each, as are all that follow
+      283      rows, columns
+      317      ten totals that are expected: of the rows, and behind them of the columns
+      487      the bias, in a row that names one
 """
 
 import os
@@ -80,7 +91,8 @@ from model import *
 HERE = os.path.dirname(os.path.abspath(__file__))
 NAME = 44
 VALUES, LONG = 12, 24
-HEAD, BIAS = 79, 283
+HEAD, BIAS, TABLE = 79, 283, 487
+MOST_TOTALS = 10
 
 
 class Draw:
@@ -1161,6 +1173,11 @@ def texts(made):
         stdout += dots(name) + ' %d of %d agree\n' % (len(rows), len(rows))
     # the program asks the entry with biases that are named by no 1 and are not 0, or by another number: each is refused with 3
     stdout += dots('pence of lists, a bias misnamed') + ' 8 of 8 agree\n'
+    for name, rows in table_parts():
+        stdin += '%04x\n' % len(rows) + ''.join(t.row() for t in rows)
+        stdout += dots(name) + ' %d of %d agree\n' % (len(rows), len(rows))
+    # the same of the entry of tables, and 2 where the buffer is too short besides
+    stdout += dots('tables, a bias misnamed') + ' 8 of 8 agree\n'
     return stdin, stdout
 
 
@@ -1169,6 +1186,11 @@ def pence_parts():
     rows_of = lambda lists: [made.row() for made in lists]
     return [('pence of one encoding', pence_rows()), ('pence of one encoding, a bias named', biased_pence_rows()),
             ('pence of lists', rows_of(pence_lists())), ('pence of lists, a bias named', rows_of(biased_pence_lists()))]
+
+
+def table_parts():
+    """The last parts, each with its name and its tables."""
+    return [('tables', tables()), ('tables, a bias named', biased_tables())]
 
 
 def asked(binary, cases):
@@ -1186,8 +1208,9 @@ def differs(case, answer):
 def write(binary):
     made = sections()
     accepted = [(name, i + 1, case) for name, cases in made for i, case in enumerate(cases) if case.refusal == 0]
-    answers = asked(binary, [case for _, _, case in accepted])
-    for (name, i, case), answer in zip(accepted, answers):
+    totals = [(name, i + 1, case) for name, rows in table_parts() for i, t in enumerate(rows) if t.refusal == 0 for case in t.parts()]
+    answers = asked(binary, [case for _, _, case in accepted + totals])
+    for (name, i, case), answer in zip(accepted + totals, answers):
         if differs(case, answer):
             sys.exit('%s, row %d: %s\n  oracle %s, model %x %d %d' % (name, i, case.line(), answer, case.result, case.flags, case.passes))
         result, flags, _ = answer.split()
@@ -1195,7 +1218,8 @@ def write(binary):
     for file, text in zip(('stdin', 'stdout'), texts(made)):
         with open(os.path.join(HERE, file), 'w') as out:
             out.write(text)
-    print(len(accepted), 'accepted rows with the answers of the oracle,', sum(len(cases) for _, cases in made) - len(accepted), 'refused ones')
+    print(len(accepted), 'accepted rows with the answers of the oracle,', sum(len(cases) for _, cases in made) - len(accepted),
+          'refused ones;', len(totals), 'totals of tables')
 
 
 def check():
@@ -1215,7 +1239,8 @@ def check():
                 print('%s, row %d (line %d):\n  listed %s\n  model  %s' % (name, i + 1, at + 2 + i, row[32:78], case.answer()))
         at += 1 + n
     for name, other in (('pence of one encoding', pence_again), ('pence of one encoding, a bias named', pence_again),
-                        ('pence of lists', lambda row: list_of(row, False).row()), ('pence of lists, a bias named', lambda row: list_of(row, True).row())):
+                        ('pence of lists', lambda row: list_of(row, False).row()), ('pence of lists, a bias named', lambda row: list_of(row, True).row()),
+                        ('tables', lambda row: table_of(row, False).row()), ('tables, a bias named', lambda row: table_of(row, True).row())):
         n = int(lines[at], 16)
         for i, row in enumerate(lines[at + 1:at + 1 + n]):
             rows += 1
@@ -1262,6 +1287,7 @@ def cover():
     cover_biased([case for case in rows if case.named is not None])
     cover_pence(pence_lists())
     cover_biased_pence(biased_pence_lists())
+    cover_tables(tables() + biased_tables())
 
 
 def cover_plain(every):
@@ -1831,6 +1857,292 @@ def biased_pence_lists():
     lists += pence_refusals(-7)
     lists += [pence_drawn(draw, Format(i % 4, e, w, bias)) for i, (e, w, bias) in enumerate(near * 8)]
     return lists
+
+
+# ---- tables
+
+class Table:
+    """A table, the lengths of the lists and of the buffer that are lent for its totals, and what it answers."""
+
+    def __init__(self, f, c, rows, columns, cells, lent=None, room=32):
+        self.f = (*f, None)[:4] if isinstance(f, tuple) else (f.kind, f.e, f.w, f.named)
+        self.kind, self.e, self.w, self.named = self.f
+        self.c, self.rows, self.columns, self.cells, self.room = {**PLAIN, **c}, rows, columns, cells, room
+        self.lent = lent or (rows, columns)
+        self.holds = table_conditions(*self.f, self.c, rows, columns, cells, self.lent, room)
+        first, own = (next((n for n in order if n in self.holds), 0) for order in (TABLE_ORDER, TABLE_ORDER[1:]))
+        self.refusal, self.place = own, stray(self.w, cells)[0] if own == 7 else 0
+        self.returned = first + 256 * self.place * (first == 7)
+        # each total is that of a plain sum, and so is the record
+        total = lambda values: Case(self.f, self.c, values)
+        self.of_rows, self.of_columns = ([total(part) for part in parts] for parts in (((), ()) if own else table_lists(rows, columns, cells)))
+        self.grand = total([] if own else cells)
+        self.totals = [case.result for case in self.of_rows + self.of_columns]
+
+    def parts(self):
+        """The plain sums of an accepted table."""
+        return [self.grand] + self.of_rows + self.of_columns
+
+    def row(self):
+        g = Record(0, 0) if self.refusal else self.grand
+        assert len(self.cells) <= VALUES and len(self.totals) <= MOST_TOTALS and max(self.lent) <= 15
+        text = 't %x %02x %02x %s %02x %x %x%x -- %02x %016x %02x %06x %s %x %x %03x %x' % (
+            self.kind, self.e, self.w, ''.join('%x' % self.c[name] for name in SETTINGS[:7]), self.c['precision'], len(self.cells), *self.lent, self.room,
+            g.result, g.flags, g.passes, signed(g.edge, 8), self.refusal, self.place, self.returned, g.leans)
+        assert len(text) == HEAD - 1
+        filled = lambda words, most: words + [0] * (most - len(words))
+        text = ' '.join([text] + ['%016x' % v for v in filled(self.cells, VALUES) + [self.rows, self.columns] + filled(self.totals, MOST_TOTALS)])
+        return text + ('\n' if self.named is None else ' %s\n' % signed(self.named, 16))
+
+
+def table_of(row, biased):
+    """The table of a row, with the model's answer."""
+    number = lambda at, digits: int(row[at:at + digits], 16)
+    c = {name: number(10 + i, 1) for i, name in enumerate(SETTINGS[:7])}
+    c['precision'] = number(18, 2)
+    cells = [number(HEAD + 17 * i, 16) for i in range(number(21, 1))]
+    f = number(2, 1), number(4, 2), number(7, 2), number(TABLE, 17) if biased else None
+    return Table(f, c, number(BIAS, 16), number(BIAS + 17, 16), cells, (number(23, 1), number(24, 1)), number(29, 2))
+
+
+MINUS_ONE, MANY = 0xbc00, 2 ** 64 - 1
+
+
+def table_examples():
+    """Worked out by hand, in binary16: the totals of the rows, those of the columns, the grand total and its flags."""
+    big, minus, inf, two, three = 0x7bff, 0x8000, 0x7c00, 0x4000, 0x4200
+    rows = [
+        ({}, 2, 3, [ONE, two, three, ONE, ONE, ONE], [0x4600, three], [two, three, 0x4400], 0x4880, 0),
+        ({}, 3, 2, [ONE, two, three, ONE, ONE, ONE], [three, 0x4400, two], [0x4500, 0x4400], 0x4880, 0),
+        # empty rows and columns are +0, toward negative too
+        ({'rounding': DOWN}, 3, 0, [], [0, 0, 0], [], 0, 0),
+        ({'rounding': DOWN}, 0, 3, [], [], [0, 0, 0], 0, 0),
+        ({'rounding': DOWN}, 0, 0, [], [], [], 0, 0),
+        # 1 and -1 cancel: -0 toward negative
+        ({'rounding': DOWN}, 2, 2, [ONE, MINUS_ONE, MINUS_ONE, ONE], [minus, minus], [minus, minus], minus, 0),
+        ({'rounding': UP}, 2, 2, [ONE, MINUS_ONE, MINUS_ONE, ONE], [0, 0], [0, 0], 0, 0),
+        ({}, 2, 1, [minus, minus], [minus, minus], [minus], minus, 0),
+        # rows beyond the format, and columns and a grand total that are not
+        ({}, 2, 2, [big, big, big + minus, big + minus], [inf, inf + minus], [0, 0], 0, 0),
+        ({'saturate': 1}, 2, 2, [big, big, big + minus, big + minus], [big, big + minus], [0, 0], 0, 0),
+        # the exact sum of all cells is no sum of the rounded rows: 1 and 2^-11 is a tie, twice that is not
+        ({}, 2, 2, [ONE, 0x1000, 0x1000, 0], [ONE, 0x1000], [0x3c00, 0x1000], 0x3c01, 0),
+        ({'rounding': TO_ZERO}, 3, 2, [ONE, 0x1000, 0x1000, MINUS_ONE, 0, 0], [ONE, 0xbbff, 0], [0x3c00, 0xbbff], 0x1400, 0),
+        # NaNs: of a row the first from the left, of a column the first from the top, of all the first
+        ({'nan': 1}, 2, 2, [ONE, 0x7e01, 0xfe02, 0x7e03], [0x7e01, 0xfe02], [0xfe02, 0x7e01], 0x7e01, 0),
+        ({'nan': 1}, 2, 2, [0xfe02, 0x7e01, 0x7e03, ONE], [0xfe02, 0x7e03], [0xfe02, 0x7e01], 0xfe02, 0),
+        ({'nan': 2}, 2, 2, [ONE, 0x7e01, 0xfe02, 0x7e03], [0x7e01, 0x7e03], [0xfe02, 0x7e03], 0x7e03, 0),
+        # infinities of both signs in a column and in all, and of one in each row
+        ({}, 2, 2, [inf, ONE, inf + minus, ONE], [inf, inf + minus], [0x7e00, two], 0x7e00, INVALID),
+    ]
+    tables = []
+    for c, n, m, cells, of_rows, of_columns, result, flags in rows:
+        t = Table(HALF, c, n, m, cells, (n + 1, m + 2))
+        assert t.totals == of_rows + of_columns, (cells, ['%x' % total for total in t.totals])
+        assert (t.grand.result, t.grand.flags) == (result, flags), (cells, t.grand.result, t.grand.flags)
+        tables.append(t)
+    return tables
+
+
+def shape_of(turn):
+    """The rows and columns of tables that a row of the list can hold, one after the other."""
+    return ((2, 3), (3, 2), (3, 3), (2, 4), (4, 2), (3, 4), (4, 3), (2, 5), (5, 2), (2, 6), (6, 2), (2, 2))[turn % 12]
+
+
+def longer(draw, rows, columns):
+    """Lists of totals that fit, most of them with guard words behind."""
+    return tuple(min(15, n + draw.choice([0, 1, 2, 5])) for n in (rows, columns))
+
+
+def any_table(draw, f, c, rows, columns):
+    """Values close to one exponent or ties, some of them with their negatives, infinities and NaNs in a fourth of the tables."""
+    n = rows * columns
+    while True:
+        near = draw.choice([0, 1, f.ones - 1, f.bias, draw.bits(f.e)])
+        if draw.bits(1):
+            cells = [any_value(draw, f, near) for _ in range(n)]
+            if draw.chance(75):
+                cells = [v if f.decode(v)[0] in ('zero', 'number') else power(f, near - f.bias) for v in cells]
+        else:
+            # a tie in each row, or in each column
+            by_row = draw.bits(1)
+            count, length = (rows, columns) if by_row else (columns, rows)
+            lines = [(near_tie(draw, f)[1] + [0] * length)[:length] for _ in range(count)]
+            cells = [lines[i][j] if by_row else lines[j][i] for i in range(rows) for j in range(columns)]
+        for _ in range(draw.below(3) if n > 1 else 0):
+            cells[draw.below(n)] = draw.choice(cells) ^ f.sign
+        terms, top = sum_terms(VALUE, operands(f, {**PLAIN, **c}, cells)[0])
+        if top - min((x for _, _, x in terms), default=top) <= 5000:
+            return Table(f, c, rows, columns, cells, longer(draw, rows, columns), draw.choice([24, 25, 31, 32, 32]))
+
+
+def table_shapes(draw, format_of):
+    """Every shape that a row of the list can hold: one row, one column, no rows, no columns, nothing."""
+    shapes = [(n, m) for n in range(MOST_TOTALS + 1) for m in range(MOST_TOTALS + 1 - n) if n * m <= VALUES]
+    return [any_table(draw, f, settings(draw, f), n, m) for f, (n, m) in ((format_of(i), shape) for i, shape in enumerate(shapes))]
+
+
+def table_settings(draw, format_of):
+    """Each rounding in each kind; and each tininess, flush, denormals-are-zero and saturation, at the ends of a format."""
+    tables = []
+    for kind, mode in product(range(4), range(8)):
+        i = len(tables)
+        f = format_of(kind, i)
+        tables.append(any_table(draw, f, {**settings(draw, f), 'rounding': mode}, *shape_of(i)))
+    for tininess, flush, daz, saturate, turn in product(range(2), repeat=5):
+        i = len(tables)
+        f = format_of(i % 4 + i // 4 % 2, i)
+        c = {'rounding': (3 * i + turn) % 8, 'tininess': tininess, 'flush': flush, 'daz': daz, 'saturate': saturate, 'precision': (0, 0, 2)[i % 3]}
+        n, m = ((2, 3), (3, 2), (2, 2))[i % 3]
+        big, one, pool = f.largest(0, f.p), f.sign + 1, [1, 2, f.quiet, f.sign + (1 << f.fraction) - 1, power(f, f.emin), 0]
+        cells = [draw.choice(pool) for _ in range(n * m)]
+        # numbers near the largest in the first row, or the first column
+        for at in range(m) if i // 2 % 2 else range(0, n * m, m):
+            cells[at] = draw.choice([big, big ^ f.sign, big, one])
+        tables.append(Table(f, c, n, m, cells, longer(draw, n, m)))
+    return tables
+
+
+def table_nans(draw, named):
+    """NaNs of either sign, quiet and signaling, with payloads, some of them beside infinities, by each rule; kinds with one NaN."""
+    tables = []
+    for rule, pair, turn in product(range(4), ((5, 16), (11, 64)), range(2)):
+        f = Format(IEEE, *pair, named)
+        inf, one = f.infinity(0), power(f, f.emin + 3)
+        nan = lambda: f.sign * draw.bits(1) + inf + f.quiet * draw.bits(1) + draw.between(1, 7)
+        n, m = shape_of(len(tables))
+        cells = [draw.choice([one, nan(), nan(), inf, f.sign + inf, 1]) if turn else draw.choice([one, 0, nan()]) for _ in range(n * m)]
+        tables.append(Table(f, {'nan': rule, 'negative': turn, 'rounding': draw.below(8)}, n, m, cells, longer(draw, n, m)))
+    for f in (Format(NOINF, 4, 8, named), Format(FNUZ, 5, 16, named)):
+        for rule in range(4):
+            cells = [draw.choice([1, f.nan(draw.bits(1), 0), f.largest(0, f.p), f.sign + 1]) for _ in range(6)]
+            cells[draw.below(6)] = f.nan(draw.bits(1), 0)
+            tables.append(Table(f, {'nan': rule, 'negative': rule % 2}, 2, 3, cells, (3, 3)))
+    return tables
+
+
+def table_zeros(draw):
+    """Infinities of one sign and of both; zeros of either sign, with terms that cancel."""
+    tables = []
+    for i in range(8):
+        f = Format(IEEE if i < 4 else i % 4, *PAIRS[i % 7])
+        minus = 0 if f.kind == FNUZ else f.sign
+        one = power(f, 0)
+        pool = [f.infinity(0), f.infinity(1), one, 1] if i < 4 else [0, minus, 0, minus, one, one + f.sign]
+        n, m = shape_of(i)
+        cells = [draw.choice(pool) for _ in range(n * m)]
+        tables.append(Table(f, {'rounding': DOWN if i % 2 else EVEN, 'negative': i // 2 % 2}, n, m, cells, longer(draw, n, m)))
+    return tables
+
+
+def spoiled_table(numbers, turn, bias=None):
+    """A table of which exactly the conditions of these numbers hold: 3 by the bias, where one is named."""
+    f = ((4, 5, 16), (0, 1, 16), (1, 29, 40), (2, 11, 12))[turn % 4] if 3 in numbers and bias is None else (turn % 4, 5, 16)
+    c = ({'rounding': 8}, {'nan': 4}, {'saturate': 2}, {'tininess': 15}, {'precision': 255})[turn % 5] if 4 in numbers else {}
+    n, m = shape_of(turn)
+    cells = [1 + i % 3 for i in range(n * m)]
+    if 9 in numbers:
+        n, m, cells = ((n + 1, m, cells), (n, m - 1, cells), (n, m, cells[1:]), (n, m, cells + [1]) if n * m < VALUES else (m, m + 1, cells))[turn % 4]
+    if 7 in numbers:
+        for at in (turn % len(cells), len(cells) - 1):
+            cells[at] += 1 << f[2] + turn % 7
+    lent = ((n - 1, m + 1), (n + 2, m - 1), (0, 0), (m - 1, n - 1))[turn % 4] if 10 in numbers else (n + turn % 3, m + turn % 2)
+    t = Table((*f, bias), c, n, m, cells, lent, (0, 23, 8, 22)[turn % 4] if 2 in numbers else 32)
+    assert t.holds == set(numbers), (numbers, t.holds)
+    return t
+
+
+def table_refusals(draw):
+    """Each refusal by itself, at its limits; each two at once; more; and sizes whose product is the number of cells modulo 2^64 alone."""
+    numbers = (2, 3, 4, 9, 10, 7)
+    tables = [spoiled_table({n}, turn) for n in numbers for turn in range(4)]
+    tables += [spoiled_table(set(two), i % 4 + 4 * (i % 2)) for i, two in enumerate(combinations(numbers, 2))]
+    tables += [spoiled_table(set(more), i) for i, more in enumerate((numbers, numbers[1:], numbers[2:], numbers[3:], (2, 3, 9), (4, 10, 7)))]
+    four, third = [ONE, ONE, ONE, ONE], (2 ** 64 + 5) // 3
+    for rows, columns, cells, lent, number in (
+            # 9: the sides exchanged with those of another shape, an empty side, one cell more
+            (2, 3, four, (2, 3), 9), (4, 2, four, (4, 2), 9), (0, 4, four, (0, 4), 9), (4, 0, four, (4, 0), 9), (0, 0, [ONE], (0, 0), 9), (1, 1, [], (1, 1), 9),
+            (2, 2, four + [ONE], (2, 2), 9),
+            # 10: a list that is one word too short; lists that would do if they were exchanged
+            (4, 1, four, (3, 1), 10), (4, 1, four, (4, 0), 10), (1, 4, four, (1, 3), 10), (1, 4, four, (4, 1), 10), (2, 2, four, (15, 1), 10),
+            (2, 2, four, (1, 15), 10), (9, 0, [], (8, 0), 10), (0, 9, [], (15, 8), 10), (15, 0, [], (14, 0), 10),
+            # large sizes
+            (2 ** 63, 0, [], (15, 0), 10), (0, 2 ** 63, [], (0, 15), 10), (MANY, 0, [], (15, 15), 10), (0, MANY, [], (15, 15), 10),
+            (2 ** 63, 1, [ONE], (15, 15), 9), (1, 2 ** 63, [], (15, 15), 9), (MANY, 1, [ONE], (15, 15), 9), (1, MANY, [], (0, 0), 9),
+            (2 ** 63, 2, [], (15, 15), 9), (2, 2 ** 63, [], (15, 15), 9), (2 ** 63 + 1, 2, [ONE, ONE], (15, 15), 9), (2 ** 63, 2 ** 63, [], (15, 15), 9),
+            (MANY, MANY, [ONE], (15, 15), 9), (MANY, MANY, [], (15, 15), 9), (2 ** 32, 2 ** 32, [], (15, 15), 9), (2 ** 32, 2 ** 32, [STRAY], (0, 0), 9),
+            (third, 3, [ONE] * 5, (15, 15), 9), (3, third, [ONE] * 5, (15, 15), 9), (2 ** 60, 16, [], (15, 15), 9)):
+        t = Table(HALF, {'rounding': draw.below(8)}, rows, columns, cells, lent)
+        assert t.refusal == number, (rows, columns, t.refusal)
+        tables.append(t)
+    # 7: the place of the first cell, and none in a table of words of 64 bits
+    for at in (0, 5, 11):
+        cells = [ONE] * 12
+        cells[at] += STRAY << at
+        tables.append(Table(HALF, {}, 3, 4, cells, (5, 5)))
+    tables.append(Table((0, 2, 64), {}, 1, 2, [0, 1 << 63], (1, 2)))
+    return tables
+
+
+def tables():
+    draw = Draw(480)
+    made = table_examples()
+    made += table_shapes(draw, lambda i: Format(i % 4, *PAIRS[i % 7]))
+    made += table_settings(draw, lambda kind, i: Format(kind % 4, *(PAIRS + ((15, 64), (28, 64), (2, 4), (12, 14)))[i % 11]))
+    made += table_nans(draw, None)
+    made += table_zeros(draw)
+    made += table_refusals(draw)
+    return made
+
+
+def biased_tables():
+    """The same with a named bias."""
+    draw = Draw(481)
+    some = PRODUCTS + VAST + VANISHING
+    made = [Table((2, 4, 8, 11), {}, 2, 2, [0x7f, 0x7f, 0xff, 1], (2, 2)), Table((3, 2, 4, -3), {}, 1, 2, [1, 3], (2, 3))]
+    assert (made[0].totals, made[1].totals) == ([0x80, 0xff, 0, 0x7f], [4, 1, 3])
+    for i in range(24):
+        f = Format(i % 4, *some[5 * i % 31])
+        made.append(any_table(draw, f, {**settings(draw, f), 'rounding': i % 8}, *shape_of(i)))
+    for i in range(4):
+        f = Format(i, *((5, 16), (11, 64))[i % 2])
+        plain = any_table(draw, f, settings(draw, f), *shape_of(i))
+        made.append(Table((*plain.f[:3], f.bias), plain.c, plain.rows, plain.columns, plain.cells, plain.lent))
+        assert made[-1].totals == plain.totals
+    for i, bias in enumerate((2 ** 28, -2 ** 28)):
+        f = Format(i, 28, 64, bias)
+        made.append(any_table(draw, f, {}, 2, 3))
+    made += table_nans(draw, -40)[::5]
+    far = 2 ** 28 + 1, -2 ** 28 - 1, 2 ** 63 - 1, 1 - 2 ** 63, 2 ** 32 + 15
+    made += [spoiled_table({3}, i, bias) for i, bias in enumerate(far)]
+    made += [spoiled_table({n, 3}, i, far[i]) for i, n in enumerate((2, 4, 9, 10, 7))]
+    made += [spoiled_table({n}, i, (-40, 0, 40, 2000, 2 ** 28)[i]) for i, n in enumerate((2, 4, 9, 10, 7))]
+    return made
+
+
+def cover_tables(every):
+    accepted = [t for t in every if t.refusal == 0]
+    print('%5d  tables, %d of them accepted' % (len(every), len(accepted)))
+    plain, biased = ([t for t in accepted if (t.named is None) == this] for this in (True, False))
+    fewest('rows and columns, 0, 1 and more', plain, lambda t: (min(t.rows, 2), min(t.columns, 2)), range(3), range(3))
+    fewest('kind and rounding', plain, lambda t: (t.kind, t.c['rounding']), range(4), range(8))
+    switches = lambda t: tuple(t.c[name] for name in ('tininess', 'flush', 'daz', 'saturate'))
+    fewest('tininess, flush, denormals are zero, saturation', plain, switches, *[range(2)] * 4)
+    fewest('tables with a NaN, by rule and kind', [t for t in plain if t.grand.has_nan()], lambda t: (t.c['nan'], t.kind), range(4), (IEEE, NOINF, FNUZ))
+    nans = lambda t: {v for v in t.totals if t.grand.format().decode(v)[0] == 'nan'}
+    fewest('NaNs of different payload or sign in one table, by rule', [t for t in plain if len(nans(t)) > 1], lambda t: (t.c['nan'],), range(3))
+    fewest('passes of all cells, 0 to 3', plain, lambda t: (t.grand.passes,), range(4))
+    fewest('side of all cells', plain, lambda t: (t.grand.leans,), range(4))
+    # a row list that is longer than the rows has guard words, and so has a column list
+    fewest('guard words behind the totals of rows, of columns', plain, lambda t: (t.lent[0] > t.rows, t.lent[1] > t.columns), (False, True), (False, True))
+    fewest('with a bias: kind', biased, lambda t: (t.kind,), range(4))
+    fewest('one refusal alone', [t for t in every if t.named is None and len(t.holds) == 1], lambda t: tuple(t.holds), (2, 3, 4, 9, 10, 7))
+    fewest('two refusals at once, by pair', [t for t in every if t.named is None and len(t.holds) == 2], lambda t: (tuple(sorted(t.holds)),),
+           [tuple(sorted(two)) for two in combinations((2, 3, 4, 9, 10, 7), 2)])
+    fewest('3 for the bias, alone and beside each', [t for t in every if t.named is not None and abs(t.named) > LARGEST_BIAS],
+           lambda t: (tuple(sorted(t.holds - {3})),), [(), (2,), (4,), (9,), (10,), (7,)])
+    fewest('9 where the product is the number of cells modulo 2^64', [t for t in every if 9 in t.holds],
+           lambda t: (t.rows * t.columns % 2 ** 64 == len(t.cells),), (True,))
 
 
 def main():

@@ -1,4 +1,5 @@
-"""What document 01 says of a total, and document 02 of which way its result leans, of a named bias and of a list's pence, in whole numbers of any length.
+"""What document 01 says of a total, and document 02 of which way its result leans, of a named bias, of a list's pence and of a table, in whole numbers
+of any length.
 
 Written from the text of document 01, and from the Rust's where document 01
 names a function of it (the choice among NaNs, overflow, the largest number).
@@ -405,3 +406,25 @@ def sum_pence(kind, e, w, values, bias=None):
     if figure > LARGEST_PENCE:
         return 0, 8, 0
     return -figure if total < 0 else figure, 0, 0
+
+
+# ---- tables
+
+# the numbers of a table's refusals, in the order in which they are given
+TABLE_ORDER = (2, 3, 4, 6, 9, 10, 7)
+
+
+def table_conditions(kind, e, w, bias, c, rows, columns, cells, lent, room):
+    """The numbers whose conditions hold; lent are the lengths of the lists for the totals of the rows and of the columns."""
+    holds = conditions(kind, e, w, bias, c, VALUE, cells, None, (0, 0), room)
+    if rows * columns != len(cells):
+        holds.add(9)
+    if lent[0] < rows or lent[1] < columns:
+        holds.add(10)
+    return holds
+
+
+def table_lists(rows, columns, cells):
+    """The cells of each row, from left to right, and those of each column, from top to bottom."""
+    at = lambda i, j: cells[i * columns + j]
+    return [[at(i, j) for j in range(columns)] for i in range(rows)], [[at(i, j) for i in range(rows)] for j in range(columns)]

@@ -39,7 +39,10 @@ signedAt s at n =
 
 -- a bias, in the longer rows that name one
 abbrev pub namedIn : List ℕ → Named
-namedIn s = cond (eqb (length s) 301) (Bias (signedAt s 283 16)) (cond (eqb (length s) 67) (Bias (signedAt s 49 16)) Nothing)
+namedIn s =
+    cond (eqb (length s) 301) (Bias (signedAt s 283 16))
+    (cond (eqb (length s) 67) (Bias (signedAt s 49 16))
+    (cond (eqb (length s) 505) (Bias (signedAt s 487 16)) Nothing))
 
 abbrev pub formatIn : List ℕ → Format
 formatIn s = record { kind = wordAt s 2 1; «exponent_bits» = wordAt s 4 2; width = wordAt s 7 2; named = namedIn s }

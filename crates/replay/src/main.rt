@@ -1,10 +1,11 @@
 // Replays the cases of standard input: works each one out, compares the answer with the one that its row holds, and prints how many agree. Totals are
-// worked out over words, over bytes and through a byte entry, the pence of a list by the function and through its entry. cases.py makes the list, and
-// says how it is laid out; README.md says where the answers come from.
+// worked out over words, over bytes and through a byte entry, the pence of a list and the totals of a table by the function and through its entry.
+// cases.py makes the list, and says how it is laid out; README.md says where the answers come from.
 mod counts;
 mod figures;
 mod lists;
 mod row;
+mod tables;
 mod ways;
 
 use counts::counts;
@@ -15,6 +16,7 @@ use lists::misnamed;
 use row::BIASED;
 use row::LONG;
 use row::ROW;
+use tables::tables;
 use ways::by_bytes;
 use ways::by_entry;
 use ways::by_words;
@@ -140,7 +142,7 @@ fn sections(n: u64) -> Agreed
     all
 }
 
-// The number of the rows of pence that follow.
+// The number of the rows of pence, or of tables, that follow.
 fn next_count() -> u64
     ensures { λ r. ⌜ r < 65536 ⌝ }
 {
@@ -169,6 +171,12 @@ fn report_lists(name: &[u8], biased: bool) {
     report_of(name, lists(n, biased), n);
 }
 
+// The same of the rows of tables.
+fn report_tables(name: &[u8], biased: bool) {
+    let n = next_count();
+    report_of(name, tables(n, biased), n);
+}
+
 fn main() {
     let mut head = [0u8; 3];
     io::read_full(0, &mut head);
@@ -187,6 +195,13 @@ fn main() {
     report_of(
         b"pence of lists, a bias misnamed ............ ",
         misnamed(),
+        8,
+    );
+    report_tables(b"tables ..................................... ", false);
+    report_tables(b"tables, a bias named ....................... ", true);
+    report_of(
+        b"tables, a bias misnamed .................... ",
+        tables::misnamed(),
         8,
     );
 }

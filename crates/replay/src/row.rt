@@ -24,6 +24,9 @@ pub const PENCE: usize = 49;
 
 pub const BIASED_PENCE: usize = 67;
 
+// The length of a row of a table that names a bias. Without one it is as long as a long row.
+pub const BIASED_TABLE: usize = 505;
+
 fn byte_at(s: &[u8], i: usize) -> u8
     ensures { λ r. ⌜ r ≡ getD (now (s .entry)) i 48 ⌝ }
 {
@@ -45,6 +48,9 @@ fn named_at(s: &[u8]) -> Named
     }
     if s.len() == BIASED_PENCE {
         return Named::Bias(signed_at(s, 49, 16));
+    }
+    if s.len() == BIASED_TABLE {
+        return Named::Bias(signed_at(s, 487, 16));
     }
     Named::Nothing
 }

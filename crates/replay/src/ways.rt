@@ -34,7 +34,7 @@ fn agrees(same: bool) -> u64
     if same { 1 } else { 0 }
 }
 
-fn same(a: Answer, b: Answer) -> bool {
+pub fn same(a: Answer, b: Answer) -> bool {
     a.result == b.result
         && a.flags == b.flags
         && a.passes == b.passes
@@ -190,7 +190,7 @@ fn enter_part(s: &[u8], answer: &mut [u8]) -> u64
 }
 
 // The buffer after the call: an accepted record is written, a refused one is not.
-fn written_at(s: &[u8]) -> [u8; 32]
+pub fn written_at(s: &[u8]) -> [u8; 32]
     ensures { λ r. ⌜ length r ≡ 32 ⌝ }
 {
     let mut answer = [0xa5u8; 32];
@@ -204,7 +204,7 @@ fn written_at(s: &[u8]) -> [u8; 32]
     answer
 }
 
-fn same_bytes(a: &[u8], b: &[u8]) -> bool {
+pub fn same_bytes(a: &[u8], b: &[u8]) -> bool {
     if a.len() != b.len() {
         return false;
     }

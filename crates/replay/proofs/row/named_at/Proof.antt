@@ -24,7 +24,17 @@ returns-2 c =
     rw (ne-eqb _ 301 (e .if1 .left), eq-eqb _ 67 (t .if2 .taken)) (ap Bias (signed-read (row (e .before)) 49 16 _ (c .signed-at2 .ensures)))
 
 returns-3 : tie.Need-returns-3
-returns-3 c = rw (ne-eqb _ 301 (c .before .if1 .left), ne-eqb _ 67 (c .if2 .left))
+returns-3 c =
+    let t = c .before in
+    let e = t .before in
+    let d = e .before in
+    rw (ne-eqb _ 301 (d .if1 .left), ne-eqb _ 67 (e .if2 .left), eq-eqb _ 505 (t .if3 .taken))
+    (ap Bias (signed-read (row (d .before)) 487 16 _ (c .signed-at3 .ensures)))
+
+returns-4 : tie.Need-returns-4
+returns-4 c =
+    let e = c .before in
+    rw (ne-eqb _ 301 (e .before .if1 .left), ne-eqb _ 67 (e .if2 .left), ne-eqb _ 505 (c .if3 .left))
 
 pub named-at-spec : {M : Type 1} → statement M
-named-at-spec = tie.close (tie.spec (λ c κs. search needs) returns (λ c κs. search needs) returns-2 returns-3)
+named-at-spec = tie.close (tie.spec (λ c κs. search needs) returns (λ c κs. search needs) returns-2 (λ c κs. search needs) returns-3 returns-4)
