@@ -39,9 +39,13 @@ pub fn own(rng: &mut Rng, format: Format) -> Case {
 pub fn out_of_range(rng: &mut Rng, format: Format) -> Case {
     let mut case = refused(rng, format);
     if let (Some(bias), true) = (format.bias, rng.bit()) {
-        let far = rng.pick(&[LARGEST_BIAS + 1, LARGEST_BIAS + 1, LARGEST_BIAS + 2, 1 << 29, i64::MAX]);
-        let high = 1 << rng.pick(&[32, 40, 62]);
-        case.format.bias = Some(rng.pick(&[far, -far, bias + high, bias - high, i64::MIN]));
+        case.format.bias = Some(out_of_its_range(rng, bias));
     }
     case
+}
+
+pub fn out_of_its_range(rng: &mut Rng, bias: i64) -> i64 {
+    let far = rng.pick(&[LARGEST_BIAS + 1, LARGEST_BIAS + 1, LARGEST_BIAS + 2, 1 << 29, i64::MAX]);
+    let high = 1 << rng.pick(&[32, 40, 62]);
+    rng.pick(&[far, -far, bias + high, bias - high, i64::MIN])
 }

@@ -53,7 +53,7 @@ impl Default for Bench {
 }
 
 /// Every buffer starts so many bytes behind an aligned address.
-fn skew(case: &Case) -> usize {
+pub fn skew(case: &Case) -> usize {
     usize::from(case.fill % 8)
 }
 
@@ -61,7 +61,7 @@ fn skew(case: &Case) -> usize {
 const GUARD: usize = 32;
 
 /// What byte `i` holds before the call. It differs from byte to byte, so that a shifted copy shows.
-fn fill(case: &Case, i: usize) -> u8 {
+pub fn fill(case: &Case, i: usize) -> u8 {
     case.fill.wrapping_add((i as u8).wrapping_mul(37))
 }
 
@@ -133,15 +133,7 @@ impl Bench {
     }
 
     fn check_accepted(&mut self, case: &Case, oracle: &Oracle) -> Result<Seen, String> {
-        let written = self.written(case);
-        let [flags, 0, side, 0, 0, 0, 0, 0] = written[8..16] else {
-            return Err(format!("bytes 8 to 15 of the answer are {:?}", &written[8..16]));
-        };
-        let answer = Answer { result: word(written, 0), flags, passes: word(written, 16) };
-        let wanted = leaning(case, answer.result);
-        if side != wanted {
-            return Err(format!("side {side} of {answer:x?}, and by the exact sum it is {wanted}"));
-        }
+        let (answer, side) = read_answer(case, self.written(case))?;
         let Ok(original) = catch_unwind(AssertUnwindSafe(|| (oracle.total)(case))) else {
             return Err(format!("the original panics, where the answer is {answer:x?}"));
         };
@@ -171,8 +163,21 @@ impl Bench {
     }
 }
 
+/// The record in the bytes that an accepted call wrote, and the side, which is that of the exact sum.
+pub fn read_answer(case: &Case, written: &[u8]) -> Result<(Answer, u8), String> {
+    let [flags, 0, side, 0, 0, 0, 0, 0] = written[8..16] else {
+        return Err(format!("bytes 8 to 15 of the answer are {:?}", &written[8..16]));
+    };
+    let answer = Answer { result: word(written, 0), flags, passes: word(written, 16) };
+    let wanted = leaning(case, answer.result);
+    if side != wanted {
+        return Err(format!("side {side} of {answer:x?}, and by the exact sum it is {wanted}"));
+    }
+    Ok((answer, side))
+}
+
 /// Number 7's place is the lowest index of an element of that list with a stray bit.
-fn check_place(case: &Case, side: Side, place: u64) -> Result<Seen, String> {
+pub fn check_place(case: &Case, side: Side, place: u64) -> Result<Seen, String> {
     let list = if side == Side::Left { &case.left } else { &case.right };
     match list.iter().position(|&value| is_stray(value, case.format.width())) {
         Some(first) if first as u64 == place => Ok(Seen::Refused(7)),
@@ -180,7 +185,7 @@ fn check_place(case: &Case, side: Side, place: u64) -> Result<Seen, String> {
     }
 }
 
-fn has_nan(case: &Case) -> bool {
+pub fn has_nan(case: &Case) -> bool {
     let shape = Shape::of(case.format);
     case.left.iter().chain(&case.right).any(|&value| shape.is_nan(value))
 }

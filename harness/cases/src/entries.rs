@@ -1,4 +1,4 @@
-//! The byte entries of libtotals.a, by the format: where it names a bias the ones that take it, else the plain ones.
+//! The entries of libtotals.a, by the format: of the byte entries the ones that take a bias where it names one, else the plain ones.
 
 use fermuzhai::raw;
 
@@ -16,4 +16,8 @@ pub fn dot(f: Format, c: [u64; 8], left: &[u8], right: &[u8], answer: &mut [u8])
         Some(bias) => raw::dot_biased(f.numbers, bias, c, left, right, answer),
         None => raw::dot(f.numbers, c, left, right, answer),
     }
+}
+
+pub fn table(f: Format, c: [u64; 8], shape: [u64; 2], cells: &[u64], totals: [&mut [u64]; 2], answer: &mut [u8]) -> u64 {
+    raw::table(f.numbers, f.bias, c, shape, cells, totals, answer)
 }

@@ -15,6 +15,9 @@ mod rng;
 mod run;
 mod shape;
 mod shrink;
+mod table;
+mod table_check;
+mod tables;
 mod tally;
 mod terms;
 

@@ -87,10 +87,15 @@ pub fn cancellations(rng: &mut Rng, format: Format) -> Case {
     case
 }
 
+/// The negative of a value, or the value itself where that would be the NaN of its kind.
+pub fn negative(shape: &Shape, value: u64) -> u64 {
+    if shape.is_nan(value ^ shape.sign) { value } else { value ^ shape.sign }
+}
+
 /// Adds the negative of element i; of pair i, in a dot: either sign changed, the sides changed, or a factor of two moved to the other side.
 fn negate(rng: &mut Rng, case: &mut Case, i: usize) {
     let shape = Shape::of(case.format);
-    let flip = |value: u64| if shape.is_nan(value ^ shape.sign) { value } else { value ^ shape.sign };
+    let flip = |value: u64| negative(&shape, value);
     if !case.is_dot() {
         case.left.push(flip(case.left[i]));
         return;
@@ -136,7 +141,7 @@ fn sprinkle(rng: &mut Rng, case: &mut Case, subnormal: bool, right: &Near) {
     }
 }
 
-fn special(rng: &mut Rng, shape: &Shape, subnormal: bool) -> u64 {
+pub fn special(rng: &mut Rng, shape: &Shape, subnormal: bool) -> u64 {
     let sign = if rng.bit() { shape.sign } else { 0 };
     match rng.below(8) {
         0..=3 => shape.special(rng.next()),
@@ -157,7 +162,7 @@ pub fn many(rng: &mut Rng, format: Format) -> Case {
 }
 
 /// Repeats the first values, or pairs, until there are so many.
-fn lengthen(rng: &mut Rng, case: &mut Case, different: usize, count: usize) {
+pub fn lengthen(rng: &mut Rng, case: &mut Case, different: usize, count: usize) {
     while case.left.len() < count {
         let i = rng.below(different as u64) as usize;
         case.left.push(case.left[i]);

@@ -32,7 +32,7 @@ fn break_length(rng: &mut Rng, case: &mut Case) {
 }
 
 /// Always into what is no format: the original has not every format compiled.
-fn break_format(rng: &mut Rng, case: &mut Case, [kind, e, w]: [u64; 3]) {
+pub fn break_format(rng: &mut Rng, case: &mut Case, [kind, e, w]: [u64; 3]) {
     case.format.numbers = match rng.below(3) {
         0 => [above(rng, 3), e, w],
         1 => [kind, rng.pick(&[0, 1, 29, 30, 64, 256 + e, (1 << 32) + e, u64::MAX]), w],
@@ -40,7 +40,7 @@ fn break_format(rng: &mut Rng, case: &mut Case, [kind, e, w]: [u64; 3]) {
     };
 }
 
-fn break_setting(rng: &mut Rng, case: &mut Case, [_, e, w]: [u64; 3]) {
+pub fn break_setting(rng: &mut Rng, case: &mut Case, [_, e, w]: [u64; 3]) {
     let highest = [7, 1, 3, 1, 1, 1, 1, w - e];
     let i = rng.below(9) as usize;
     match case.operation {
@@ -62,7 +62,7 @@ fn break_pairing(rng: &mut Rng, case: &mut Case) {
 }
 
 /// Sets a bit that does not fit the width, at one end of the range or anywhere between, in one element or two.
-fn put_stray_bit(rng: &mut Rng, case: &mut Case, width: u64) {
+pub fn put_stray_bit(rng: &mut Rng, case: &mut Case, width: u64) {
     if width >= 64 {
         return;
     }

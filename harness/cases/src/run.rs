@@ -1,17 +1,21 @@
 //! The run: every group over the threads, what was seen, and what differs.
 
+use std::fmt::Display;
 use std::sync::Mutex;
 use std::sync::atomic::{AtomicU64, Ordering};
 use std::time::Instant;
 
 use crate::biases;
 use crate::case::{Case, Format};
-use crate::check::{Bench, Oracle};
+use crate::check::{Bench, Oracle, Seen};
 use crate::exhaustive::{SPACES, Space};
 use crate::lists;
 use crate::refused::refused;
 use crate::rng::Rng;
 use crate::shrink::shrink;
+use crate::table::{self, Table};
+use crate::table_check::TableBench;
+use crate::tables;
 use crate::tally::{BINARY64, Tally, report, report_group};
 
 pub struct Options {
@@ -67,10 +71,54 @@ impl Formats {
     }
 }
 
-struct Group {
+/// A call that is compared: of a byte entry, or of the entry of tables.
+trait Call: Display + Sized {
+    type Bench: Default;
+
+    fn check(&self, bench: &mut Self::Bench, oracle: &Oracle) -> Result<Seen, String>;
+
+    /// The smallest call that still differs.
+    fn shrunk(self, differs: &mut dyn FnMut(&Self) -> bool) -> Self;
+
+    fn count(&self, seen: &Seen, tally: &mut Tally);
+}
+
+impl Call for Case {
+    type Bench = Bench;
+
+    fn check(&self, bench: &mut Bench, oracle: &Oracle) -> Result<Seen, String> {
+        bench.check(self, oracle)
+    }
+
+    fn shrunk(self, differs: &mut dyn FnMut(&Self) -> bool) -> Self {
+        shrink(self, differs)
+    }
+
+    fn count(&self, seen: &Seen, tally: &mut Tally) {
+        tally.add(self, seen);
+    }
+}
+
+impl Call for Table {
+    type Bench = TableBench;
+
+    fn check(&self, bench: &mut TableBench, oracle: &Oracle) -> Result<Seen, String> {
+        bench.check(self, oracle)
+    }
+
+    fn shrunk(self, differs: &mut dyn FnMut(&Self) -> bool) -> Self {
+        table::shrink(self, differs)
+    }
+
+    fn count(&self, seen: &Seen, tally: &mut Tally) {
+        tally.add_table(self, seen);
+    }
+}
+
+struct Group<C> {
     name: &'static str,
     pool: Pool,
-    draw: fn(&mut Rng, Format) -> Case,
+    draw: fn(&mut Rng, Format) -> C,
     /// How many cases, of so many that are drawn in all.
     count: fn(u64) -> u64,
     /// Cases that a thread takes at a time.
@@ -78,7 +126,7 @@ struct Group {
 }
 
 /// The groups in their order, which is part of what a case is drawn from. The cases of the three before the biases take long.
-const GROUPS: [Group; 13] = [
+const GROUPS: [Group<Case>; 13] = [
     Group { name: "random lists", pool: Pool::All, draw: lists::random, count: |all| all * 290 / 1000, portion: 4096 },
     Group { name: "ties", pool: Pool::All, draw: lists::ties, count: |all| all * 200 / 1000, portion: 4096 },
     Group { name: "ties at the ends", pool: Pool::All, draw: lists::ties_at_the_ends, count: |all| all * 120 / 1000, portion: 4096 },
@@ -94,6 +142,14 @@ const GROUPS: [Group; 13] = [
     Group { name: "the kind's own bias, named", pool: Pool::All, draw: biases::own, count: |all| all / 100, portion: 256 },
 ];
 
+/// Each table is many sums: that of all cells, and those of its rows and columns.
+const TABLES: [Group<Table>; 4] = [
+    Group { name: "tables", pool: Pool::All, draw: tables::any, count: |all| all / 120, portion: 256 },
+    Group { name: "tables, refusals", pool: Pool::All, draw: tables::refused, count: |all| all / 240, portion: 256 },
+    Group { name: "tables, a bias named", pool: Pool::Biased, draw: tables::biased, count: |all| all / 400, portion: 256 },
+    Group { name: "tables of about 1,048,576 cells", pool: Pool::All, draw: tables::limit, count: |all| 8 + all / 2_000_000, portion: 1 },
+];
+
 /// One run's shared parts.
 struct Run<'a> {
     options: &'a Options,
@@ -103,12 +159,12 @@ struct Run<'a> {
 
 impl Run<'_> {
     /// Checks the cases 0 to `count` - 1 over all threads.
-    fn over_threads(&self, name: &str, count: u64, portion: u64, case: &(dyn Fn(u64) -> Case + Sync)) -> Tally {
+    fn over_threads<C: Call>(&self, name: &str, count: u64, portion: u64, case: &(dyn Fn(u64) -> C + Sync)) -> Tally {
         let start = Instant::now();
         let next = AtomicU64::new(0);
         let found = Mutex::new(vec![]);
         let work = || {
-            let mut bench = Bench::default();
+            let mut bench = C::Bench::default();
             let mut tally = Tally::default();
             loop {
                 let from = next.fetch_add(portion, Ordering::Relaxed);
@@ -134,9 +190,9 @@ impl Run<'_> {
         total
     }
 
-    fn one(&self, bench: &mut Bench, tally: &mut Tally, number: u64, case: Case, found: &Mutex<Vec<String>>) {
-        match bench.check(&case, self.oracle) {
-            Ok(seen) => tally.add(&case, &seen),
+    fn one<C: Call>(&self, bench: &mut C::Bench, tally: &mut Tally, number: u64, case: C, found: &Mutex<Vec<String>>) {
+        match case.check(bench, self.oracle) {
+            Ok(seen) => case.count(&seen, tally),
             Err(what) => {
                 tally.cases += 1;
                 tally.differences += 1;
@@ -149,9 +205,9 @@ impl Run<'_> {
     }
 
     /// The difference at its smallest input.
-    fn describe(&self, bench: &mut Bench, number: u64, case: Case, what: &str) -> String {
-        let smallest = shrink(case, &mut |case| bench.check(case, self.oracle).is_err());
-        let now = bench.check(&smallest, self.oracle).err().unwrap_or_default();
+    fn describe<C: Call>(&self, bench: &mut C::Bench, number: u64, case: C, what: &str) -> String {
+        let smallest = case.shrunk(&mut |case| case.check(bench, self.oracle).is_err());
+        let now = smallest.check(bench, self.oracle).err().unwrap_or_default();
         format!("  DIFFERENCE in case {number}: {what}\n    smallest input: {smallest}\n    there: {now}")
     }
 
@@ -163,7 +219,7 @@ impl Run<'_> {
         self.over_threads(space.name, count, 1 << 12, &|number| space.case(seed, offset + number * stride))
     }
 
-    fn group(&self, place: u64, group: &Group) -> Tally {
+    fn group<C: Call>(&self, place: u64, group: &Group<C>) -> Tally {
         let draw = |number| {
             let mut rng = Rng::new(self.options.seed, place, number);
             let format = self.formats.draw(&mut rng, group.pool);
@@ -185,6 +241,9 @@ pub fn run(options: &Options, oracle: &Oracle) -> bool {
     }
     for (place, group) in GROUPS.iter().enumerate() {
         total.merge(&run.group(place as u64 + 1, group));
+    }
+    for (place, group) in TABLES.iter().enumerate() {
+        total.merge(&run.group((GROUPS.len() + place) as u64 + 1, group));
     }
     report(&total, options.seed, start.elapsed().as_secs_f64());
     let missed = total.missed(&oracle.formats);

@@ -30,7 +30,7 @@ fn without(list: &[u64], from: usize, count: usize) -> Vec<u64> {
 }
 
 /// Drops runs of elements: half the list at a time, then a quarter, down to one by one.
-fn drop_elements(smallest: &mut Case, differs: &mut dyn FnMut(&Case) -> bool) -> bool {
+pub fn drop_elements(smallest: &mut Case, differs: &mut dyn FnMut(&Case) -> bool) -> bool {
     let length = |case: &Case| case.left.len().max(case.right.len());
     let mut dropped = false;
     let mut count = length(smallest).div_ceil(2);
@@ -51,7 +51,7 @@ fn drop_elements(smallest: &mut Case, differs: &mut dyn FnMut(&Case) -> bool) ->
 }
 
 /// Sets each setting, the summand and the form of the call to the plainest that still differs.
-fn clear_settings(smallest: &mut Case, differs: &mut dyn FnMut(&Case) -> bool) -> bool {
+pub fn clear_settings(smallest: &mut Case, differs: &mut dyn FnMut(&Case) -> bool) -> bool {
     let mut cleared = false;
     for i in 0..smallest.settings.len() {
         if smallest.settings[i] != 0 {

@@ -5,6 +5,7 @@ use std::collections::HashMap;
 use crate::case::{Case, Format};
 use crate::check::{Answer, Seen};
 use crate::refusals::no_format;
+use crate::table::Table;
 
 pub const BINARY64: Format = Format::plain([0, 11, 64]);
 
@@ -35,7 +36,27 @@ pub struct Tally {
     /// The same of binary64 alone, whose chains have known limits.
     binary64: [[u64; LONGEST + 1]; 2],
     most_passes: u64,
+    /// Tables by the number of the refusal; 0 counts the accepted, which the first of `refusals` counts too.
+    tables: [u64; 11],
+    /// Accepted tables of each shape.
+    shapes: [u64; SHAPES.len()],
     pub differences: u64,
+}
+
+/// The refusals of tables, in their order.
+const TABLE_REFUSALS: [usize; 7] = [2, 3, 4, 6, 9, 10, 7];
+
+const SHAPES: [&str; 6] = ["no rows and no columns", "no rows", "no columns", "one row", "one column", "more of both"];
+
+fn shape(table: &Table) -> usize {
+    match table.shape {
+        [0, 0] => 0,
+        [0, _] => 1,
+        [_, 0] => 2,
+        [1, _] => 3,
+        [_, 1] => 4,
+        _ => 5,
+    }
 }
 
 fn add(to: &mut [u64], from: &[u64]) {
@@ -56,6 +77,21 @@ impl Tally {
                 self.rearranged += u64::from(rearranged);
                 self.add_given(case);
                 self.add_answer(case, &answer);
+            }
+        }
+    }
+
+    /// A table counts as one case, whatever the number of its totals.
+    pub fn add_table(&mut self, table: &Table, seen: &Seen) {
+        self.cases += 1;
+        match *seen {
+            Seen::Refused(number) => self.tables[number as usize] += 1,
+            Seen::Accepted { answer, rearranged, .. } => {
+                self.refusals[0] += 1;
+                self.tables[0] += 1;
+                self.shapes[shape(table)] += 1;
+                self.rearranged += u64::from(rearranged);
+                self.most_passes = self.most_passes.max(answer.passes);
             }
         }
     }
@@ -88,6 +124,8 @@ impl Tally {
         self.most_passes = self.most_passes.max(other.most_passes);
         self.biases += other.biases;
         add(&mut self.refusals, &other.refusals);
+        add(&mut self.tables, &other.tables);
+        add(&mut self.shapes, &other.shapes);
         add(&mut self.flags, &other.flags);
         add(&mut self.sides, &other.sides);
         self.precisions |= other.precisions;
@@ -115,6 +153,12 @@ impl Tally {
             want(format!("refusal {number}"), self.refusals[number]);
         }
         want("refusal 3 of a bias".to_string(), self.biases);
+        for number in TABLE_REFUSALS {
+            want(format!("refusal {number} of a table"), self.tables[number]);
+        }
+        for (name, count) in SHAPES.iter().zip(self.shapes) {
+            want(format!("a table of {name}"), count);
+        }
         for bit in [0, 2, 3, 4, 5, 6, 7] {
             want(format!("flag {}", 1 << bit), self.flags[bit]);
         }
@@ -166,6 +210,8 @@ pub fn report(tally: &Tally, seed: u64, seconds: f64) {
     println!("sums in 0 to 7 and in more passes: {:?}", tally.passes[0]);
     println!("square sums and dots in 0 to 7 and in more passes: {:?}", tally.passes[1]);
     println!("of binary64: sums {:?}, square sums and dots {:?}", tally.binary64[0], tally.binary64[1]);
+    println!("{} tables, refusals {TABLE_REFUSALS:?} of them: {:?}", tally.tables[0], TABLE_REFUSALS.map(|number| tally.tables[number]));
+    println!("tables of {}: {:?}", SHAPES.join(", "), tally.shapes);
     report_formats(tally, false);
     report_formats(tally, true);
     println!("{} cases, {} rearranged lists, seed {}, {seconds:.0} s, {} differences", tally.cases, tally.rearranged, seed, tally.differences);
