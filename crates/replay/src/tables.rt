@@ -28,7 +28,7 @@ const COLUMNS: usize = 300;
 
 const TOTALS: usize = 317;
 
-// The numbers of rows and of columns, and how many totals the row has for them.
+// How many rows and columns a table is said to have.
 struct Sides {
     rows: usize,
     columns: usize,
@@ -54,7 +54,7 @@ fn before() -> [u64; 16]
     words
 }
 
-// The same after a call that wrote n totals: those of the row from one on. It has ten, and says at most sixteen.
+// The same after a call that wrote n totals, which the row has from one on.
 fn after(s: &[u8], first: usize, n: usize) -> [u64; 16]
     requires { ⌜ (first ≤ 16) × (n ≤ 16) ⌝ }
     ensures { λ r. ⌜ length r ≡ 16 ⌝ }
@@ -331,7 +331,7 @@ fn refused_bias(bias_named: u64, bias: i64, b: u64, columns: usize) -> u64
     0
 }
 
-// How many of eight answers are these: a bias that is named neither by 1 nor, being 0, by 0; beside 7, 9 and 10 too.
+// How many of eight biases are refused so: each is named neither by 1 nor, being 0, by 0. Some stand beside 7, 9 and 10.
 pub fn misnamed() -> u64
     ensures { λ r. ⌜ r ≤ 8 ⌝ }
 {
