@@ -147,7 +147,7 @@ const TABLES: [Group<Table>; 4] = [
     Group { name: "tables", pool: Pool::All, draw: tables::any, count: |all| all / 120, portion: 256 },
     Group { name: "tables, refusals", pool: Pool::All, draw: tables::refused, count: |all| all / 240, portion: 256 },
     Group { name: "tables, a bias named", pool: Pool::Biased, draw: tables::biased, count: |all| all / 400, portion: 256 },
-    Group { name: "tables of about 1,048,576 cells", pool: Pool::All, draw: tables::limit, count: |all| 8 + all / 2_000_000, portion: 1 },
+    Group { name: "tables of about 1,048,576 cells", pool: Pool::All, draw: tables::limit, count: |all| 8 + all / 4_000_000, portion: 1 },
 ];
 
 /// One run's shared parts.
