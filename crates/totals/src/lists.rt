@@ -23,7 +23,6 @@ use scan::walk::scan;
 use values::HUNDREDFOLD;
 use values::Source;
 use values::Walk;
-use values::whole;
 ghost use mathlib.Core.Path.{_≡_};
 ghost use Prim.Native.Nat.{_*_, _/_, _<_, _≤_};
 ghost use lib.Dec.{eqb};
@@ -33,8 +32,8 @@ ghost use Rattle.totals_spec.specs.Bytes.{valuesIn};
 ghost use Rattle.format.specs.Joined.{formatOf, settingsOf};
 ghost use Rattle.totals_spec.specs.Table.{columnOf};
 ghost use Rattle.totals_spec.specs.Totals as totals;
-ghost use Rattle.values.specs.Sources.{Within, elements};
-ghost use Rattle.values.specs.Walks.{Orderly, isDot, isHundred};
+ghost use Rattle.values.specs.Sources.{Within, sourceOf, elements};
+ghost use Rattle.values.specs.Walks.{Orderly, walkOf, isDot, isHundred};
 ghost use Rattle.reduction.specs.Answered.{answerOf};
 ghost use Rattle.totals.specs.PenceRecord.{penceRecord, listPence};
 ghost use Rattle.totals.specs.Walked.{numbersIn, answerTo};
@@ -84,20 +83,34 @@ fn total(
     }
 }
 
-// Of the lists of a walk.
+// Of the lists of a walk. Its numbers are handed over one by one: of a record, which goes through memory, the loops know less, and a sum takes 3 to 13 %
+// longer by where it lies in the program.
 fn listed(
     f: Format,
     c: Settings,
-    k: Walk,
+    u: u64,
+    layout: u64,
+    start: usize,
+    step: usize,
+    count: usize,
     left_words: &[u64],
     left_bytes: &[u8],
     right_words: &[u64],
     right_bytes: &[u8],
 ) -> Report
-    requires { ⌜ Within (k .source) (now «left_words») (now «left_bytes») × Within (k .source) (now «right_words») (now «right_bytes») × Orderly k ⌝ }
-    requires { ⌜ ListAsks (isHundred k) (isDot k) (formatOf f) (settingsOf c) (k .summand) (k .source .count) ⌝ }
-    ensures { λ r. ⌜ ListTells (isHundred k) (isDot k) (formatOf f) (settingsOf c) (k .summand) (elements (k .source) (now («left_words» .entry)) (now («left_bytes» .entry))) (elements (k .source) (now («right_words» .entry)) (now («right_bytes» .entry))) r ⌝ }
+    requires { ⌜ Within (sourceOf layout start step count) (now «left_words») (now «left_bytes») × Within (sourceOf layout start step count) (now «right_words») (now «right_bytes») × Orderly (walkOf u (sourceOf layout start step count)) ⌝ }
+    requires { ⌜ ListAsks (eqb u 4) (eqb u 3) (formatOf f) (settingsOf c) u count ⌝ }
+    ensures { λ r. ⌜ ListTells (eqb u 4) (eqb u 3) (formatOf f) (settingsOf c) u (elements (sourceOf layout start step count) (now («left_words» .entry)) (now («left_bytes» .entry))) (elements (sourceOf layout start step count) (now («right_words» .entry)) (now («right_bytes» .entry))) r ⌝ }
 {
+    let k = Walk {
+        summand: u,
+        source: Source {
+            layout,
+            start,
+            step,
+            count,
+        },
+    };
     match walk_stray(f.width, k, left_words, left_bytes, right_words, right_bytes) {
         Found::At(i) => strayed(i),
         Found::Nothing => total(f, c, k, left_words, left_bytes, right_words, right_bytes),
@@ -110,8 +123,7 @@ pub fn words(f: Format, c: Settings, u: u64, left: &[u64], right: &[u64]) -> Ans
     requires { ⌜ numbersIn (eqb u 3) (formatOf f) (settingsOf c) u (length (now left)) ≡ 0 ⌝ }
     ensures { λ r. ⌜ answerOf r ≡ answerTo (eqb u 3) (formatOf f) (settingsOf c) u (now (left .entry)) (now (right .entry)) ⌝ }
 {
-    let k = whole(u, 0, left.len());
-    answer_of(listed(f, c, k, left, b"", right, b""))
+    answer_of(listed(f, c, u, 0, 0, 1, left.len(), left, b"", right, b""))
 }
 
 pub fn bytes(f: Format, c: Settings, u: u64, left: &[u8], right: &[u8]) -> Answer
@@ -120,8 +132,7 @@ pub fn bytes(f: Format, c: Settings, u: u64, left: &[u8], right: &[u8]) -> Answe
     ensures { λ r. ⌜ answerOf r ≡ answerTo (eqb u 3) (formatOf f) (settingsOf c) u (valuesIn (now (left .entry))) (valuesIn (now (right .entry))) ⌝ }
 {
     let none = [0u64; 1];
-    let k = whole(u, 1, left.len() / 8);
-    answer_of(listed(f, c, k, &none, left, &none, right))
+    answer_of(listed(f, c, u, 1, 0, 1, left.len() / 8, &none, left, &none, right))
 }
 
 // The pence of a list of words.
@@ -129,8 +140,19 @@ pub fn pence(f: Format, c: Settings, values: &[u64]) -> Pence
     requires { ⌜ ListAsks true false (formatOf f) (settingsOf c) 4 (length (now values)) ⌝ }
     ensures { λ r. ⌜ penceRecord r ≡ listPence (formatOf f) (now (values .entry)) ⌝ }
 {
-    let k = whole(HUNDREDFOLD, 0, values.len());
-    pence_of(listed(f, c, k, values, b"", values, b""))
+    pence_of(listed(
+        f,
+        c,
+        HUNDREDFOLD,
+        0,
+        0,
+        1,
+        values.len(),
+        values,
+        b"",
+        values,
+        b"",
+    ))
 }
 
 // The plain sum of a column: of every step-th word from `first` on, `count` of them.
@@ -146,14 +168,5 @@ pub fn column(
     requires { ⌜ numbersIn false (formatOf f) (settingsOf c) 0 count ≡ 0 ⌝ }
     ensures { λ r. ⌜ answerOf r ≡ totals.sumAnswer (formatOf f) (settingsOf c) 0 (columnOf count step (now (cells .entry)) first) ⌝ }
 {
-    let k = Walk {
-        summand: 0,
-        source: Source {
-            layout: 0,
-            start: first,
-            step,
-            count,
-        },
-    };
-    answer_of(listed(f, c, k, cells, b"", cells, b""))
+    answer_of(listed(f, c, 0, 0, first, step, count, cells, b"", cells, b""))
 }

@@ -12,7 +12,7 @@ use lib.Seq.{ext-getD}
 use Rattle.totals_spec.specs.Bytes.{valuesIn}
 use Rattle.totals_spec.proofs.Values.{values-length, values-small}
 use Rattle.values.specs.declared.Source.{Source}
-use Rattle.values.specs.Sources.{strided, laidOut, values, elements, Within, Straight, Whole}
+use Rattle.values.specs.Sources.{sourceOf, strided, laidOut, values, elements, Within, Straight}
 
 pub strided-length : (at step n : ℕ) (l : List ℕ) → length (strided at step n l) ≡ n
 strided-length at step zero l = refl
@@ -78,22 +78,14 @@ pub record Gives (s : Source) (words bytes l : List ℕ) : Type 0 where
   pub within : Within s words bytes
   pub are : elements s words bytes ≡ l
 
--- a whole one
-module _ {layout count : ℕ} {s : Source} (h : Whole layout count s) (words bytes l : List ℕ) (e : values s words bytes ≡ l) (n : count ≡ length l)
-    (few : count < 2 ^ 64) where
-  whole-gives : Gives s words bytes l
+-- a whole one, of words (layout 0) or of values in bytes
+module _ (layout : ℕ) (words bytes : List ℕ) {count : ℕ} (n : count ≡ length (laidOut (eqb layout 0) words bytes)) where
+  pub whole-gives : count < 2 ^ 64 → Gives (sourceOf layout 0 1 count) words bytes (laidOut (eqb layout 0) words bytes)
   unfolding elements
-  whole-gives = record {
-    within = record {
-      there = λ i k. rw (e, h .start-is, h .step-is) (omega (arith, k, h .count-is, n));
-      room = rw (h .start-is, h .step-is, h .count-is) (omega (arith, few));
-    };
-    are = rw (e, h .start-is, h .step-is, h .count-is ∙ n) (strided-all l);
+  whole-gives few = record {
+    within = record { there = λ i k. omega (arith, k, n); room = omega (arith, few) };
+    are = rw n (strided-all (laidOut (eqb layout 0) words bytes));
   }
 
-pub laid-gives : {layout count : ℕ} {s : Source} → Whole layout count s → (words bytes : List ℕ) → count ≡ length (laidOut (eqb layout 0) words bytes)
-    → count < 2 ^ 64 → Gives s words bytes (laidOut (eqb layout 0) words bytes)
-laid-gives {layout} h words bytes n few = whole-gives h words bytes (laidOut (eqb layout 0) words bytes) (rw (h .layout-is)) n few
-
-pub whole-straight : {layout count : ℕ} {s : Source} → Whole layout count s → Straight s
-whole-straight h = record { start-is = h .start-is; step-is = h .step-is }
+pub whole-straight : (layout count : ℕ) → Straight (sourceOf layout 0 1 count)
+whole-straight layout count = record { start-is = refl; step-is = refl }

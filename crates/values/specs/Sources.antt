@@ -8,6 +8,9 @@ use lib.ListN.{length, getD}
 use Rattle.totals_spec.specs.Bytes.{valuesIn}
 use Rattle.values.specs.declared.Source.{Source}
 
+abbrev pub sourceOf : (layout start step count : ℕ) → Source
+sourceOf layout start step count = record { layout = layout; start = start; step = step; count = count }
+
 -- n elements, every step-th from `at` on
 abbrev pub strided : ℕ → ℕ → ℕ → List ℕ → List ℕ
 strided at step zero l = []
@@ -32,10 +35,3 @@ pub record Within (s : Source) (words bytes : List ℕ) : Type 0 where
 pub record Straight (s : Source) : Type 0 where
   pub start-is : s .start ≡ 0
   pub step-is : s .step ≡ 1
-
--- they are all the values there are
-pub record Whole (layout count : ℕ) (s : Source) : Type 0 where
-  pub layout-is : s .layout ≡ layout
-  pub start-is : s .start ≡ 0
-  pub step-is : s .step ≡ 1
-  pub count-is : s .count ≡ count

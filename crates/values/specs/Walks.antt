@@ -8,8 +8,12 @@ use Rattle.totals_spec.specs.Settings.{Settings, Summand, summandOf}
 use Rattle.totals_spec.specs.Terms.{Item, item, pairItem}
 use Rattle.totals_spec.specs.Totals.{pairs}
 use Rattle.totals_spec.specs.Hundredfold.{hundredItem}
+use Rattle.values.specs.declared.Source.{Source}
 use Rattle.values.specs.declared.Walk.{Walk}
 use Rattle.values.specs.Sources.{elements, Straight}
+
+abbrev pub walkOf : ℕ → Source → Walk
+walkOf u s = record { summand = u; source = s }
 
 abbrev pub isDot : Walk → Bool
 isDot k = eqb (k .summand) 3

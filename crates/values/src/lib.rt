@@ -4,7 +4,7 @@ ghost use Prim.Native.Nat.{_+_, _*_, _/_, _<_, _≤_};
 ghost use lib.ListN.{length, getD};
 ghost use Rattle.totals_spec.specs.Bytes.{valuesIn};
 ghost use Rattle.values.specs.Laid.{laid};
-ghost use Rattle.values.specs.Sources.{Whole, values};
+ghost use Rattle.values.specs.Sources.{values};
 
 fn wide(x: u8) -> u64
     ensures { λ r. ⌜ (r ≡ x) × (r < 256) ⌝ }
@@ -63,21 +63,6 @@ pub struct Walk {
 
 // The summand of pence.
 pub const HUNDREDFOLD: u64 = 4;
-
-// The walk over whole lists.
-pub fn whole(summand: u64, layout: u64, count: usize) -> Walk
-    ensures { λ r. ⌜ (r .summand ≡ summand) × Whole layout count (r .source) ⌝ }
-{
-    Walk {
-        summand,
-        source: Source {
-            layout,
-            start: 0,
-            step: 1,
-            count,
-        },
-    }
-}
 
 // The value at a place among the words or bytes of a source. A walk keeps count of the place beside the index: their product in each turn would take a
 // fifth off the speed of a sum.

@@ -8,43 +8,36 @@ use lib.ListN.{length}
 use Rattle.totals_spec.specs.Bytes.{valuesIn}
 use Rattle.totals_spec.proofs.Values.{values-length}
 use Rattle.format.specs.Joined.{formatOf, settingsOf}
-use Rattle.values.proofs.Sources.{Gives, laid-gives, whole-straight}
+use Rattle.values.specs.Sources.{sourceOf}
+use Rattle.values.proofs.Sources.{Gives, whole-gives, whole-straight}
 use Rattle.totals.proofs.Listed.{total-asked, total-told}
 use Rattle.totals.proofs.lists.bytes.Statement.{statement}
 use Rattle.totals.proofs.lists.bytes.Tie as tie
 
-abbrev entry : tie.After-whole → tie.Start
-entry t = t .before .before .before
+-- at the entry: the walk gives both lists, whatever the words are
+gives-left : (s : tie.Start) (w : List ℕ) → Gives (sourceOf 1 0 1 (length (s .args .left .now) / 8)) w (s .args .left .now) (valuesIn (s .args .left .now))
+gives-left s w = let b = s .args .left .now in whole-gives 1 w b (sym (values-length b)) (omega arith)
 
--- the walk gives both lists, whatever the words are
-gives-left : (t : tie.After-whole) (w : List ℕ) → Gives (t .whole .result .source) w (entry t .args .left .now) (valuesIn (entry t .args .left .now))
-gives-left t w =
-    let b = entry t .args .left .now in
-    laid-gives (t .whole .ensures .1) w b (sym (values-length b)) (omega arith)
+gives-right : (s : tie.Start) (w : List ℕ) → Gives (sourceOf 1 0 1 (length (s .args .left .now) / 8)) w (s .args .right .now) (valuesIn (s .args .right .now))
+gives-right s w = let b = s .args .right .now in whole-gives 1 w b (sym (values-length b ∙ s .pre .0)) (omega arith)
 
-gives-right : (t : tie.After-whole) (w : List ℕ) → Gives (t .whole .result .source) w (entry t .args .right .now) (valuesIn (entry t .args .right .now))
-gives-right t w =
-    let s = entry t in
-    let b = s .args .right .now in
-    laid-gives (t .whole .ensures .1) w b (sym (values-length b ∙ s .pre .0)) (omega arith)
+abbrev entry : tie.After-listed-arg → tie.Start
+entry t = let k = t .before .before in k .before .before
 
 listed-requires : tie.Need-listed-requires
 listed-requires c κs =
-    let t = c .before .before in
-    let s = entry t in
-    let w = t .whole .ensures in (
-      (gives-left t _ .within, gives-right t _ .within, λ _. whole-straight (w .1)),
-      rw (w .0, w .1 .count-is) (total-asked (formatOf (s .args .f)) (settingsOf (s .args .c)) (s .args .u) (length (s .args .left .now) / 8) (s .pre .1)),
+    let s = entry c in (
+      (gives-left s _ .within, gives-right s _ .within, λ _. whole-straight 1 _),
+      total-asked (formatOf (s .args .f)) (settingsOf (s .args .c)) (s .args .u) (length (s .args .left .now) / 8) (s .pre .1),
     )
 
 returns : tie.Need-returns
 returns c =
     let l = c .before in
-    let t = l .before .before .before in
-    let s = entry t in
+    let s = entry (l .before) in
     c .answer-of .ensures
     ∙ total-told (formatOf (s .args .f)) (settingsOf (s .args .c)) (s .args .u) (length (s .args .left .now) / 8) (s .pre .1) _ _ _
-    (rw (t .whole .ensures .0, gives-left t _ .are, gives-right t _ .are) at (l .listed .ensures))
+    (rw (gives-left s _ .are, gives-right s _ .are) at (l .listed .ensures))
 
 pub bytes-spec : {M : Type 1} → statement M
-bytes-spec = tie.close (tie.spec (λ c κs. search needs) (λ c. search needs) (λ c. search needs) listed-requires (λ c κs. search needs) returns)
+bytes-spec = tie.close (tie.spec (λ c. search needs) (λ c. search needs) listed-requires (λ c κs. search needs) returns)

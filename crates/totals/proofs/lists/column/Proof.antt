@@ -8,14 +8,14 @@ use lib.ListN.{length}
 use Rattle.totals_spec.specs.Table.{columnOf}
 use Rattle.format.specs.Joined.{formatOf, settingsOf}
 use Rattle.values.specs.declared.Source.{Source}
-use Rattle.values.specs.Sources.{elements, Within}
+use Rattle.values.specs.Sources.{sourceOf, elements, Within}
 use Rattle.totals.proofs.Columns.{column-strided, column-there, column-room}
 use Rattle.totals.proofs.lists.column.Statement.{statement}
 use Rattle.totals.proofs.lists.column.Tie as tie
 
 -- at the entry: where the cells stand
 abbrev source : tie.Start → Source
-source s = record { layout = 0; start = s .args .first; step = s .args .step; count = s .args .count }
+source s = sourceOf 0 (s .args .first) (s .args .step) (s .args .count)
 
 within : (s : tie.Start) (b : List ℕ) → Within (source s) (s .args .cells .now) b
 within s b = record {

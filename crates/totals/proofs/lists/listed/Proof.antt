@@ -3,12 +3,13 @@ use mathlib.Core.Path.{_≡_, refl, sym}
 use mathlib.Core.List.{List}
 use Prim.Native.Nat.{ℕ}
 use borrow.Author.Needs.{needs}
+use lib.Dec.{eqb}
 use lib.ListN.{length}
 use Rattle.totals_spec.specs.Format.{Format}
 use Rattle.totals_spec.specs.Settings.{Settings}
 use Rattle.format.specs.Joined.{formatOf, settingsOf}
-use Rattle.values.specs.Sources.{elements}
-use Rattle.values.specs.Walks.{isDot, isHundred}
+use Rattle.values.specs.declared.Source.{Source}
+use Rattle.values.specs.Sources.{sourceOf, elements}
 use Rattle.values.proofs.Sources.{elements-length}
 use Rattle.totals.proofs.Listed.{list-width, list-strayed, list-asks, list-told}
 use Rattle.totals.proofs.lists.listed.Statement.{statement}
@@ -22,19 +23,22 @@ abbrev env : tie.Start → Settings
 env s = settingsOf (s .args .c)
 
 abbrev u : tie.Start → ℕ
-u s = s .args .k .summand
+u s = s .args .u
+
+abbrev source : tie.Start → Source
+source s = sourceOf (s .args .layout) (s .args .start) (s .args .step) (s .args .count)
 
 abbrev left : tie.Start → List ℕ
-left s = elements (s .args .k .source) (s .args .left-words .now) (s .args .left-bytes .now)
+left s = elements (source s) (s .args .left-words .now) (s .args .left-bytes .now)
 
 abbrev right : tie.Start → List ℕ
-right s = elements (s .args .k .source) (s .args .right-words .now) (s .args .right-bytes .now)
+right s = elements (source s) (s .args .right-words .now) (s .args .right-bytes .now)
 
-many-left : (s : tie.Start) → s .args .k .source .count ≡ length (left s)
-many-left s = sym (elements-length (s .args .k .source) (s .args .left-words .now) (s .args .left-bytes .now))
+many-left : (s : tie.Start) → s .args .count ≡ length (left s)
+many-left s = sym (elements-length (source s) (s .args .left-words .now) (s .args .left-bytes .now))
 
-many-right : (s : tie.Start) → s .args .k .source .count ≡ length (right s)
-many-right s = sym (elements-length (s .args .k .source) (s .args .right-words .now) (s .args .right-bytes .now))
+many-right : (s : tie.Start) → s .args .count ≡ length (right s)
+many-right s = sym (elements-length (source s) (s .args .right-words .now) (s .args .right-bytes .now))
 
 -- once the walk is searched
 abbrev entry : tie.After-shared-slice-known4 → tie.Start
@@ -46,7 +50,7 @@ begun t = entry (t .before)
 walk-stray-requires : tie.Need-walk-stray-requires
 walk-stray-requires c κs =
     let s = entry c in (
-      list-width (form s) (env s) (u s) (left s) (right s) _ (isHundred (s .args .k)) (isDot (s .args .k)) (s .pre .1),
+      list-width (form s) (env s) (u s) (left s) (right s) _ (eqb (u s) 4) (eqb (u s) 3) (s .pre .1),
       (s .pre .0 .0, s .pre .0 .1),
     )
 
@@ -55,7 +59,7 @@ total-requires c κs =
     let t = c .before .before in
     let s = begun t in (
       s .pre .0,
-      list-asks (form s) (env s) (u s) (left s) (right s) (many-left s) (many-right s) (isHundred (s .args .k)) refl (s .pre .1) _ (t .walk-stray .ensures)
+      list-asks (form s) (env s) (u s) (left s) (right s) (many-left s) (many-right s) (eqb (u s) 4) refl (s .pre .1) _ (t .walk-stray .ensures)
           (c .enum-told .given .1),
     )
 
@@ -64,7 +68,7 @@ returns c =
     let i = c .before .before in
     let t = i .before .before in
     let s = begun t in
-    list-strayed (form s) (env s) (u s) (left s) (right s) (many-left s) (many-right s) (isHundred (s .args .k)) refl (s .pre .1) _ _ (t .walk-stray .ensures)
+    list-strayed (form s) (env s) (u s) (left s) (right s) (many-left s) (many-right s) (eqb (u s) 4) refl (s .pre .1) _ _ (t .walk-stray .ensures)
     (i .i .given .1) _ (c .strayed .ensures)
 
 returns-2 : tie.Need-returns-2
@@ -72,7 +76,7 @@ returns-2 c =
     let e = c .before in
     let t = e .before .before in
     let s = begun t in
-    list-told (form s) (env s) (u s) (left s) (right s) (many-left s) (many-right s) (isHundred (s .args .k)) refl (s .pre .1) _ (t .walk-stray .ensures)
+    list-told (form s) (env s) (u s) (left s) (right s) (many-left s) (many-right s) (eqb (u s) 4) refl (s .pre .1) _ (t .walk-stray .ensures)
     (e .enum-told .given .1) _ (c .total .ensures)
 
 pub listed-spec : {M : Type 1} → statement M

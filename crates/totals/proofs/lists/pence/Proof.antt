@@ -4,28 +4,27 @@ use mathlib.Core.List.{List}
 use Prim.Native.Nat.{ℕ}
 use native.Mathlib.Omega.{arith}
 use borrow.Author.Needs.{needs}
-use Rattle.values.proofs.Sources.{Gives, laid-gives, whole-straight}
+use lib.ListN.{length}
+use Rattle.values.specs.Sources.{sourceOf}
+use Rattle.values.proofs.Sources.{Gives, whole-gives, whole-straight}
 use Rattle.totals.proofs.lists.pence.Statement.{statement}
 use Rattle.totals.proofs.lists.pence.Tie as tie
 
-abbrev entry : tie.After-whole → tie.Start
-entry t = t .before .before
+-- at the entry: the walk gives the list, whatever the bytes are
+gives : (s : tie.Start) (b : List ℕ) → Gives (sourceOf 0 0 1 (length (s .args .values .now))) (s .args .values .now) b (s .args .values .now)
+gives s b = whole-gives 0 (s .args .values .now) b refl (omega arith)
 
--- the walk gives the list, whatever the bytes are
-gives : (t : tie.After-whole) (b : List ℕ) → Gives (t .whole .result .source) (entry t .args .values .now) b (entry t .args .values .now)
-gives t b = laid-gives (t .whole .ensures .1) (entry t .args .values .now) b refl (omega arith)
+abbrev entry : tie.After-listed-arg2 → tie.Start
+entry t = t .before .before .before
 
 listed-requires : tie.Need-listed-requires
-listed-requires c κs =
-    let t = c .before .before in
-    let w = t .whole .ensures in
-    ((gives t _ .within, gives t _ .within, λ _. whole-straight (w .1)), rw (w .0, w .1 .count-is) (entry t .pre))
+listed-requires c κs = let s = entry c in ((gives s _ .within, gives s _ .within, λ _. whole-straight 0 _), s .pre)
 
 returns : tie.Need-returns
 returns c =
     let l = c .before in
-    let t = l .before .before .before in
-    c .pence-of .ensures ∙ rw (t .whole .ensures .0, gives t _ .are) at (l .listed .ensures)
+    let s = entry (l .before) in
+    c .pence-of .ensures ∙ rw (gives s _ .are) at (l .listed .ensures)
 
 pub pence-spec : {M : Type 1} → statement M
-pence-spec = tie.close (tie.spec (λ c κs. search needs) (λ c. search needs) (λ c. search needs) listed-requires (λ c κs. search needs) returns)
+pence-spec = tie.close (tie.spec (λ c. search needs) (λ c. search needs) listed-requires (λ c κs. search needs) returns)

@@ -6,38 +6,36 @@ use native.Mathlib.Omega.{arith}
 use borrow.Author.Needs.{needs}
 use lib.ListN.{length}
 use Rattle.format.specs.Joined.{formatOf, settingsOf}
-use Rattle.values.proofs.Sources.{Gives, laid-gives, whole-straight}
+use Rattle.values.specs.Sources.{sourceOf}
+use Rattle.values.proofs.Sources.{Gives, whole-gives, whole-straight}
 use Rattle.totals.proofs.Listed.{total-asked, total-told}
 use Rattle.totals.proofs.lists.words.Statement.{statement}
 use Rattle.totals.proofs.lists.words.Tie as tie
 
-abbrev entry : tie.After-whole → tie.Start
-entry t = t .before .before .before
+-- at the entry: the walk gives both lists, whatever the bytes are
+gives-left : (s : tie.Start) (b : List ℕ) → Gives (sourceOf 0 0 1 (length (s .args .left .now))) (s .args .left .now) b (s .args .left .now)
+gives-left s b = whole-gives 0 (s .args .left .now) b refl (omega arith)
 
--- the walk gives both lists, whatever the bytes are
-gives-left : (t : tie.After-whole) (b : List ℕ) → Gives (t .whole .result .source) (entry t .args .left .now) b (entry t .args .left .now)
-gives-left t b = let s = entry t in laid-gives (t .whole .ensures .1) (s .args .left .now) b refl (omega arith)
+gives-right : (s : tie.Start) (b : List ℕ) → Gives (sourceOf 0 0 1 (length (s .args .left .now))) (s .args .right .now) b (s .args .right .now)
+gives-right s b = whole-gives 0 (s .args .right .now) b (sym (s .pre .0)) (omega arith)
 
-gives-right : (t : tie.After-whole) (b : List ℕ) → Gives (t .whole .result .source) (entry t .args .right .now) b (entry t .args .right .now)
-gives-right t b = let s = entry t in laid-gives (t .whole .ensures .1) (s .args .right .now) b (sym (s .pre .0)) (omega arith)
+abbrev entry : tie.After-listed-arg2 → tie.Start
+entry t = let k = t .before .before in k .before .before
 
 listed-requires : tie.Need-listed-requires
 listed-requires c κs =
-    let t = c .before .before in
-    let s = entry t in
-    let w = t .whole .ensures in (
-      (gives-left t _ .within, gives-right t _ .within, λ _. whole-straight (w .1)),
-      rw (w .0, w .1 .count-is) (total-asked (formatOf (s .args .f)) (settingsOf (s .args .c)) (s .args .u) (length (s .args .left .now)) (s .pre .1)),
+    let s = entry c in (
+      (gives-left s _ .within, gives-right s _ .within, λ _. whole-straight 0 _),
+      total-asked (formatOf (s .args .f)) (settingsOf (s .args .c)) (s .args .u) (length (s .args .left .now)) (s .pre .1),
     )
 
 returns : tie.Need-returns
 returns c =
     let l = c .before in
-    let t = l .before .before .before in
-    let s = entry t in
+    let s = entry (l .before) in
     c .answer-of .ensures
     ∙ total-told (formatOf (s .args .f)) (settingsOf (s .args .c)) (s .args .u) (length (s .args .left .now)) (s .pre .1) _ _ _
-    (rw (t .whole .ensures .0, gives-left t _ .are, gives-right t _ .are) at (l .listed .ensures))
+    (rw (gives-left s _ .are, gives-right s _ .are) at (l .listed .ensures))
 
 pub words-spec : {M : Type 1} → statement M
-words-spec = tie.close (tie.spec (λ c κs. search needs) (λ c. search needs) (λ c. search needs) listed-requires (λ c κs. search needs) returns)
+words-spec = tie.close (tie.spec (λ c. search needs) (λ c. search needs) listed-requires (λ c κs. search needs) returns)
