@@ -3,12 +3,11 @@ use mathlib.Core.List.{List, [], _∷_}
 use Prim.Native.Nat.{ℕ, zero, suc, _+_, _-_, _*_, _/_, _≤_}
 use native.Mathlib.Nat.{le-trans}
 use native.Mathlib.Omega.{arith}
-use Rattle.totals_spec.specs.Format.{room}
+use Rattle.totals_spec.specs.Format.{binary64, room}
 use Rattle.totals_spec.specs.Settings.{summandOf}
 use Rattle.totals_spec.specs.Terms.{Term, topOf}
 use Rattle.totals_spec.specs.Totals.{sumTerms, pairs, dotTerms}
 use Rattle.totals_spec.specs.Limit.{bottomOf, ceilDiv, mostPasses}
-use Rattle.totals_spec.specs.Careers.{binary64}
 use Rattle.totals_spec.specs.Promises.{Binary64-sum-limit, Binary64-square-limit, Binary64-dot-limit}
 use Rattle.totals_spec.proofs.Good.{AllGood, good-terms, good-pairs}
 use Rattle.totals_spec.proofs.Tops.{sum-top, single-sum-top, dot-top, bottom-high}

@@ -4,10 +4,9 @@ use Prim.Native.Nat.{ℕ, zero, suc, _≤_, _<_}
 use mathlib.Core.Bool.{false}
 use lib.ListN.{replicate, length-replicate}
 use Rattle.totals_spec.specs.Basics.{any}
-use Rattle.totals_spec.specs.Format.{validFormat}
-use Rattle.totals_spec.specs.Settings.{validSettings}
+use Rattle.totals_spec.specs.Format.{binary64, validFormat}
+use Rattle.totals_spec.specs.Settings.{withRounding, validSettings}
 use Rattle.totals_spec.specs.Totals.{stray, limit, sumRefusal, sumAnswer}
-use Rattle.totals_spec.specs.Careers.{binary64, withRounding}
 use Rattle.totals_spec.specs.Promises.{Zeros-accepted, Zeros-refused}
 use borrow.Author.Tests.{lt-ltb, le-ltb}
 use Rattle.totals_spec.proofs.Refused.{sum-refusal}

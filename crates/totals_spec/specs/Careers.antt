@@ -17,8 +17,8 @@ use lib.ListN.{replicate}
 use lib.IntN.{ℤ, pos, negsuc}
 use lib.Ieee.{size, span, climb}
 use Rattle.totals_spec.specs.Basics.{difference, raised}
-use Rattle.totals_spec.specs.Format.{Format, validFormat, bias, lift, exponentRange, depth, origin, fall, grid, rise}
-use Rattle.totals_spec.specs.Settings.{Settings, validSettings, precisionOf}
+use Rattle.totals_spec.specs.Format.{Format, binary64, validFormat, bias, lift, exponentRange, depth, origin, fall, grid, rise}
+use Rattle.totals_spec.specs.Settings.{Settings, withRounding, validSettings, precisionOf}
 use Rattle.totals_spec.specs.Decode.{decode, isSubnormal, operand}
 use Rattle.totals_spec.specs.Terms.{single, product, item, pairItem, plusSum, minusSum, topOf}
 use Rattle.totals_spec.specs.Chain.{lostEnd, lookAt, half, wrapped, decide, sumOf, pass, run, chain}
@@ -36,16 +36,8 @@ use Rattle.totals_spec.specs.Settled.{settled}
 use Rattle.totals_spec.specs.Hundredfold.{hundredItem, nearestWhole, wholeFigure, chainPence}
 use Rattle.totals_spec.specs.Program.{readFrom, hexText, decimalFrom, answerText, programText}
 
-unfoldable pub binary64 : Format
-binary64 = record { kind = 0; E = 11; W = 64; named = none }
-
 unfoldable pub binary16 : Format
 binary16 = record { kind = 0; E = 5; W = 16; named = none }
-
--- every setting 0 but the rounding
-unfoldable pub withRounding : ℕ → Settings
-withRounding m =
-    record { rounding = m; tininess = 0; nanPropagation = 0; defaultNanSign = 0; flushToZero = 0; denormalsAreZero = 0; saturate = 0; precision = 0 }
 
 -- ---- C1 to C12. Modes: 0 ties to even, 4 toward negative, 5 toward zero. Summands: 0 value, 1 magnitude, 2 square
 

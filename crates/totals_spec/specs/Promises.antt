@@ -11,8 +11,8 @@ use lib.IntN.{ℤ, pos}
 use lib.Dec.{T as Holds, eqb}
 use lib.Ieee.{size}
 use Rattle.totals_spec.specs.Basics.{any, flag}
-use Rattle.totals_spec.specs.Format.{Format, Kind, ieee, noInf, fnuz, finiteOnly, kindOf, biasOf, validFormat, digits, grid}
-use Rattle.totals_spec.specs.Settings.{Settings, validSettings, noSettings, value, summandOf}
+use Rattle.totals_spec.specs.Format.{Format, Kind, ieee, noInf, fnuz, finiteOnly, kindOf, biasOf, binary64, validFormat, digits, grid}
+use Rattle.totals_spec.specs.Settings.{Settings, withRounding, validSettings, noSettings, value, summandOf}
 use Rattle.totals_spec.specs.Decode.{Unpacked, zeroOf, finite, infinity, nan, decode, isNumber, isSubnormal}
 use Rattle.totals_spec.specs.Encode.{encode}
 use Rattle.totals_spec.specs.Terms.{Item, Term, item, pairItem, isZero, exactSum, topOf}
@@ -32,7 +32,7 @@ use Rattle.totals_spec.specs.Pence.{penceAnswer, sumFigure, sumPence}
 use Rattle.totals_spec.specs.Table.{columnOf, tableRefusal, tableAnswer}
 use Rattle.totals_spec.specs.Words.{formatBy, penceEntry, tableEntry}
 use Rattle.totals_spec.specs.Hundredfold.{chainPence}
-use Rattle.totals_spec.specs.Careers.{binary64, withRounding, careers, margins, allAgree, sideExamples, refusals, entryExample}
+use Rattle.totals_spec.specs.Careers.{careers, margins, allAgree, sideExamples, refusals, entryExample}
 use Rattle.totals_spec.specs.Careers.{penceExamples, biases, sumPenceExamples, tableExamples, programRuns, programAgrees}
 
 -- ==== the document's examples
