@@ -35,17 +35,21 @@ use Rattle.totals_spec.proofs.Refused.{sum-refusal, dot-refusal, sum-sm
 
 -- ---- tests in their order, each of which finds a condition, and the number of the first that is true
 
-data Tests : List Condition → ℕ → Type 1 where
+-- a later test may count on an earlier condition not to hold
+pub data Tests : List Condition → ℕ → Type 1 where
   last : Tests [] 0
-  test : {n rest : ℕ} {P : Type 0} {l : List Condition} (b : Bool) → T b ↔ P → Tests l rest → Tests ((n, P) ∷ l) (refuseIf b n rest)
+  unless : {n rest : ℕ} {P : Type 0} {l : List Condition} (b : Bool) → T b ↔ P → (¬ P → Tests l rest) → Tests ((n, P) ∷ l) (refuseIf b n rest)
 
-first-if : (b : Bool) (n rest : ℕ) (P : Type 0) (l : List Condition) → T b ↔ P → First l rest → First ((n, P) ∷ l) (refuseIf b n rest)
+pub test : {n rest : ℕ} {P : Type 0} {l : List Condition} (b : Bool) → T b ↔ P → Tests l rest → Tests ((n, P) ∷ l) (refuseIf b n rest)
+test b t h = unless b t (λ k. h)
+
+first-if : (b : Bool) (n rest : ℕ) (P : Type 0) (l : List Condition) → T b ↔ P → (¬ P → First l rest) → First ((n, P) ∷ l) (refuseIf b n rest)
 first-if true n rest P l t h = inl (t .0 tt, refl)
-first-if false n rest P l t h = inr (t .1, h)
+first-if false n rest P l t h = inr (t .1, h (t .1))
 
 first : {l : List Condition} {n : ℕ} → Tests l n → First l n
 first last = refl
-first (test {n} {rest} {P} {l} b t h) = first-if b n rest P l t (first h)
+first (unless {n} {rest} {P} {l} b t h) = first-if b n rest P l t (λ k. first (h k))
 
 one-first : (l : List Condition) (m n : ℕ) → First l m → First l n → m ≡ n
 one-first [] m n h k = h ∙ sym k
@@ -54,15 +58,15 @@ one-first (c ∷ l) m n (inl h) (inr k) = absurd (k .0 (h .0))
 one-first (c ∷ l) m n (inr h) (inl k) = absurd (h .0 (k .0))
 one-first (c ∷ l) m n (inr h) (inr k) = one-first l m n (h .1) (k .1)
 
-exactly : {l : List Condition} {m : ℕ} → Tests l m → (n : ℕ) → m ≡ n ↔ First l n
+pub exactly : {l : List Condition} {m : ℕ} → Tests l m → (n : ℕ) → m ≡ n ↔ First l n
 exactly {l} {m} t n = ((λ e. subst (First l) e (first t)), one-first l m n (first t))
 
 -- ---- what a test finds
 
-different : (a b : ℕ) → T (not (eqb a b)) ↔ a ≢ b
+pub different : (a b : ℕ) → T (not (eqb a b)) ↔ a ≢ b
 different a b = ((λ t e. T-not (eqb a b) t (T-of (eq-eqb a b e))), λ h. not-T (eqb a b) (λ t. h (eqb→eq a b t)))
 
-either : (a b : Bool) {A B : Type 0} → T a ↔ A → T b ↔ B → T (a || b) ↔ A ⊎ B
+pub either : (a b : Bool) {A B : Type 0} → T a ↔ A → T b ↔ B → T (a || b) ↔ A ⊎ B
 either true b h k = ((λ t. inl (h .0 tt)), λ p. tt)
 either false b {A} {B} h k = ((λ t. inr (k .0 t)), right)
   where
@@ -75,7 +79,7 @@ part-fails : (a b : Bool) {P : Type 0} → (T (not a) → P) → (T (not b) → 
 part-fails true b h k t = k t
 part-fails false b h k t = h tt
 
-not-both : (a b : Bool) {A B : Type 0} → T (not a) ↔ A → T (not b) ↔ B → T (not (a && b)) ↔ A ⊎ B
+pub not-both : (a b : Bool) {A B : Type 0} → T (not a) ↔ A → T (not b) ↔ B → T (not (a && b)) ↔ A ⊎ B
 not-both a b {A} {B} h k = (part-fails a b (λ t. inl (h .0 t)) (λ t. inr (k .0 t)), back a b (h .1) (k .1))
   where
     back : (a b : Bool) → (A → T (not a)) → (B → T (not b)) → A ⊎ B → T (not (a && b))
@@ -177,20 +181,20 @@ summand-fails u = ((λ t. omega (arith, nleb→lt u 2 t)), λ h. not-T (leb u 2)
 
 -- ---- 5 and 6
 
-unequal-found : (xs ys : List ℕ) → T (not (eqb (length xs) (length ys))) ↔ Unequal xs ys
+pub unequal-found : (xs ys : List ℕ) → T (not (eqb (length xs) (length ys))) ↔ Unequal xs ys
 unequal-found xs ys = ((λ t. omega (arith, different (length xs) (length ys) .0 t)), λ h. different (length xs) (length ys) .1 (omega (arith, h)))
 
-many-found : (l : List ℕ) → T (ltb limit (length l)) ↔ TooMany l
+pub many-found : (l : List ℕ) → T (ltb limit (length l)) ↔ TooMany l
 many-found l = ((λ t. omega (arith, ltb→lt limit (length l) t)), λ h. lt→ltb limit (length l) (omega (arith, h)))
 
 -- ---- 7
 
 -- some element passes a test, where each that passes it meets P
-module _ (t : ℕ → Bool) (P : ℕ → Type 0) (each : (x : ℕ) → T (t x) ↔ P x) where
-  abbrev Some : List ℕ → Type 0
-  Some l = (i : ℕ) × (i < length l) × P (getD l i 0)
+module _ {A : Type 0} (t : A → Bool) (P : A → Type 0) (each : (x : A) → T (t x) ↔ P x) (none : A) where
+  abbrev Some : List A → Type 0
+  Some l = (i : ℕ) × (i < length l) × P (getD l i none)
 
-  some-forth : (l : List ℕ) → T (any t l) → Some l
+  some-forth : (l : List A) → T (any t l) → Some l
   some-forth [] h = absurd h
   some-forth (x ∷ l) h = go (t x) (each x .0) h (some-forth l)
     where
@@ -198,7 +202,7 @@ module _ (t : ℕ → Bool) (P : ℕ → Type 0) (each : (x : ℕ) → T (t x) �
       go true k h ih = (0, suc-le-suc zero-le, k tt)
       go false k h ih = let s = ih h in (suc (s .0), suc-le-suc (s .1), s .2)
 
-  any-at : (l : List ℕ) (i : ℕ) → i < length l → P (getD l i 0) → T (any t l)
+  any-at : (l : List A) (i : ℕ) → i < length l → P (getD l i none) → T (any t l)
   any-at [] i h p = absurd (not-suc-le-zero h)
   any-at (x ∷ l) zero h p = or-left (t x) (any t l) (each x .1 p)
     where
@@ -211,14 +215,14 @@ module _ (t : ℕ → Bool) (P : ℕ → Type 0) (each : (x : ℕ) → T (t x) �
       or-right true b t = tt
       or-right false b t = t
 
-  some-found : (l : List ℕ) → T (any t l) ↔ Some l
+  pub some-found : (l : List A) → T (any t l) ↔ Some l
   some-found l = (some-forth l, λ s. any-at l (s .0) (s .1) (s .2))
 
-stray-bit : (f : Format) (b : ℕ) → T (stray f b) ↔ StrayBit f b
+pub stray-bit : (f : Format) (b : ℕ) → T (stray f b) ↔ StrayBit f b
 stray-bit f b = (leb→le (2 ^ (f .W)) b, le→leb (2 ^ (f .W)) b)
 
 stray-found : (f : Format) (l : List ℕ) → T (any (stray f) l) ↔ Stray f l
-stray-found f = some-found (stray f) (StrayBit f) (stray-bit f)
+stray-found f = some-found (stray f) (StrayBit f) (stray-bit f) 0
 
 -- ---- sums and dots
 
@@ -316,7 +320,7 @@ pence-refused-exactly f b n =
 
 -- ---- the pence of a list
 
-no-number-found : (v : Unpacked) → T (not (isNumber v)) ↔ NoNumber v
+pub no-number-found : (v : Unpacked) → T (not (isNumber v)) ↔ NoNumber v
 no-number-found (zeroOf s) = ((λ t. t), λ t. t)
 no-number-found (finite s k m) = ((λ t. t), λ t. t)
 no-number-found (infinity s) = ((λ t. t), λ t. t)
@@ -337,7 +341,7 @@ sum-pence-tests f l =
     (refuses (ltb limit (length l)) (refusedPence 6) _ (many-found l)
     (refuses (any (stray f) l) (refusedAt 7 (firstIndex (stray f) l)) _ (stray-found f l)
     (either-tests (any (notNumber f) l) (ltb x (2 ^ 63)) (cond (sum .neg) (negℤ (pos x)) (pos x))
-    (some-found (notNumber f) (λ b. NoNumber (decode f b)) (λ b. no-number-found (decode f b)) l) (large-found x))))
+    (some-found (notNumber f) (λ b. NoNumber (decode f b)) (λ b. no-number-found (decode f b)) 0 l) (large-found x))))
 
 pub sum-pence-refused-exactly : Sum-pence-refused-exactly
 sum-pence-refused-exactly f l n = exactly (sum-pence-tests f l) n

@@ -55,6 +55,15 @@ pub mod Nearest
 pub mod SumPence
 pub mod Hundredfold
 pub mod HundredTop
+-- Ranges: a directed rounding is the best bound of a sum, so the pair is the narrowest.
+pub mod Signed
+pub mod Directed
+pub mod Best
+pub mod Bounding
+pub mod Figures
+pub mod RangeRefused
+pub mod Ranges
+pub mod RangeOrder
 -- The promises: what `specs/Promises.antt` states. Read this one first.
 pub mod Promises
 -- More of a pass: how near S is to the exact sum, and that a boundary need not be taken off.

@@ -171,7 +171,7 @@ pub first-zero : (b : Bool) (n rest : ℕ) → refuseIf b (suc n) rest ≡ 0 →
 first-zero true n rest e = absurd (suc-ne-zero n e)
 first-zero false n rest e = (refl, e)
 
-not-false : (b : Bool) → not b ≡ false → T b
+pub not-false : (b : Bool) → not b ≡ false → T b
 not-false true e = tt
 not-false false e = absurd (true≢false e)
 

@@ -19,6 +19,8 @@ use Rattle.totals_spec.specs.Promises.{Sum-pence-agree, Sum-pence-refuse
 use Rattle.totals_spec.specs.Promises.{Pence-entry-refused-exactly, Pence-entry-refused}
 use Rattle.totals_spec.specs.Promises.{Tables-agree, Table-refused-exactly, Table-entry-refused-exactly, Table-refused, Table-place, Table-entry-refused}
 use Rattle.totals_spec.specs.Promises.{Table-entry-read-back, Table-grand, Table-row, Table-column, Column-cells, Table-untouched}
+use Rattle.totals_spec.specs.Promises.{Ranges-agree, Range-refused-exactly, Range-entry-refused-exactly, Range-refused, Range-entry-refused}
+use Rattle.totals_spec.specs.Promises.{Range-entry-read-back, Range-plain, Range-holds, Range-narrowest, Range-zero, Range-fits, Range-order}
 use Rattle.totals_spec.proofs.Bits.{low-divides, low-set, size-none, size-one-less}
 use Rattle.totals_spec.proofs.Good.{good-terms, good-pairs}
 use Rattle.totals_spec.proofs.Valid.{digits-le}
@@ -42,6 +44,10 @@ use Rattle.totals_spec.proofs.Own as biases
 use Rattle.totals_spec.proofs.SumPence as pence
 use Rattle.totals_spec.proofs.Hundredfold as hundredfold
 use Rattle.totals_spec.proofs.Table as tables
+use Rattle.totals_spec.specs.RangeExamples as tests-of-ranges
+use Rattle.totals_spec.proofs.RangeRefused as refused-ranges
+use Rattle.totals_spec.proofs.Ranges as ranges
+use Rattle.totals_spec.proofs.RangeOrder as ordered-ranges
 
 -- ==== the document's examples (specs/Careers, which computes them, and Careers)
 
@@ -259,6 +265,44 @@ column-cells = tables.column-cells
 
 pub table-untouched : Table-untouched
 table-untouched = tables.table-untouched
+
+-- ==== document 02, A.6: amounts known within a range (specs/RangeExamples, which computes the examples, RangeRefused, Ranges, RangeOrder)
+
+pub ranges-agree : Ranges-agree
+ranges-agree = tests-of-ranges.ranges-agree
+
+pub range-refused-exactly : Range-refused-exactly
+range-refused-exactly = refused-ranges.range-refused-exactly
+
+pub range-entry-refused-exactly : Range-entry-refused-exactly
+range-entry-refused-exactly = refused-ranges.range-entry-refused-exactly
+
+pub range-refused : Range-refused
+range-refused = refused-ranges.range-refused
+
+pub range-entry-refused : Range-entry-refused
+range-entry-refused = refused-ranges.range-entry-refused
+
+pub range-entry-read-back : Range-entry-read-back
+range-entry-read-back = refused-ranges.range-entry-read-back
+
+pub range-plain : Range-plain
+range-plain = ranges.range-plain
+
+pub range-holds : Range-holds
+range-holds = ranges.range-holds
+
+pub range-narrowest : Range-narrowest
+range-narrowest = ranges.range-narrowest
+
+pub range-zero : Range-zero
+range-zero = ranges.range-zero
+
+pub range-fits : Range-fits
+range-fits = ranges.range-fits
+
+pub range-order : Range-order
+range-order = ordered-ranges.range-order
 
 -- ==== document 02, A.7: a named bias (Own)
 

@@ -8,13 +8,14 @@ use mathlib.Core.Option.{Option, none, some}
 use Prim.Native.Nat.{ℕ, _+_, _*_, _%_, _^_, _≤_, _<_}
 use lib.ListN.{length, getD}
 use lib.IntN.{ℤ, natAbs}
-use Rattle.totals_spec.specs.Basics.{Signed}
-use Rattle.totals_spec.specs.Format.{Format, digits, depth, lift, origin, fall}
+use Rattle.totals_spec.specs.Basics.{Signed, plusOf, minusOf}
+use Rattle.totals_spec.specs.Format.{Format, binary64, digits, depth, lift, origin, fall}
 use Rattle.totals_spec.specs.Settings.{Settings, noSettings, value}
 use Rattle.totals_spec.specs.Decode.{Unpacked, zeroOf, finite, infinity, nan, decode}
 use Rattle.totals_spec.specs.Terms.{exactSum}
 use Rattle.totals_spec.specs.Totals.{limit, sumTerms}
 use Rattle.totals_spec.specs.Pence.{penceOf}
+use Rattle.totals_spec.specs.Ranges.{nothing, figureWorth}
 
 -- ---- 1 and 2: a length in bytes that is no multiple of 8, an answer buffer under 24 bytes
 
@@ -105,6 +106,31 @@ BadShape rows columns cells = rows * columns ≢ length cells
 abbrev pub NoRoom : (rows columns : ℕ) → List ℕ → List ℕ → Type 0
 NoRoom rows columns rowList columnList = (length rowList < rows) ⊎ (length columnList < columns)
 
+-- ---- 11: a tag above 2, a used figure that is no finite double, a low above its high; a ceiling that is no finite double, or below zero
+
+abbrev pub NoFigure : ℕ → Type 0
+NoFigure b = StrayBit binary64 b ⊎ NoNumber (decode binary64 b)
+
+-- of two numbers with a sign the first is the smaller one
+abbrev pub Below : Signed → Signed → Type 0
+Below x y = plusOf x + minusOf y < plusOf y + minusOf x
+
+abbrev pub BadEntry : (tag first second : ℕ) → Type 0
+BadEntry t x y =
+    (2 < t)
+    ⊎ ((t < 2) × NoFigure x)
+    ⊎ ((t ≡ 1) × (NoFigure y ⊎ Below (figureWorth y) (figureWorth x)))
+
+abbrev pub SomeBadEntry : (tags firsts seconds : List ℕ) → Type 0
+SomeBadEntry ts xs ys = (i : ℕ) × (i < length ts) × BadEntry (getD ts i 0) (getD xs i 0) (getD ys i 0)
+
+abbrev pub BadCeiling : ℕ → Type 0
+BadCeiling z = NoFigure z ⊎ Below (figureWorth z) nothing
+
+-- 2 of a range's entry: no room for two words
+abbrev pub NoPair : List ℕ → Type 0
+NoPair old = length old < 2
+
 -- ---- the first that holds
 
 -- a number and its condition
@@ -166,3 +192,13 @@ tableConditions f c rows columns cells rowList columnList =
 -- the entry's own, and then those of the table
 abbrev pub tableEntryConditions : ℕ → ℤ → List ℕ → List Condition → List Condition
 tableEntryConditions named b old table = (2, Short old) ∷ (3, Misnamed named b) ∷ table
+
+abbrev pub rangeConditions : (tags firsts seconds : List ℕ) (ceiling : ℕ) → List Condition
+rangeConditions ts xs ys z =
+    (5, Unequal ts xs ⊎ Unequal ts ys)
+    ∷ (6, TooMany ts)
+    ∷ (11, BadCeiling z ⊎ SomeBadEntry ts xs ys)
+    ∷ []
+
+abbrev pub rangeEntryConditions : (tags firsts seconds : List ℕ) (ceiling : ℕ) → List ℕ → List Condition
+rangeEntryConditions ts xs ys z old = (2, NoPair old) ∷ rangeConditions ts xs ys z

@@ -13,7 +13,7 @@ use lib.Ieee.{size}
 use Rattle.totals_spec.specs.Basics.{any, flag}
 use Rattle.totals_spec.specs.Format.{Format, Kind, ieee, noInf, fnuz, finiteOnly, kindOf, biasOf, binary64, validFormat, digits, grid}
 use Rattle.totals_spec.specs.Settings.{Settings, withRounding, validSettings, noSettings, value, summandOf}
-use Rattle.totals_spec.specs.Decode.{Unpacked, zeroOf, finite, infinity, nan, decode, isNumber, isSubnormal}
+use Rattle.totals_spec.specs.Decode.{Unpacked, zeroOf, finite, infinity, nan, decode, isNumber, isNan, isSubnormal}
 use Rattle.totals_spec.specs.Encode.{encode}
 use Rattle.totals_spec.specs.Terms.{Item, Term, item, pairItem, isZero, exactSum, topOf}
 use Rattle.totals_spec.specs.Chain.{Outcome, zeroSum, exactly, nearly, beside, unfinished, lookAt, chain}
@@ -26,14 +26,17 @@ use Rattle.totals_spec.specs.Limit.{lowBit, mostPasses}
 use Rattle.totals_spec.specs.Side.{sideOf}
 use Rattle.totals_spec.specs.Settled.{chainTotal}
 use Rattle.totals_spec.specs.Conditions.{Uneven, First, sumConditions, dotConditions, entryConditions, penceConditions, sumPenceConditions}
-use Rattle.totals_spec.specs.Conditions.{penceEntryConditions, tableConditions, tableEntryConditions}
+use Rattle.totals_spec.specs.Conditions.{penceEntryConditions, tableConditions, tableEntryConditions, rangeConditions, rangeEntryConditions}
 use Rattle.totals_spec.specs.Places.{StrayAt, DotStrayAt}
 use Rattle.totals_spec.specs.Pence.{penceAnswer, sumFigure, sumPence}
 use Rattle.totals_spec.specs.Table.{columnOf, tableRefusal, tableAnswer}
-use Rattle.totals_spec.specs.Words.{formatBy, penceEntry, tableEntry}
+use Rattle.totals_spec.specs.Ranges.{entries, triples, lowOf, highOf, plusZero, refusedRange, rangeRefusal, rangeAnswer}
+use Rattle.totals_spec.specs.Allowed.{Encloses, Ordered, sameTriple}
+use Rattle.totals_spec.specs.Words.{formatBy, penceEntry, tableEntry, rangeEntry}
 use Rattle.totals_spec.specs.Hundredfold.{chainPence}
 use Rattle.totals_spec.specs.Careers.{careers, margins, allAgree, sideExamples, refusals, entryExample}
 use Rattle.totals_spec.specs.Careers.{penceExamples, biases, sumPenceExamples, tableExamples, programRuns, programAgrees}
+use Rattle.totals_spec.specs.RangeExamples.{rangeExamples}
 
 -- ==== the document's examples
 
@@ -60,6 +63,10 @@ Sum-pence-agree = Holds sumPenceExamples
 -- tables: of both shapes of the same cells, without rows or columns, with NaNs and infinities, each refusal but 6 and two at once, and their entry
 abbrev pub Tables-agree : Type 0
 Tables-agree = Holds tableExamples
+
+-- ranges: directed roundings and infinities, zeros, figures that are not used, each cause of 11, and 5 before it
+abbrev pub Ranges-agree : Type 0
+Ranges-agree = Holds rangeExamples
 
 -- the examples of the refusals, of a byte entry, of pence and of the program
 abbrev pub Examples-agree : Type 0
@@ -352,6 +359,68 @@ Table-untouched = (f : Format) (c : Settings) (rows columns : ℕ) (cells old ot
     → let t = tableAnswer f c rows columns cells old other in
     (length (t .rowTotals) ≡ length old) × (drop rows (t .rowTotals) ≡ drop rows old)
     × (length (t .columnTotals) ≡ length other) × (drop columns (t .columnTotals) ≡ drop columns other)
+
+-- ==== amounts known within a range (document 02, A.6)
+
+-- the number in the record is that of the first condition that holds, in the order 5, 6, 11; and 0 exactly where none holds
+abbrev pub Range-refused-exactly : Type 0
+Range-refused-exactly = (ts xs ys : List ℕ) (z n : ℕ) → (rangeAnswer ts xs ys z) .refusal ≡ n ↔ First (rangeConditions ts xs ys z) n
+
+-- of its entry 2 before these
+abbrev pub Range-entry-refused-exactly : Type 0
+Range-entry-refused-exactly = (ts xs ys : List ℕ) (z : ℕ) (old : List ℕ) (n : ℕ)
+    → (rangeEntry ts xs ys z old) .code ≡ n ↔ First (rangeEntryConditions ts xs ys z old) n
+
+-- a refused record is 0 but for the number
+abbrev pub Range-refused : Type 0
+Range-refused = (ts xs ys : List ℕ) (z : ℕ) → rangeRefusal ts xs ys z ≢ 0
+    → rangeAnswer ts xs ys z ≡ refusedRange (rangeRefusal ts xs ys z)
+
+-- a refused entry writes nothing
+abbrev pub Range-entry-refused : Type 0
+Range-entry-refused = (ts xs ys : List ℕ) (z : ℕ) (old : List ℕ) → (rangeEntry ts xs ys z old) .code ≢ 0 → (rangeEntry ts xs ys z old) .pair ≡ old
+
+-- where it returns 0, the first two words are the lower and the upper total, and what follows is as it was
+abbrev pub Range-entry-read-back : Type 0
+Range-entry-read-back = (ts xs ys : List ℕ) (z : ℕ) (old : List ℕ) → let new = (rangeEntry ts xs ys z old) .pair in
+    (rangeEntry ts xs ys z old) .code ≡ 0
+    → (getD new 0 0 ≡ (rangeAnswer ts xs ys z) .lower) × (getD new 1 0 ≡ (rangeAnswer ts xs ys z) .upper)
+    × (drop 2 new ≡ drop 2 old) × (length new ≡ length old)
+
+-- of an accepted call: the lows and the highs are accepted by the plain sum, and the pair is what it gives for them toward negative and toward
+-- positive, with +0 for −0
+abbrev pub Range-plain : Type 0
+Range-plain = (ts xs ys : List ℕ) (z : ℕ) → rangeRefusal ts xs ys z ≡ 0
+    → let lows = map lowOf (entries ts xs ys) in let highs = map (highOf z) (entries ts xs ys) in
+    (sumRefusal binary64 (withRounding 4) 0 lows ≡ 0) × (sumRefusal binary64 (withRounding 3) 0 highs ≡ 0)
+    × ((rangeAnswer ts xs ys z) .lower ≡ plusZero ((sumAnswer binary64 (withRounding 4) 0 lows) .result))
+    × ((rangeAnswer ts xs ys z) .upper ≡ plusZero ((sumAnswer binary64 (withRounding 3) 0 highs) .result))
+
+-- whichever amounts the entries allow, their exact sum lies between the two
+abbrev pub Range-holds : Type 0
+Range-holds = (ts xs ys : List ℕ) (z : ℕ) → rangeRefusal ts xs ys z ≡ 0
+    → let r = rangeAnswer ts xs ys z in Encloses z (entries ts xs ys) (r .lower) (r .upper)
+
+-- and each pair of doubles or infinities of which that is true is no narrower, on either side
+abbrev pub Range-narrowest : Type 0
+Range-narrowest = (ts xs ys : List ℕ) (z low high : ℕ) → rangeRefusal ts xs ys z ≡ 0 → Encloses z (entries ts xs ys) low high
+    → let r = rangeAnswer ts xs ys z in
+    Ordered (decode binary64 low) (decode binary64 (r .lower)) × Ordered (decode binary64 (r .upper)) (decode binary64 high)
+
+-- a zero in the pair is +0: neither is 2^63, which is −0
+abbrev pub Range-zero : Type 0
+Range-zero = (ts xs ys : List ℕ) (z : ℕ) → let r = rangeAnswer ts xs ys z in (r .lower ≢ 2 ^ 63) × (r .upper ≢ 2 ^ 63)
+
+-- both are encodings of 64 bits, and no NaN; of refused calls too
+abbrev pub Range-fits : Type 0
+Range-fits = (ts xs ys : List ℕ) (z : ℕ) → let r = rangeAnswer ts xs ys z in
+    (r .lower < 2 ^ 64) × (r .upper < 2 ^ 64) × (isNan (decode binary64 (r .lower)) ≡ false) × (isNan (decode binary64 (r .upper)) ≡ false)
+
+-- a rearrangement of the entries of an accepted call is accepted, and has the same record
+abbrev pub Range-order : Type 0
+Range-order = (ts xs ys ts′ xs′ ys′ : List ℕ) (z : ℕ) → length ts′ ≡ length xs′ → length ts′ ≡ length ys′
+    → AsOften sameTriple (triples ts xs ys) (triples ts′ xs′ ys′) → rangeRefusal ts xs ys z ≡ 0
+    → (rangeRefusal ts′ xs′ ys′ z ≡ 0) × (rangeAnswer ts xs ys z ≡ rangeAnswer ts′ xs′ ys′ z)
 
 -- ==== PROMISE 3: the order
 
