@@ -75,4 +75,5 @@ pub mod Values
 pub mod Accepts
 pub mod Reached
 pub mod Kept
+pub mod Monotone
 pub mod Skip

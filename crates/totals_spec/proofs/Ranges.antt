@@ -6,7 +6,7 @@ use mathlib.Core.List.{List, [], _∷_, map}
 use Prim.Native.Nat.{ℕ, _+_, _*_, _^_, _≤_, _<_}
 use native.Mathlib.Nat.{le-refl, mul-add, mul-zero}
 use native.Mathlib.Omega.{arith}
-use lib.ListN.{length, length-map}
+use lib.ListN.{length, length-map, getD, List·getD-map}
 use lib.Dec.{T, ltb, eqb, leb→le, le→leb, eqb→eq}
 use borrow.Author.Tests.{ltb-false, eqb-false}
 use Rattle.totals_spec.specs.Basics.{Signed, plusOf, minusOf, difference, total, any}
@@ -14,7 +14,7 @@ use Rattle.totals_spec.specs.Format.{binary64}
 use Rattle.totals_spec.specs.Settings.{withRounding}
 use Rattle.totals_spec.specs.Decode.{Unpacked, zeroOf, finite, infinity, nan, decode, isNan}
 use Rattle.totals_spec.specs.Totals.{limit}
-use Rattle.totals_spec.specs.Ranges.{Amount, known, between, missing, untold, triples, entryOf, entries, lowOf, highOf, figureWorth, atMost, goodFigure}
+use Rattle.totals_spec.specs.Ranges.{Amount, known, between, missing, untold, amountOf, triples, entryOf, entries, lowOf, highOf, figureWorth, atMost, goodFigure}
 use Rattle.totals_spec.specs.Ranges.{goodAmount, goodCeiling, rangeRefusal, plusZero, lowerTotal, upperTotal, Range, refusedRange, ranged, rangeAnswer}
 use Rattle.totals_spec.specs.Table.{plainTotal}
 use Rattle.totals_spec.specs.Allowed.{parts, AllAllowed, sumOfAmounts, Ordered, Encloses}
@@ -26,7 +26,22 @@ use Rattle.totals_spec.proofs.Best.{Best, decode-fits}
 use Rattle.totals_spec.proofs.Bounding.{one-part, lower-holds, upper-holds, lower-best, upper-best}
 use Rattle.totals_spec.proofs.Figures.{format, is-ieee, mode-4, mode-3, downward, upward, AllFigures, amounts, accepted, rounds}
 use Rattle.totals_spec.proofs.Fits.{sum-fits}
-use Rattle.totals_spec.proofs.RangeRefused.{triples-length}
+use Rattle.totals_spec.proofs.RangeRefused.{triples-length, triples-at}
+
+-- ---- an entry, its low and its high stand where their three numbers do
+
+module _ (ts xs ys : List ℕ) (e : length ts ≡ length xs) (h : length ts ≡ length ys) where
+  pub entries-length : length (entries ts xs ys) ≡ length ts
+  entries-length = length-map (triples ts xs ys) entryOf ∙ triples-length ts xs ys e h
+
+  pub entry-at : (i : ℕ) → getD (entries ts xs ys) i (known 0) ≡ amountOf (getD ts i 0) (getD xs i 0) (getD ys i 0)
+  entry-at i = List·getD-map entryOf (triples ts xs ys) i (0, 0, 0) ∙ ap entryOf (triples-at ts xs ys e h i)
+
+  pub low-at : (i : ℕ) → getD (map lowOf (entries ts xs ys)) i 0 ≡ lowOf (amountOf (getD ts i 0) (getD xs i 0) (getD ys i 0))
+  low-at i = List·getD-map lowOf (entries ts xs ys) i (known 0) ∙ ap lowOf (entry-at i)
+
+  pub high-at : (z i : ℕ) → getD (map (highOf z) (entries ts xs ys)) i 0 ≡ highOf z (amountOf (getD ts i 0) (getD xs i 0) (getD ys i 0))
+  high-at z i = List·getD-map (highOf z) (entries ts xs ys) i (known 0) ∙ ap (highOf z) (entry-at i)
 
 -- ---- the entries of an accepted call
 
@@ -87,7 +102,7 @@ accepts ts xs ys z e =
     record {
       firsts = i;
       seconds = j;
-      few = rw (length-map (triples ts xs ys) entryOf, triples-length ts xs ys i j) (ltb-false limit (length ts) (b .0));
+      few = rw (entries-length ts xs ys i j) (ltb-false limit (length ts) (b .0));
       each = all-bounded z (entries ts xs ys) (not-false (goodCeiling z) (h .0)) (h .1);
     }
 
