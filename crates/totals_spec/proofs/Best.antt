@@ -4,7 +4,8 @@ use mathlib.Core.Path.{_≡_, refl, sym, ap, _∙_, subst}
 use mathlib.Core.Bool.{Bool, true, false, not, _&&_, cond, true≢false}
 use mathlib.Core.List.{List, [], _∷_}
 use Prim.Native.Nat.{ℕ, zero, suc, _+_, _-_, _*_, _/_, _%_, _^_, _≤_, _<_, max, zero-le}
-use native.Mathlib.Nat.{eq-of-mul-eq-mul-right, le-refl, le-trans, le-mul-of-pos-right, lt-of-le-of-lt, mul-assoc, mul-le-mul, mul-le-mul-right, le-of-mul-le-mul-right, lt-of-mul-lt-mul-right, le-of-lt, zero-mul, mod-lt}
+use native.Mathlib.Nat.{eq-of-mul-eq-mul-right, le-refl, le-trans, le-mul-of-pos-right, lt-of-le-of-lt, mul-assoc, mul-le-mul, mul-le-mul-right}
+use native.Mathlib.Nat.{le-of-mul-le-mul-right, lt-of-mul-lt-mul-right, le-of-lt, zero-mul, mod-lt}
 use native.Mathlib.Omega.{arith}
 use lib.Dec.{eqb}
 use lib.Pow.{pow-add, pow-pos, pow-mono}

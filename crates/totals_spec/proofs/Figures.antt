@@ -5,22 +5,22 @@ use mathlib.Core.Bool.{Bool, true, false, cond, not, _||_}
 use mathlib.Core.List.{List, [], _∷_, map}
 use Prim.Native.Nat.{ℕ, _+_, _*_, _^_, _≤_}
 use native.Mathlib.Nat.{add-mul, zero-mul, zero-add}
+use lib.ListN.{length}
+use lib.Dec.{T, eqb}
+use borrow.Author.Tests.{le-ltb, eqb-true}
 use Rattle.totals_spec.specs.Basics.{Signed, plusOf, minusOf, isSet, total, keep, any}
+use Rattle.totals_spec.specs.Bounds.{RangeBounds}
 use Rattle.totals_spec.specs.Format.{Format, room, binary64, validFormat, ieee, kindOf, grid}
 use Rattle.totals_spec.specs.Settings.{Settings, value, withRounding, validSettings, precisionOf}
 use Rattle.totals_spec.specs.Decode.{Unpacked, zeroOf, finite, infinity, nan, decode, operand}
 use Rattle.totals_spec.specs.Terms.{Term, single, item, itemOf, termOf, plusSum, minusSum}
 use Rattle.totals_spec.specs.Totals.{sumTerms, stray, limit, sumRefusal, sumAnswer}
 use Rattle.totals_spec.specs.Ranges.{worth, figureWorth, goodFigure, plusZero}
-use Rattle.totals_spec.proofs.Best.{off-grid, Best, Directs, total-best}
-use lib.ListN.{length}
-use lib.Dec.{T, eqb}
-use borrow.Author.Tests.{le-ltb, eqb-true}
-use Rattle.totals_spec.specs.Bounds.{RangeBounds}
-use Rattle.totals_spec.specs.Promises.{AllFinite}
 use Rattle.totals_spec.specs.Allowed.{sumOfAmounts}
+use Rattle.totals_spec.specs.Promises.{AllFinite}
 use Rattle.totals_spec.proofs.Valid.{and-left, and-right, format-bounds}
 use Rattle.totals_spec.proofs.Finite.{sum-finite}
+use Rattle.totals_spec.proofs.Best.{off-grid, Best, Directs, total-best}
 
 -- the negative part of a signed number where `minus` says so, else the positive one
 abbrev part : (minus s : Bool) → ℕ → ℕ
@@ -151,10 +151,12 @@ module _ (m : ℕ) (mode : validSettings binary64 (withRounding m) ≡ true) whe
         Best binary64 (x .neg) (x .mag) (up (x .neg)) (decode binary64 (plusZero (sumAnswer binary64 (withRounding m) 0 l .result))))
     unfolding grid figureWorth
     rounds up d =
-        unsigned _ _ _ (sumAnswer binary64 (withRounding m) 0 l .result)
-        (rw (sum-finite binary64 (withRounding m) 0 l accepted (all-finite l figures))
-        (total-best binary64 format is-ieee (withRounding m) up d _ _ (sumTerms binary64 (withRounding m) value l) (total plusOf (amounts l)) (total minusOf (amounts l))
-        (plus-values binary64 (withRounding m) keeps l) (minus-values binary64 (withRounding m) keeps l)))
+        let c = withRounding m in
+        let r = sumAnswer binary64 c 0 l .result in
+        unsigned _ _ _ r
+        (rw (sum-finite binary64 c 0 l accepted (all-finite l figures))
+        (total-best binary64 format is-ieee c up d _ _ (sumTerms binary64 c value l) (total plusOf (amounts l)) (total minusOf (amounts l))
+        (plus-values binary64 c keeps l) (minus-values binary64 c keeps l)))
       where
         keeps : isSet (withRounding m .denormalsAreZero) ≡ false
         keeps = unfold withRounding in refl

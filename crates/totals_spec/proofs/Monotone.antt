@@ -176,7 +176,9 @@ bits-ordered false true u v = both (magnitudeOf 52 u) (magnitudeOf 52 v) ∙ ap�
 pub figures-ordered : (a b : ℕ) → T (goodFigure a) → T (goodFigure b)
     → atMost (figureWorth a) (figureWorth b) ≡ orderedBits (signBit binary64 a) (signBit binary64 b) (a % 2 ^ 63) (b % 2 ^ 63)
 unfolding figureWorth
-figures-ordered a b h k = ap₂ leb (ap₂ _+_ (plus a h) (minus b k)) (ap₂ _+_ (plus b k) (minus a h)) ∙ bits-ordered (signBit binary64 a) (signBit binary64 b) (a % 2 ^ 63) (b % 2 ^ 63)
+figures-ordered a b h k =
+    ap₂ leb (ap₂ _+_ (plus a h) (minus b k)) (ap₂ _+_ (plus b k) (minus a h))
+    ∙ bits-ordered (signBit binary64 a) (signBit binary64 b) (a % 2 ^ 63) (b % 2 ^ 63)
   where
     is-number : (n : ℕ) → T (goodFigure n) → T (isNumber (decode binary64 n))
     is-number n h = and-right (not (stray binary64 n)) (isNumber (decode binary64 n)) h

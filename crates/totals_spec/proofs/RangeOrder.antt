@@ -47,7 +47,8 @@ no-nan (b ∷ l) h = go (decode binary64 b) (and-right (not (stray binary64 b)) 
     go (nan s g m) t e = absurd t
 
 -- the result of the plain sum of rearranged figures
-sums : (m : ℕ) → validSettings binary64 (withRounding m) ≡ true → (h : Amount → ℕ) {l l′ : List Amount} → List·Permᴰ l l′ → AllFigures (map h l) → length l ≤ limit
+sums : (m : ℕ) → validSettings binary64 (withRounding m) ≡ true → (h : Amount → ℕ) {l l′ : List Amount} → List·Permᴰ l l′
+    → AllFigures (map h l) → length l ≤ limit
     → sumAnswer binary64 (withRounding m) 0 (map h l) ≡ sumAnswer binary64 (withRounding m) 0 (map h l′)
 sums m mode h {l} d figures few =
     sum-perm binary64 (withRounding m) 0 (map-perm h d) (accepted m mode (map h l) figures (rw (length-map l h) few)) (no-nan (map h l) figures)

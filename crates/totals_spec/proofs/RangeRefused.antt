@@ -1,9 +1,9 @@
 -- Refusals of ranges (document 02, A.6): each number exactly under its condition, refused records, and what the entry leaves.
-use mathlib.Core.Path.{_≡_, refl, sym, ap, ap₂, _∙_, subst}
+use mathlib.Core.Path.{_≡_, refl, sym, ap, subst}
 use mathlib.Core.Logic.{_≢_, _↔_, _⊎_, inl, inr}
 use mathlib.Core.Bool.{Bool, true, false, not, _&&_, _||_, cond}
 use mathlib.Core.List.{List, [], _∷_, map}
-use Prim.Native.Nat.{ℕ, zero, suc, _+_, _<_, _≤_, zero-le, suc-le-suc}
+use Prim.Native.Nat.{ℕ, zero, suc, _+_, _<_, _≤_}
 use native.Mathlib.Nat.{suc-inj, suc-ne-zero, not-suc-le-zero, le-of-suc-le-suc}
 use native.Mathlib.Omega.{arith}
 use lib.Dec.{T, not-T, leb, ltb, eqb, leb→le, ltb→lt, lt→ltb, nleb→lt, nltb→le, eqb→eq}
@@ -13,10 +13,10 @@ use Rattle.totals_spec.specs.Basics.{Signed, plusOf, minusOf, any}
 use Rattle.totals_spec.specs.Format.{binary64}
 use Rattle.totals_spec.specs.Decode.{decode, isNumber}
 use Rattle.totals_spec.specs.Totals.{stray, limit, refuseIf}
-use Rattle.totals_spec.specs.Ranges.{Amount, amountOf, triples, entryOf, entries, nothing, figureWorth, atMost, goodFigure, goodAmount, goodCeiling}
+use Rattle.totals_spec.specs.Ranges.{amountOf, triples, entryOf, entries, nothing, figureWorth, atMost, goodFigure, goodAmount, goodCeiling}
 use Rattle.totals_spec.specs.Ranges.{Range, refusedRange, ranged, rangeRefusal, lowerTotal, upperTotal, rangeAnswer}
 use Rattle.totals_spec.specs.Words.{PairEntry, pairEntered, rangeEntry}
-use Rattle.totals_spec.specs.Conditions.{StrayBit, Unequal, NoFigure, Below, BadEntry, SomeBadEntry, BadCeiling, NoPair, rangeConditions, rangeEntryConditions}
+use Rattle.totals_spec.specs.Conditions.{Unequal, NoFigure, Below, BadEntry, SomeBadEntry, BadCeiling, NoPair, rangeConditions}
 use Rattle.totals_spec.specs.Promises.{Range-refused-exactly, Range-entry-refused-exactly, Range-refused, Range-entry-refused, Range-entry-read-back}
 use Rattle.totals_spec.proofs.Exactly.{Tests, last, unless, test, exactly, either, not-both, unequal-found, many-found, some-found, stray-bit}
 use Rattle.totals_spec.proofs.Exactly.{no-number-found}
@@ -46,7 +46,9 @@ any-map t f (x ∷ l) = ap (λ (b : Bool). t (f x) || b) (any-map t f l)
 -- ---- what the tests of number 11 find
 
 figure-found : (b : ℕ) → T (not (goodFigure b)) ↔ NoFigure b
-figure-found b = not-both (not (stray binary64 b)) (isNumber (decode binary64 b)) (twice (stray binary64 b) (stray-bit binary64 b)) (no-number-found (decode binary64 b))
+figure-found b =
+    not-both (not (stray binary64 b)) (isNumber (decode binary64 b)) (twice (stray binary64 b) (stray-bit binary64 b))
+    (no-number-found (decode binary64 b))
   where
     twice : {P : Type 0} (a : Bool) → T a ↔ P → T (not (not a)) ↔ P
     twice true h = h

@@ -14,8 +14,9 @@ use Rattle.totals_spec.specs.Format.{binary64}
 use Rattle.totals_spec.specs.Settings.{withRounding}
 use Rattle.totals_spec.specs.Decode.{Unpacked, zeroOf, finite, infinity, nan, decode, isNan}
 use Rattle.totals_spec.specs.Totals.{limit}
-use Rattle.totals_spec.specs.Ranges.{Amount, known, between, missing, untold, amountOf, triples, entryOf, entries, lowOf, highOf, figureWorth, atMost, goodFigure}
-use Rattle.totals_spec.specs.Ranges.{goodAmount, goodCeiling, rangeRefusal, plusZero, lowerTotal, upperTotal, Range, refusedRange, ranged, rangeAnswer}
+use Rattle.totals_spec.specs.Ranges.{Amount, known, between, missing, untold, amountOf, triples, entryOf, entries, lowOf, highOf}
+use Rattle.totals_spec.specs.Ranges.{figureWorth, atMost, goodFigure, goodAmount, goodCeiling, rangeRefusal, plusZero, lowerTotal, upperTotal}
+use Rattle.totals_spec.specs.Ranges.{Range, refusedRange, ranged, rangeAnswer}
 use Rattle.totals_spec.specs.Table.{plainTotal}
 use Rattle.totals_spec.specs.Allowed.{parts, AllAllowed, sumOfAmounts, Ordered, Encloses}
 use Rattle.totals_spec.specs.Promises.{Range-holds, Range-narrowest, Range-plain, Range-zero, Range-fits}
@@ -200,8 +201,7 @@ module _ (z : ℕ) (l : List Amount) (few : length l ≤ limit) (each : AllBound
   pub numbers : (isNan (decode binary64 (lowerTotal l)) ≡ false) × (isNan (decode binary64 (upperTotal z l)) ≡ false)
   numbers =
       let low = sumOfAmounts (amounts (map lowOf l)) in
-      let high = sumOfAmounts (amounts (map (highOf z) l)) in
-      (
+      let high = sumOfAmounts (amounts (map (highOf z) l)) in (
         best-number (low .neg) (low .neg) (low .mag) (decode binary64 (lowerTotal l)) lower-is,
         best-number (high .neg) (not (high .neg)) (high .mag) (decode binary64 (upperTotal z l)) upper-is,
       )
