@@ -18,7 +18,7 @@ use Rattle.totals_spec.specs.Ranges.{Amount, known, between, missing, un
 use Rattle.totals_spec.specs.Ranges.{figureWorth, atMost, goodFigure, goodAmount, goodCeiling, rangeRefusal, plusZero, lowerTotal, upperTotal}
 use Rattle.totals_spec.specs.Ranges.{Range, refusedRange, ranged, rangeAnswer}
 use Rattle.totals_spec.specs.Table.{plainTotal}
-use Rattle.totals_spec.specs.Allowed.{parts, AllAllowed, sumOfAmounts, Ordered, Encloses}
+use Rattle.totals_spec.specs.Allowed.{parts, Inside, Allowed, AllAllowed, sumOfAmounts, Ordered, Encloses}
 use Rattle.totals_spec.specs.Promises.{Range-holds, Range-narrowest, Range-plain, Range-zero, Range-fits}
 use Rattle.totals_spec.proofs.Valid.{and-left, and-right}
 use Rattle.totals_spec.proofs.Order.{first-zero, not-false, or-split}
@@ -46,10 +46,18 @@ module _ (ts xs ys : List ℕ) (e : length ts ≡ length xs) (h : length ts ≡ 
 
 -- ---- the entries of an accepted call
 
+-- an entry allows what lies between its low and its high, which are finite and in order
 pub record Bounded (z : ℕ) (a : Amount) : Type 0 where
   low : T (goodFigure (lowOf a))
   high : T (goodFigure (highOf z a))
   ordered : T (atMost (figureWorth (lowOf a)) (figureWorth (highOf z a)))
+  allows : (d : ℕ) (x : Signed) → Inside d (lowOf a) (highOf z a) x → Allowed d z a x
+
+inside : (d z : ℕ) (a : Amount) (x : Signed) → Allowed d z a x → Inside d (lowOf a) (highOf z a) x
+inside d z (known a) x h = h
+inside d z (between a b) x h = h
+inside d z missing x h = h
+inside d z untold x h = absurd h
 
 abbrev pub AllBounded : ℕ → List Amount → Type 0
 AllBounded z [] = Unit {0}
@@ -60,13 +68,14 @@ at-itself v = le→leb _ _ (le-refl (plusOf v + minusOf v))
 
 bounded : (z : ℕ) (a : Amount) → T (goodCeiling z) → T (goodAmount a) → Bounded z a
 unfolding figureWorth decode binary64
-bounded z (known a) c h = record { low = h; high = h; ordered = at-itself (figureWorth a) }
+bounded z (known a) c h = record { low = h; high = h; ordered = at-itself (figureWorth a); allows = λ d x k. k }
 bounded z (between a b) c h = record {
   low = and-left (goodFigure a) (goodFigure b) (and-left (goodFigure a && goodFigure b) _ h);
   high = and-right (goodFigure a) (goodFigure b) (and-left (goodFigure a && goodFigure b) _ h);
   ordered = and-right (goodFigure a && goodFigure b) _ h;
+  allows = λ d x k. k;
 }
-bounded z missing c h = record { low = tt; high = and-left (goodFigure z) _ c; ordered = and-right (goodFigure z) _ c }
+bounded z missing c h = record { low = tt; high = and-left (goodFigure z) _ c; ordered = and-right (goodFigure z) _ c; allows = λ d x k. k }
 bounded z untold c h = absurd h
 
 all-bounded : (z : ℕ) (l : List Amount) → T (goodCeiling z) → any (λ a. not (goodAmount a)) l ≡ false → AllBounded z l
@@ -132,7 +141,7 @@ module _ (d z : ℕ) where
       omega (
         arith,
         low-sums l xs (h .1),
-        leb→le (plusOf (parts d v) + minusOf x) (plusOf x + minusOf (parts d v)) (h .0 .0),
+        leb→le (plusOf (parts d v) + minusOf x) (plusOf x + minusOf (parts d v)) (inside d z a x (h .0) .0),
         plus-parts v,
         minus-parts v,
         mul-add d (plusOf v) (total plusOf (amounts (map lowOf l))),
@@ -149,7 +158,7 @@ module _ (d z : ℕ) where
       omega (
         arith,
         high-sums l xs (h .1),
-        leb→le (plusOf x + minusOf (parts d v)) (plusOf (parts d v) + minusOf x) (h .0 .1),
+        leb→le (plusOf x + minusOf (parts d v)) (plusOf (parts d v) + minusOf x) (inside d z a x (h .0) .1),
         plus-parts v,
         minus-parts v,
         mul-add d (plusOf v) (total plusOf (amounts (map (highOf z) l))),
@@ -173,13 +182,13 @@ lows-allowed : (z : ℕ) (l : List Amount) → AllBounded z l → AllAllowed 1 z
 lows-allowed z [] h = tt
 lows-allowed z (a ∷ l) h =
     let u = figureWorth (lowOf a) in
-    (within u (figureWorth (highOf z a)) u (at-itself u) (h .0 .ordered), lows-allowed z l (h .1))
+    (h .0 .allows 1 u (within u (figureWorth (highOf z a)) u (at-itself u) (h .0 .ordered)), lows-allowed z l (h .1))
 
 highs-allowed : (z : ℕ) (l : List Amount) → AllBounded z l → AllAllowed 1 z l (amounts (map (highOf z) l))
 highs-allowed z [] h = tt
 highs-allowed z (a ∷ l) h =
     let v = figureWorth (highOf z a) in
-    (within (figureWorth (lowOf a)) v v (h .0 .ordered) (at-itself v), highs-allowed z l (h .1))
+    (h .0 .allows 1 v (within (figureWorth (lowOf a)) v v (h .0 .ordered) (at-itself v)), highs-allowed z l (h .1))
 
 -- ---- the two totals are best bounds, and no NaN bounds anything
 

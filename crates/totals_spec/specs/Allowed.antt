@@ -7,7 +7,7 @@ use lib.Dec.{T, eqb}
 use Rattle.totals_spec.specs.Basics.{Signed, plusOf, minusOf, difference, total}
 use Rattle.totals_spec.specs.Format.{binary64}
 use Rattle.totals_spec.specs.Decode.{Unpacked, zeroOf, finite, infinity, nan, decode}
-use Rattle.totals_spec.specs.Ranges.{Amount, lowOf, highOf, nothing, worth, figureWorth, atMost}
+use Rattle.totals_spec.specs.Ranges.{Amount, known, between, missing, untold, nothing, worth, figureWorth, atMost}
 
 -- ---- amounts
 
@@ -15,9 +15,16 @@ use Rattle.totals_spec.specs.Ranges.{Amount, lowOf, highOf, nothing, wor
 abbrev pub parts : ℕ → Signed → Signed
 parts d x = record { neg = x .neg; mag = d * x .mag }
 
--- an entry allows x d-th parts
+-- x d-th parts are no less than one figure and no more than another
+abbrev pub Inside : (d low high : ℕ) → Signed → Type 0
+Inside d low high x = T (atMost (parts d (figureWorth low)) x) × T (atMost x (parts d (figureWorth high)))
+
+-- an entry allows what is known, what lies between its figures, or what lies between zero and the ceiling
 abbrev pub Allowed : (d ceiling : ℕ) → Amount → Signed → Type 0
-Allowed d z a x = T (atMost (parts d (figureWorth (lowOf a))) x) × T (atMost x (parts d (figureWorth (highOf z a))))
+Allowed d z (known a) x = Inside d a a x
+Allowed d z (between a b) x = Inside d a b x
+Allowed d z missing x = Inside d 0 z x
+Allowed d z untold x = ⊥
 
 -- entry by entry
 abbrev pub AllAllowed : (d ceiling : ℕ) → List Amount → List Signed → Type 0
