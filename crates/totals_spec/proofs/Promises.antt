@@ -20,7 +20,8 @@ use Rattle.totals_spec.specs.Promises.{Pence-entry-refused-exactly, Penc
 use Rattle.totals_spec.specs.Promises.{Tables-agree, Table-refused-exactly, Table-entry-refused-exactly, Table-refused, Table-place, Table-entry-refused}
 use Rattle.totals_spec.specs.Promises.{Table-entry-read-back, Table-grand, Table-row, Table-column, Column-cells, Table-untouched}
 use Rattle.totals_spec.specs.Promises.{Ranges-agree, Range-refused-exactly, Range-entry-refused-exactly, Range-refused, Range-entry-refused}
-use Rattle.totals_spec.specs.Promises.{Range-entry-read-back, Range-plain, Range-holds, Range-narrowest, Range-zero, Range-fits, Range-order}
+use Rattle.totals_spec.specs.Promises.{Range-entry-read-back, Range-entries-kept, Range-plain, Range-holds, Range-narrowest}
+use Rattle.totals_spec.specs.Promises.{Range-zero, Range-fits, Range-order}
 use Rattle.totals_spec.proofs.Bits.{low-divides, low-set, size-none, size-one-less}
 use Rattle.totals_spec.proofs.Good.{good-terms, good-pairs}
 use Rattle.totals_spec.proofs.Valid.{digits-le}
@@ -285,6 +286,9 @@ range-entry-refused = refused-ranges.range-entry-refused
 
 pub range-entry-read-back : Range-entry-read-back
 range-entry-read-back = refused-ranges.range-entry-read-back
+
+pub range-entries-kept : Range-entries-kept
+range-entries-kept = refused-ranges.range-entries-kept
 
 pub range-plain : Range-plain
 range-plain = ranges.range-plain

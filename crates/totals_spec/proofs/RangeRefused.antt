@@ -1,5 +1,5 @@
 -- Refusals of ranges (document 02, A.6): each number exactly under its condition, refused records, and what the entry leaves.
-use mathlib.Core.Path.{_≡_, refl, sym, ap, subst}
+use mathlib.Core.Path.{_≡_, refl, sym, ap, ap₂, subst}
 use mathlib.Core.Logic.{_≢_, _↔_, _⊎_, inl, inr}
 use mathlib.Core.Bool.{Bool, true, false, not, _&&_, _||_, cond}
 use mathlib.Core.List.{List, [], _∷_, map}
@@ -13,11 +13,13 @@ use Rattle.totals_spec.specs.Basics.{Signed, plusOf, minusOf, any}
 use Rattle.totals_spec.specs.Format.{binary64}
 use Rattle.totals_spec.specs.Decode.{decode, isNumber}
 use Rattle.totals_spec.specs.Totals.{stray, limit, refuseIf}
-use Rattle.totals_spec.specs.Ranges.{amountOf, triples, entryOf, entries, nothing, figureWorth, atMost, goodFigure, goodAmount, goodCeiling}
+use Rattle.totals_spec.specs.Ranges.{amountOf, triples, entryOf, entries, lowOf, highOf, nothing, figureWorth, atMost}
+use Rattle.totals_spec.specs.Ranges.{goodFigure, goodAmount, goodCeiling}
 use Rattle.totals_spec.specs.Ranges.{Range, refusedRange, ranged, rangeRefusal, lowerTotal, upperTotal, rangeAnswer}
-use Rattle.totals_spec.specs.Words.{PairEntry, pairEntered, rangeEntry}
+use Rattle.totals_spec.specs.Words.{RangeEntry, rangeEntered, rangeEntry}
 use Rattle.totals_spec.specs.Conditions.{Unequal, NoFigure, Below, BadEntry, SomeBadEntry, BadCeiling, NoPair, rangeConditions}
-use Rattle.totals_spec.specs.Promises.{Range-refused-exactly, Range-entry-refused-exactly, Range-refused, Range-entry-refused, Range-entry-read-back}
+use Rattle.totals_spec.specs.Promises.{Range-refused-exactly, Range-entry-refused-exactly, Range-refused, Range-entry-refused}
+use Rattle.totals_spec.specs.Promises.{Range-entry-read-back, Range-entries-kept}
 use Rattle.totals_spec.proofs.Exactly.{Tests, last, unless, test, exactly, either, not-both, unequal-found, many-found, some-found, stray-bit}
 use Rattle.totals_spec.proofs.Exactly.{no-number-found}
 
@@ -161,19 +163,49 @@ range-refused ts xs ys z h = ranged-refused (rangeRefusal ts xs ys z) (lowerTota
 
 -- ---- the entry, by its own test and the record
 
-abbrev tested : Bool → Range → List ℕ → PairEntry
-tested a r old = cond a (record { code = 2; pair = old }) (pairEntered r old)
+module _ (lows highs xs ys old : List ℕ) where
+  abbrev tested : Bool → Range → RangeEntry
+  tested a r = cond a (record { code = 2; firsts = xs; seconds = ys; pair = old }) (rangeEntered r lows highs xs ys old)
 
-abbrev byRefusal : Bool → Range → List ℕ → PairEntry
-byRefusal t r old = cond t (record { code = 0; pair = r .lower ∷ r .upper ∷ drop 2 old }) (record { code = r .refusal; pair = old })
+  abbrev byRefusal : Bool → Range → RangeEntry
+  byRefusal t r =
+      cond t (record { code = 0; firsts = lows; seconds = highs; pair = r .lower ∷ r .upper ∷ drop 2 old })
+      (record { code = r .refusal; firsts = xs; seconds = ys; pair = old })
 
-entry-number : (a : Bool) (r : Range) (old : List ℕ) → (tested a r old) .code ≡ refuseIf a 2 (r .refusal)
-entry-number true r old = refl
-entry-number false r old = go (eqb (r .refusal) 0) (eqb→eq (r .refusal) 0)
-  where
-    go : (t : Bool) → (T t → r .refusal ≡ 0) → (byRefusal t r old) .code ≡ r .refusal
-    go true e = sym (e tt)
-    go false e = refl
+  entry-number : (a : Bool) (r : Range) → (tested a r) .code ≡ refuseIf a 2 (r .refusal)
+  entry-number true r = refl
+  entry-number false r = go (eqb (r .refusal) 0) (eqb→eq (r .refusal) 0)
+    where
+      go : (t : Bool) → (T t → r .refusal ≡ 0) → (byRefusal t r) .code ≡ r .refusal
+      go true e = sym (e tt)
+      go false e = refl
+
+  entry-unwritten : (a : Bool) (r : Range) → (tested a r) .code ≢ 0
+      → ((tested a r) .firsts ≡ xs) × ((tested a r) .seconds ≡ ys) × ((tested a r) .pair ≡ old)
+  entry-unwritten true r h = (refl, refl, refl)
+  entry-unwritten false r h = go (eqb (r .refusal) 0) h
+    where
+      go : (t : Bool) → (byRefusal t r) .code ≢ 0 → ((byRefusal t r) .firsts ≡ xs) × ((byRefusal t r) .seconds ≡ ys) × ((byRefusal t r) .pair ≡ old)
+      go true h = absurd (h refl)
+      go false h = (refl, refl, refl)
+
+  abbrev Leaves : Range → RangeEntry → Type 0
+  Leaves r e =
+      (getD (e .pair) 0 0 ≡ r .lower) × (getD (e .pair) 1 0 ≡ r .upper) × (drop 2 (e .pair) ≡ drop 2 old) × (length (e .pair) ≡ length old)
+      × (e .firsts ≡ lows) × (e .seconds ≡ highs)
+
+  entry-written : (a : Bool) → (T (not a) → 2 ≤ length old) → (r : Range) → (tested a r) .code ≡ 0 → Leaves r (tested a r)
+  entry-written true h r e = absurd (let n : ⊥ = omega (arith, e) in n)
+  entry-written false h r e = go (eqb (r .refusal) 0) refl e
+    where
+      long : (l : List ℕ) → 2 ≤ length l → suc (suc (length (drop 2 l))) ≡ length l
+      long [] h = absurd (not-suc-le-zero h)
+      long (x ∷ []) h = absurd (not-suc-le-zero (le-of-suc-le-suc h))
+      long (x ∷ y ∷ l) h = refl
+
+      go : (t : Bool) → eqb (r .refusal) 0 ≡ t → (byRefusal t r) .code ≡ 0 → Leaves r (byRefusal t r)
+      go true k e = (refl, refl, refl, long old (h tt), refl, refl)
+      go false k e = absurd (eqb-false (r .refusal) 0 k e)
 
 pair-found : (old : List ℕ) → T (ltb (length old) 2) ↔ NoPair old
 pair-found old = (ltb→lt (length old) 2, lt→ltb (length old) 2)
@@ -181,39 +213,30 @@ pair-found old = (ltb→lt (length old) 2, lt→ltb (length old) 2)
 pub range-entry-refused-exactly : Range-entry-refused-exactly
 unfolding rangeEntry
 range-entry-refused-exactly ts xs ys z old n =
-    rw (entry-number (ltb (length old) 2) (rangeAnswer ts xs ys z) old, range-number ts xs ys z)
+    let l = entries ts xs ys in
+    rw (entry-number (map lowOf l) (map (highOf z) l) xs ys old (ltb (length old) 2) (rangeAnswer ts xs ys z), range-number ts xs ys z)
     (exactly (test (ltb (length old) 2) (pair-found old) (range-tests ts xs ys z)) n)
 
 pub range-entry-refused : Range-entry-refused
 unfolding rangeEntry
-range-entry-refused ts xs ys z old = go (ltb (length old) 2) (rangeAnswer ts xs ys z)
-  where
-    go : (a : Bool) (r : Range) → (tested a r old) .code ≢ 0 → (tested a r old) .pair ≡ old
-    go true r h = refl
-    go false r h = by (eqb (r .refusal) 0) h
-      where
-        by : (t : Bool) → (byRefusal t r old) .code ≢ 0 → (byRefusal t r old) .pair ≡ old
-        by true h = absurd (h refl)
-        by false h = refl
-
-abbrev Leaves : List ℕ → Range → PairEntry → Type 0
-Leaves old r e =
-    e .code ≡ 0
-    → (getD (e .pair) 0 0 ≡ r .lower) × (getD (e .pair) 1 0 ≡ r .upper) × (drop 2 (e .pair) ≡ drop 2 old) × (length (e .pair) ≡ length old)
+range-entry-refused ts xs ys z old h =
+    let l = entries ts xs ys in
+    entry-unwritten (map lowOf l) (map (highOf z) l) xs ys old (ltb (length old) 2) (rangeAnswer ts xs ys z) h
 
 pub range-entry-read-back : Range-entry-read-back
 unfolding rangeEntry
-range-entry-read-back ts xs ys z old = go (ltb (length old) 2) (nltb→le (length old) 2) (rangeAnswer ts xs ys z)
-  where
-    long : (l : List ℕ) → 2 ≤ length l → suc (suc (length (drop 2 l))) ≡ length l
-    long [] h = absurd (not-suc-le-zero h)
-    long (x ∷ []) h = absurd (not-suc-le-zero (le-of-suc-le-suc h))
-    long (x ∷ y ∷ l) h = refl
+range-entry-read-back ts xs ys z old h =
+    let l = entries ts xs ys in
+    entry-written (map lowOf l) (map (highOf z) l) xs ys old (ltb (length old) 2) (nltb→le (length old) 2) (rangeAnswer ts xs ys z) h
 
-    go : (a : Bool) → (T (not a) → 2 ≤ length old) → (r : Range) → Leaves old r (tested a r old)
-    go true h r e = absurd (let n : ⊥ = omega (arith, e) in n)
-    go false h r e = by (eqb (r .refusal) 0) refl e
-      where
-        by : (t : Bool) → eqb (r .refusal) 0 ≡ t → Leaves old r (byRefusal t r old)
-        by true k e = (refl, refl, refl, long old (h tt))
-        by false k e = absurd (eqb-false (r .refusal) 0 k e)
+pub range-entries-kept : Range-entries-kept
+range-entries-kept [] xs ys z = refl
+range-entries-kept (t ∷ ts) [] ys z = refl
+range-entries-kept (t ∷ ts) (x ∷ xs) [] z = refl
+range-entries-kept (t ∷ ts) (x ∷ xs) (y ∷ ys) z = ap₂ _∷_ (one t) (range-entries-kept ts xs ys z)
+  where
+    one : (t : ℕ) → amountOf t (lowOf (amountOf t x y)) (highOf z (amountOf t x y)) ≡ amountOf t x y
+    one zero = refl
+    one (suc zero) = refl
+    one (suc (suc zero)) = refl
+    one (suc (suc (suc t))) = refl

@@ -378,14 +378,21 @@ Range-refused = (ts xs ys : List ℕ) (z : ℕ) → rangeRefusal ts xs ys z ≢ 
 
 -- a refused entry writes nothing
 abbrev pub Range-entry-refused : Type 0
-Range-entry-refused = (ts xs ys : List ℕ) (z : ℕ) (old : List ℕ) → (rangeEntry ts xs ys z old) .code ≢ 0 → (rangeEntry ts xs ys z old) .pair ≡ old
+Range-entry-refused = (ts xs ys : List ℕ) (z : ℕ) (old : List ℕ) → let e = rangeEntry ts xs ys z old in
+    e .code ≢ 0 → (e .firsts ≡ xs) × (e .seconds ≡ ys) × (e .pair ≡ old)
 
--- where it returns 0, the first two words are the lower and the upper total, and what follows is as it was
+-- where it returns 0, the first two words of the pair are the lower and the upper total, what follows them is as it was, and the figures are the lows and
+-- the highs
 abbrev pub Range-entry-read-back : Type 0
-Range-entry-read-back = (ts xs ys : List ℕ) (z : ℕ) (old : List ℕ) → let new = (rangeEntry ts xs ys z old) .pair in
-    (rangeEntry ts xs ys z old) .code ≡ 0
-    → (getD new 0 0 ≡ (rangeAnswer ts xs ys z) .lower) × (getD new 1 0 ≡ (rangeAnswer ts xs ys z) .upper)
-    × (drop 2 new ≡ drop 2 old) × (length new ≡ length old)
+Range-entry-read-back = (ts xs ys : List ℕ) (z : ℕ) (old : List ℕ) → let e = rangeEntry ts xs ys z old in
+    e .code ≡ 0
+    → (getD (e .pair) 0 0 ≡ (rangeAnswer ts xs ys z) .lower) × (getD (e .pair) 1 0 ≡ (rangeAnswer ts xs ys z) .upper)
+    × (drop 2 (e .pair) ≡ drop 2 old) × (length (e .pair) ≡ length old)
+    × (e .firsts ≡ map lowOf (entries ts xs ys)) × (e .seconds ≡ map (highOf z) (entries ts xs ys))
+
+-- only figures that are not used are written: the entries stay what they were, whatever the ceiling
+abbrev pub Range-entries-kept : Type 0
+Range-entries-kept = (ts xs ys : List ℕ) (z : ℕ) → entries ts (map lowOf (entries ts xs ys)) (map (highOf z) (entries ts xs ys)) ≡ entries ts xs ys
 
 -- of an accepted call: the lows and the highs are accepted by the plain sum, and the pair is what it gives for them toward negative and toward
 -- positive, with +0 for −0

@@ -16,7 +16,7 @@ use Rattle.totals_spec.specs.Nan.{defaultNanOf, selectAll}
 use Rattle.totals_spec.specs.Side.{leansOf, sideOf}
 use Rattle.totals_spec.specs.Totals.{special, sumRounded, reported, finiteTotal, withoutNan, accepted, sumRefusal, sumAccepted, sumAnswer}
 use Rattle.totals_spec.specs.Ranges.{figureWorth, rangeRefusal, lowerTotal, upperTotal, Range, rangeAnswer}
-use Rattle.totals_spec.specs.Words.{PairEntry, rangeEntry}
+use Rattle.totals_spec.specs.Words.{RangeEntry, rangeEntry}
 use Rattle.totals_spec.specs.Careers.{sameList}
 
 abbrev one : ℕ
@@ -41,8 +41,8 @@ pairIs a b r = eqb (r .lower) a && eqb (r .upper) b && eqb (r .refusal) 0 && eqb
 abbrev refusedWith : ℕ → Range → Bool
 refusedWith n r = eqb (r .lower) 0 && eqb (r .upper) 0 && eqb (r .refusal) n && eqb (r .place) 0
 
-abbrev leaves : ℕ → List ℕ → PairEntry → Bool
-leaves n l e = eqb (e .code) n && sameList (e .pair) l
+abbrev leaves : ℕ → (firsts seconds pair : List ℕ) → RangeEntry → Bool
+leaves n xs ys l e = eqb (e .code) n && sameList (e .firsts) xs && sameList (e .seconds) ys && sameList (e .pair) l
 
 unfoldable pub rangeExamples : Bool
 rangeExamples =
@@ -79,10 +79,12 @@ rangeExamples =
     && refusedWith 11 (rangeAnswer (1 ∷ []) (0 ∷ []) (notANumber ∷ []) 0)
     && refusedWith 11 (rangeAnswer (1 ∷ []) ((one + 1) ∷ []) (one ∷ []) 0)
     && refusedWith 11 (rangeAnswer (1 ∷ []) (minus one ∷ []) (minus (one + 1) ∷ []) 0)
-    -- the entry: what it writes, 2 before 5, and a refused call
-    && leaves 0 (most ∷ infinite ∷ 7 ∷ []) (rangeEntry (0 ∷ 0 ∷ []) (most ∷ most ∷ []) (0 ∷ 0 ∷ []) 0 (7 ∷ 7 ∷ 7 ∷ []))
-    && leaves 2 (7 ∷ []) (rangeEntry (0 ∷ []) [] [] 0 (7 ∷ []))
-    && leaves 11 (7 ∷ 7 ∷ []) (rangeEntry (3 ∷ []) (0 ∷ []) (0 ∷ []) 0 (7 ∷ 7 ∷ []))
+    -- the entry: what it writes, of each tag, 2 before 5, and a refused call
+    && leaves 0 (most ∷ most ∷ []) (most ∷ most ∷ []) (most ∷ infinite ∷ 7 ∷ [])
+    (rangeEntry (0 ∷ 0 ∷ []) (most ∷ most ∷ []) (0 ∷ 5 ∷ []) 0 (7 ∷ 7 ∷ 7 ∷ []))
+    && leaves 0 (minus one ∷ 0 ∷ []) (0 ∷ one ∷ []) (minus one ∷ one ∷ []) (rangeEntry (1 ∷ 2 ∷ []) (minus one ∷ notANumber ∷ []) (0 ∷ 5 ∷ []) one (7 ∷ 7 ∷ []))
+    && leaves 2 [] [] (7 ∷ []) (rangeEntry (0 ∷ []) [] [] 0 (7 ∷ []))
+    && leaves 11 (5 ∷ []) (6 ∷ []) (7 ∷ 7 ∷ []) (rangeEntry (3 ∷ []) (5 ∷ []) (6 ∷ []) 0 (7 ∷ 7 ∷ []))
 
 -- THE THEOREM: the tests compute to true
 pub ranges-agree : Holds rangeExamples
