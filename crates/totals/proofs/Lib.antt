@@ -7,3 +7,5 @@ mod Totalled
 mod Listed
 mod Columns
 mod TableWritten
+mod RangeFigures
+mod RangeSettled

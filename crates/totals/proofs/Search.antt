@@ -18,21 +18,23 @@ use Rattle.totals.specs.Stray.{strayAt, Says, FoundIn, FoundOn}
 use Rattle.totals.specs.declared.stray.Found.{Found}
 use Rattle.totals.specs.declared.stray.Found.the-variants.{At, Nothing}
 
-module _ (t : ℕ → Bool) where
+module _ {A : Type 0} (t : A → Bool) where
   -- none of the first i + 1
-  none-next : (l : List ℕ) (i x : ℕ) → i < length l → x ≡ getD l i 0 → any t (take i l) ≡ false → t x ≡ false → any t (take (i + 1) l) ≡ false
-  none-next l i x h e p q = ap (λ (n : ℕ). any t (take n l)) (add-one i) ∙ any-take t l i 0 h ∙ ap₂ _||_ p (ap t (sym e) ∙ q)
+  pub none-next : (l : List A) (i : ℕ) (d x : A) → i < length l → x ≡ getD l i d → any t (take i l) ≡ false → t x ≡ false
+      → any t (take (i + 1) l) ≡ false
+  none-next l i d x h e p q = ap (λ (n : ℕ). any t (take n l)) (add-one i) ∙ any-take t l i d h ∙ ap₂ _||_ p (ap t (sym e) ∙ q)
 
   -- none at all
-  none-all : (l : List ℕ) (i : ℕ) → i ≡ length l → any t (take i l) ≡ false → any t l ≡ false
+  pub none-all : (l : List A) (i : ℕ) → i ≡ length l → any t (take i l) ≡ false → any t l ≡ false
   none-all l i e p = ap (any t) (sym (ap (λ (n : ℕ). take n l) e ∙ take-length l)) ∙ p
 
   -- the first one
-  first-some : (l : List ℕ) (i : ℕ) → i < length l → any t (take i l) ≡ false → t (getD l i 0) ≡ true → any t l ≡ true
-  first-some [] i h p q = absurd (not-suc-le-zero h)
-  first-some (x ∷ l) zero h p q = ap (λ (b : Bool). b || any t l) q
-  first-some (x ∷ l) (suc i) h p q = rw (or-split (t x) _ p .0) (first-some l i (le-of-suc-le-suc h) (or-split (t x) _ p .1) q)
+  pub first-some : (l : List A) (i : ℕ) (d : A) → i < length l → any t (take i l) ≡ false → t (getD l i d) ≡ true → any t l ≡ true
+  first-some [] i d h p q = absurd (not-suc-le-zero h)
+  first-some (x ∷ l) zero d h p q = ap (λ (b : Bool). b || any t l) q
+  first-some (x ∷ l) (suc i) d h p q = rw (or-split (t x) _ p .0) (first-some l i d (le-of-suc-le-suc h) (or-split (t x) _ p .1) q)
 
+module _ (t : ℕ → Bool) where
   first-index : (l : List ℕ) (i : ℕ) → i < length l → any t (take i l) ≡ false → t (getD l i 0) ≡ true → firstIndex t l ≡ i
   first-index [] i h p q = absurd (not-suc-le-zero h)
   first-index (x ∷ l) zero h p q = ap (λ (b : Bool). cond b 0 (suc (firstIndex t l))) q
@@ -62,12 +64,12 @@ clear-start w l = record { within = zero-le; none = refl }
 -- m is the greatest encoding, x the element i
 module _ {w m : ℕ} (most : m + 1 ≡ 2 ^ w) {l : List ℕ} {i : ℕ} (k : Clear w l i) (h : i < length l) {x : ℕ} (at : x ≡ getD l i 0) where
   pub clear-next : x ≤ m → Clear w l (i + 1)
-  clear-next g = record { within = add-one-le h; none = none-next (strayAt w) l i x h at (k .none) (stray-not w m x most g) }
+  clear-next g = record { within = add-one-le h; none = none-next (strayAt w) l i 0 x h at (k .none) (stray-not w m x most g) }
 
   pub clear-found : m < x → FoundIn (At i) w l
   clear-found g =
       let q = ap (strayAt w) (sym at) ∙ stray-is w m x most g in
-      (first-some (strayAt w) l i h (k .none) q, first-index (strayAt w) l i h (k .none) q)
+      (first-some (strayAt w) l i 0 h (k .none) q, first-index (strayAt w) l i h (k .none) q)
 
 pub clear-end : {w : ℕ} {l : List ℕ} {i : ℕ} → Clear w l i → length l ≤ i → FoundIn Nothing w l
 clear-end {w} {l} {i} k h = none-all (strayAt w) l i (omega arith) (k .none)

@@ -5,3 +5,4 @@ pub mod Entered
 pub mod PenceRecord
 pub mod Reported
 pub mod Tables
+pub mod Ranges

@@ -1,6 +1,7 @@
 // The byte entries, for callers in other languages.
 use crate::dot_bytes;
 use crate::pence::pence_of_sum;
+use crate::range::range_total;
 use crate::sum_bytes;
 use crate::table::table;
 use format::Format;
@@ -14,6 +15,7 @@ ghost use Rattle.totals_spec.specs.Bytes as bytes;
 ghost use Rattle.totals_spec.specs.Words as words;
 ghost use Rattle.format.specs.Joined.{formatOf, settingsOf};
 ghost use Rattle.reduction.specs.Answered.{answerOf};
+ghost use Rattle.totals.specs.Ranges.{EntersRange};
 ghost use Rattle.totals.specs.Entered.{Enters, EntersFigure, EntersTable, Fits, formatFrom, formatWith, biasedFrom, settingsFrom};
 
 // The side is the third byte of its word, above the flags.
@@ -405,4 +407,29 @@ pub extern "C" fn totals_table(
     );
     let grand = table(f, c, rows, columns, cells, row_totals, column_totals);
     enter(grand, answer)
+}
+
+// The lower and the upper total of amounts known within a range, as two words. Each entry's low and high are left in the place of its figures: only figures
+// that are not used change.
+#[no_mangle]
+pub extern "C" fn totals_range(
+    tags: &[u64],
+    first: &mut [u64],
+    second: &mut [u64],
+    ceiling: u64,
+    pair: &mut [u64],
+) -> u64
+    ensures { λ r. ⌜ EntersRange (words.rangeEntry (now (tags .entry)) (now (first .entry)) (now (second .entry)) ceiling (now (pair .entry))) r (now (first .exit)) (now (second .exit)) (now (pair .exit)) ⌝ }
+{
+    if pair.len() < 2 {
+        return 2;
+    }
+    let r = range_total(tags, first, second, ceiling);
+    if r.refusal != 0 {
+        return r.refusal;
+    }
+    let bounds = r.bounds;
+    pair[0] = f64::to_bits(bounds.lower);
+    pair[1] = f64::to_bits(bounds.upper);
+    0
 }

@@ -2,6 +2,7 @@
 pub mod entry;
 mod lists;
 pub mod pence;
+pub mod range;
 pub mod refusal;
 mod report;
 mod stray;
