@@ -1185,6 +1185,393 @@ static void tables_refused(void)
     CHECK(of_doubles[0] == 7 && of_doubles[1] == 7 && owned == 0);
 }
 
+#define INFINITE 0x7ff0000000000000
+#define GREATEST 0x7fefffffffffffff
+#define MINUS 0x8000000000000000
+#define ONE 0x3ff0000000000000
+/* The most entries of the ranges below. */
+#define ENTRIES 12
+
+/* What the figures that are not used may hold: zeros of either sign, infinities, NaNs, a number. */
+static const uint64_t unused[7] = {0, MINUS, INFINITE, MINUS + INFINITE, UINT64_MAX, INFINITE + 1, 0x4059000000000000};
+
+typedef struct entry {
+    uint64_t tag;
+    uint64_t first;
+    uint64_t second;
+} entry;
+
+static int has_pair(totals_range_record record, uint64_t lower, uint64_t upper)
+{
+    return record.refusal == TOTALS_ACCEPTED && record.lower_bits == lower && record.upper_bits == upper
+           && memcmp(&record.lower, &lower, sizeof lower) == 0 && memcmp(&record.upper, &upper, sizeof upper) == 0;
+}
+
+/* A record in which nothing is set but the refusal. */
+static int is_refused_with(totals_range_record record, unsigned refusal)
+{
+    return record.refusal == refusal && record.lower_bits == 0 && record.upper_bits == 0 && record.lower == 0 && record.upper == 0;
+}
+
+/* The three lists of the entries, with one word for every figure that is not used; and the lows and highs of the entries. */
+typedef struct lists {
+    uint64_t tags[ENTRIES + BEYOND], first[ENTRIES + BEYOND], second[ENTRIES + BEYOND], lows[ENTRIES + BEYOND], highs[ENTRIES + BEYOND];
+    double firsts[ENTRIES + BEYOND], seconds[ENTRIES + BEYOND];
+} lists;
+
+static void lay_out(lists *l, const entry *entries, size_t count, uint64_t ceiling, uint64_t rest)
+{
+    size_t i;
+    for (i = 0; i < ENTRIES + BEYOND; i++) {
+        l->tags[i] = l->first[i] = l->second[i] = l->lows[i] = l->highs[i] = GUARD;
+    }
+    for (i = 0; i < count; i++) {
+        const entry e = entries[i];
+        l->tags[i] = e.tag;
+        l->first[i] = e.tag == TOTALS_MISSING ? rest : e.first;
+        l->second[i] = e.tag == TOTALS_KNOWN || e.tag == TOTALS_MISSING ? rest : e.second;
+        l->lows[i] = e.tag == TOTALS_MISSING ? 0 : e.first;
+        l->highs[i] = e.tag == TOTALS_MISSING ? ceiling : e.tag == TOTALS_KNOWN ? e.first : e.second;
+    }
+    memcpy(l->firsts, l->first, sizeof l->first);
+    memcpy(l->seconds, l->second, sizeof l->second);
+}
+
+/* The pair, through the entry and both inline functions. The words are left with the lows and the highs, the double as they were. */
+static int range_is(const entry *entries, size_t count, uint64_t ceiling, uint64_t lower, uint64_t upper)
+{
+    int holds_so = 1;
+    size_t i, turn;
+    for (i = 0; i < 7; i++) {
+        const size_t size = sizeof(uint64_t) * (ENTRIES + BEYOND);
+        uint64_t pair[2 + BEYOND] = {GUARD, GUARD, GUARD, GUARD, GUARD};
+        lists l, before;
+        lay_out(&before, entries, count, ceiling, unused[i]);
+        l = before;
+        holds_so &= has_pair(totals_range_double(l.tags, count, l.firsts, count, l.seconds, count, number(ceiling)), lower, upper);
+        holds_so &= memcmp(l.firsts, before.firsts, size) == 0 && memcmp(l.seconds, before.seconds, size) == 0;
+        holds_so &= totals_range(l.tags, count, l.first, count, l.second, count, ceiling, pair, 2 + i % 2) == TOTALS_ACCEPTED;
+        holds_so &= pair[0] == lower && pair[1] == upper && pair[2] == GUARD && pair[3] == GUARD && pair[4] == GUARD;
+        holds_so &= memcmp(l.first, l.lows, size) == 0 && memcmp(l.second, l.highs, size) == 0;
+        /* and again with the lists as they are left */
+        memcpy(l.first, before.first, size);
+        memcpy(l.second, before.second, size);
+        for (turn = 0; turn < 2; turn++) {
+            holds_so &= has_pair(totals_range_words(l.tags, count, l.first, count, l.second, count, ceiling), lower, upper);
+            holds_so &= memcmp(l.first, l.lows, size) == 0 && memcmp(l.second, l.highs, size) == 0;
+        }
+        holds_so &= memcmp(l.tags, before.tags, size) == 0;
+    }
+    return holds_so;
+}
+
+/* Refused with 11 on every way, and nothing is written. */
+static int is_bad(const entry *entries, size_t count, uint64_t ceiling)
+{
+    int holds_so = 1;
+    size_t i;
+    for (i = 0; i < 7; i++) {
+        uint64_t pair[2] = {GUARD, GUARD};
+        lists l, before;
+        lay_out(&before, entries, count, ceiling, unused[i]);
+        l = before;
+        holds_so &= totals_range(l.tags, count, l.first, count, l.second, count, ceiling, pair, 2) == TOTALS_BAD_AMOUNT;
+        holds_so &= is_refused_with(totals_range_words(l.tags, count, l.first, count, l.second, count, ceiling), TOTALS_BAD_AMOUNT);
+        holds_so &= is_refused_with(totals_range_double(l.tags, count, l.firsts, count, l.seconds, count, number(ceiling)), TOTALS_BAD_AMOUNT);
+        holds_so &= pair[0] == GUARD && pair[1] == GUARD && memcmp(&l, &before, sizeof l) == 0;
+    }
+    return holds_so;
+}
+
+static void ranges(void)
+{
+    static const struct {
+        size_t count;
+        entry entries[3];
+        uint64_t ceiling, lower, upper;
+    } rows[] = {
+        {0, {{0, 0, 0}, {0, 0, 0}, {0, 0, 0}}, 0, 0, 0},
+        {0, {{0, 0, 0}, {0, 0, 0}, {0, 0, 0}}, ONE, 0, 0},
+        /* 1; and 2^-53, or the least number of either sign */
+        {1, {{0, ONE, 0}, {0, 0, 0}, {0, 0, 0}}, 0, ONE, ONE},
+        {2, {{0, ONE, 0}, {0, 0x3ca0000000000000, 0}, {0, 0, 0}}, 0, ONE, ONE + 1},
+        {2, {{0, ONE, 0}, {0, 1, 0}, {0, 0, 0}}, 0, ONE, ONE + 1},
+        {2, {{0, ONE, 0}, {0, MINUS + 1, 0}, {0, 0, 0}}, 0, ONE - 1, ONE},
+        {2, {{0, MINUS + ONE, 0}, {0, 1, 0}, {0, 0, 0}}, 0, MINUS + ONE, MINUS + ONE - 1},
+        {2, {{0, MINUS + ONE, 0}, {0, MINUS + 1, 0}, {0, 0, 0}}, 0, MINUS + ONE + 1, MINUS + ONE},
+        /* between -100 and 200, and one missing under 1000 */
+        {2, {{1, 0xc059000000000000, 0x4069000000000000}, {2, 0, 0}, {0, 0, 0}}, 0x408f400000000000, 0xc059000000000000, 0x4092c00000000000},
+        {2, {{2, 0, 0}, {0, ONE, 0}, {0, 0, 0}}, 1, ONE, ONE + 1},
+        {3, {{2, 0, 0}, {2, 0, 0}, {0, 1, 0}}, 1, 1, 3},
+        {1, {{1, ONE, ONE}, {0, 0, 0}, {0, 0, 0}}, 0, ONE, ONE},
+        /* what is too large for a double */
+        {2, {{0, GREATEST, 0}, {0, GREATEST, 0}, {0, 0, 0}}, 0, GREATEST, INFINITE},
+        {2, {{0, GREATEST, 0}, {0, 1, 0}, {0, 0, 0}}, 0, GREATEST, INFINITE},
+        {2, {{0, GREATEST, 0}, {0, MINUS + 1, 0}, {0, 0, 0}}, 0, GREATEST - 1, GREATEST},
+        {2, {{0, MINUS + GREATEST, 0}, {0, MINUS + GREATEST, 0}, {0, 0, 0}}, 0, MINUS + INFINITE, MINUS + GREATEST},
+        {1, {{1, MINUS + GREATEST, GREATEST}, {0, 0, 0}, {0, 0, 0}}, 0, MINUS + GREATEST, GREATEST},
+        {2, {{1, MINUS + GREATEST, GREATEST}, {1, MINUS + GREATEST, GREATEST}, {0, 0, 0}}, 0, MINUS + INFINITE, INFINITE},
+        {2, {{2, 0, 0}, {2, 0, 0}, {0, 0, 0}}, GREATEST, 0, INFINITE},
+        {3, {{0, GREATEST, 0}, {0, GREATEST, 0}, {0, MINUS + GREATEST, 0}}, 0, GREATEST, GREATEST},
+        /* a total of zero is +0; a ceiling may be -0; a low of +0 is not above a high of -0 */
+        {1, {{0, MINUS, 0}, {0, 0, 0}, {0, 0, 0}}, 0, 0, 0},
+        {2, {{0, MINUS, 0}, {0, 0, 0}, {0, 0, 0}}, 0, 0, 0},
+        {1, {{2, 0, 0}, {0, 0, 0}, {0, 0, 0}}, MINUS, 0, 0},
+        {2, {{2, 0, 0}, {0, MINUS, 0}, {0, 0, 0}}, MINUS, 0, 0},
+        {1, {{1, 0, MINUS}, {0, 0, 0}, {0, 0, 0}}, 0, 0, 0},
+        {1, {{1, MINUS, 0}, {0, 0, 0}, {0, 0, 0}}, MINUS, 0, 0},
+        {2, {{0, ONE, 0}, {0, MINUS + ONE, 0}, {0, 0, 0}}, 0, 0, 0},
+        {3, {{0, GREATEST, 0}, {2, 0, 0}, {0, MINUS + GREATEST, 0}}, ONE, 0, ONE},
+    };
+    size_t i;
+
+    for (i = 0; i < sizeof rows / sizeof *rows; i++) {
+        if (!range_is(rows[i].entries, rows[i].count, rows[i].ceiling, rows[i].lower, rows[i].upper)) {
+            fprintf(stderr, "ranges: row %d\n", (int)i);
+            failures++;
+        }
+    }
+    /* empty lists need no pointers */
+    CHECK(has_pair(totals_range_double(NULL, 0, NULL, 0, NULL, 0, 1), 0, 0));
+    CHECK(has_pair(totals_range_words(NULL, 0, NULL, 0, NULL, 0, ONE), 0, 0));
+    {
+        /* lists of double are only read, so one may stand for both */
+        static const uint64_t tags[2] = {TOTALS_KNOWN, TOTALS_BETWEEN};
+        const double figures[2] = {0.5, -2};
+        CHECK(totals_range_double(tags, 2, figures, 2, figures, 2, 0).lower == -1.5);
+        CHECK(totals_range_double(tags, 2, figures, 2, figures, 2, 0).upper == -1.5);
+    }
+}
+
+static void bad_amounts(void)
+{
+    const uint64_t not_finite[5] = {INFINITE, MINUS + INFINITE, INFINITE + 1, 0x7ff8000000000000, UINT64_MAX};
+    const uint64_t below_zero[3] = {MINUS + ONE, MINUS + 1, MINUS + GREATEST};
+    const uint64_t no_tag[6] = {3, 255, 256, 258, UINT64_C(1) << 32, UINT64_MAX};
+    const uint64_t falling[8][2] = {{ONE + 1, ONE}, {MINUS + ONE, MINUS + ONE + 1}, {ONE, MINUS + ONE}, {1, 0}, {1, MINUS}, {0, MINUS + 1},
+                                    {MINUS, MINUS + 1}, {GREATEST, MINUS + GREATEST}};
+    entry entries[4] = {{TOTALS_KNOWN, ONE, 0}, {TOTALS_MISSING, 0, 0}, {TOTALS_BETWEEN, ONE, ONE}, {TOTALS_KNOWN, ONE, 0}};
+    size_t i;
+
+    for (i = 0; i < 5; i++) {
+        const entry known = {TOTALS_KNOWN, not_finite[i], 0}, low = {TOTALS_BETWEEN, not_finite[i], ONE}, high = {TOTALS_BETWEEN, ONE, not_finite[i]};
+        CHECK(is_bad(&known, 1, ONE) && is_bad(&low, 1, ONE) && is_bad(&high, 1, ONE));
+        entries[2] = known;
+        CHECK(is_bad(entries, 4, ONE));
+        /* a ceiling, though nothing is missing, or there is nothing at all */
+        CHECK(is_bad(entries, 0, not_finite[i]) && is_bad(entries, 1, not_finite[i]) && is_bad(entries + 1, 1, not_finite[i]));
+    }
+    for (i = 0; i < 3; i++) {
+        CHECK(is_bad(entries, 0, below_zero[i]) && is_bad(entries, 1, below_zero[i]) && is_bad(entries + 1, 1, below_zero[i]));
+    }
+    for (i = 0; i < 6; i++) {
+        const entry untold = {no_tag[i], ONE, ONE};
+        entries[2] = untold;
+        CHECK(is_bad(entries, 4, ONE) && is_bad(&untold, 1, ONE));
+    }
+    for (i = 0; i < 8; i++) {
+        const entry fall = {TOTALS_BETWEEN, falling[i][0], falling[i][1]}, rise = {TOTALS_BETWEEN, falling[i][1], falling[i][0]};
+        entries[2] = fall;
+        CHECK(is_bad(entries, 4, ONE) && is_bad(&fall, 1, ONE));
+        CHECK(range_is(&rise, 1, ONE, falling[i][1] == MINUS ? 0 : falling[i][1], falling[i][0] == MINUS ? 0 : falling[i][0]));
+    }
+}
+
+/* The greatest double that is not above a whole number: a multiple of the last place of its 53 leading digits. */
+static double not_above(int64_t n)
+{
+    int64_t step = 1;
+    while ((n < 0 ? -n : n) / step >= INT64_C(1) << 53) {
+        step *= 2;
+    }
+    /* toward negative, where % goes toward zero */
+    return (double)(n - (n % step + step) % step);
+}
+
+static uint64_t bits_of(double x)
+{
+    uint64_t bits;
+    memcpy(&bits, &x, sizeof bits);
+    return bits;
+}
+
+static uint64_t state = 6;
+
+/* Numbers below n that are the same in every run. */
+static uint64_t drawn_below(uint64_t n)
+{
+    state = state * UINT64_C(6364136223846793005) + UINT64_C(1442695040888963407);
+    return (state >> 11) % n;
+}
+
+/* Up to 53 digits, and most often more than 40, with up to 5 zeros behind them. */
+static int64_t drawn_figure(void)
+{
+    const uint64_t digits = drawn_below(UINT64_C(1) << (53 - drawn_below(14)));
+    return (int64_t)(digits << drawn_below(6));
+}
+
+/* Whole numbers: the sums of lows and highs are known, and so are their neighbours. */
+static void neighbours_of_exact_sums(void)
+{
+    const int64_t large = INT64_C(1) << 53;
+    int round, inexact = 0;
+
+    CHECK(not_above(large) == power(53) && not_above(large + 1) == power(53) && not_above(large + 2) == power(53) + 2);
+    CHECK(not_above(-large - 1) == -power(53) - 2 && not_above(-5) == -5 && not_above(0) == 0);
+    for (round = 0; round < 1000; round++) {
+        const size_t count = (size_t)drawn_below(ENTRIES + 1);
+        const int64_t ceiling = drawn_figure();
+        int64_t low_sum = 0, high_sum = 0;
+        entry entries[ENTRIES];
+        double lower, upper;
+        size_t i;
+        for (i = 0; i < count; i++) {
+            const uint64_t tag = drawn_below(3);
+            int64_t low = drawn_below(2) ? drawn_figure() : -drawn_figure(), high = low + (tag == TOTALS_BETWEEN ? drawn_figure() : 0);
+            /* a double has both */
+            high = (int64_t)not_above(high);
+            entries[i].tag = tag;
+            entries[i].first = bits_of((double)low);
+            entries[i].second = bits_of((double)high);
+            if (tag == TOTALS_MISSING) {
+                low = 0;
+                high = ceiling;
+            }
+            low_sum += low;
+            high_sum += high;
+        }
+        /* +0, and not -0 */
+        lower = 0 + not_above(low_sum);
+        upper = 0 - not_above(-high_sum);
+        inexact += upper != not_above(high_sum);
+        CHECK(range_is(entries, count, bits_of((double)ceiling), bits_of(lower), bits_of(upper)));
+        /* the other way round */
+        for (i = 0; i < count / 2; i++) {
+            const entry e = entries[i];
+            entries[i] = entries[count - 1 - i];
+            entries[count - 1 - i] = e;
+        }
+        CHECK(range_is(entries, count, bits_of((double)ceiling), bits_of(lower), bits_of(upper)));
+    }
+    CHECK(inexact > 300);
+}
+
+/* Sums beside 1 and -1, in each of the 120 orders of five entries. */
+static void ranges_in_every_order(void)
+{
+    const entry values[5] = {
+        {TOTALS_KNOWN, GREATEST, 0},         {TOTALS_BETWEEN, MINUS + ONE, ONE}, {TOTALS_MISSING, 0, 0},
+        {TOTALS_KNOWN, MINUS + GREATEST, 0}, {TOTALS_KNOWN, MINUS + 1, 0},
+    };
+    int order, orders = 0;
+
+    for (order = 0; order < 3125; order++) {
+        entry list[5];
+        int k, rest = order, seen = 0;
+        for (k = 0; k < 5; k++) {
+            list[k] = values[rest % 5];
+            seen |= 1 << rest % 5;
+            rest /= 5;
+        }
+        if (seen == 31) {
+            orders++;
+            /* 1 and the least number, less the least number */
+            CHECK(range_is(list, 5, 1, MINUS + ONE + 1, ONE));
+        }
+    }
+    CHECK(orders == 120);
+}
+
+/* Every choice of conditions: the first in the order 2, 5, 6, 11 is returned, and nothing is written. */
+static void ranges_refused(void)
+{
+    static const unsigned order[4] = {TOTALS_SHORT_BUFFER, TOTALS_DIFFERENT_LENGTHS, TOTALS_TOO_MANY_ELEMENTS, TOTALS_BAD_AMOUNT};
+    const size_t most = TOTALS_MOST_ELEMENTS;
+    uint64_t *tags = (uint64_t *)calloc(most + 1, sizeof *tags), *first = (uint64_t *)calloc(most + 1, sizeof *first);
+    uint64_t *second = (uint64_t *)calloc(most + 1, sizeof *second), one = ONE, zero = 0, known = TOTALS_KNOWN;
+    double *halves = (double *)calloc(most + 1, sizeof *halves);
+    const double figure = 1;
+    unsigned holding, which, i;
+    size_t k;
+
+    for (k = 0; k <= most; k++) {
+        first[k] = second[k] = ONE;
+        halves[k] = 0.5;
+    }
+    for (holding = 1; holding < 16; holding++) {
+        const size_t count = HOLDS(2) ? most + 1 : 3;
+        unsigned code = 0;
+        tags[1] = HOLDS(3) ? 3 : 0;
+        for (i = 4; i-- > 0;) {
+            if (HOLDS(i)) {
+                code = order[i];
+            }
+        }
+        /* shorter by one: the tags, the first figures, the second ones, or two of these */
+        for (which = HOLDS(1); which <= 6 * HOLDS(1); which++) {
+            const size_t a = count - (which & 1), b = count - (which >> 1 & 1), c = count - (which >> 2 & 1);
+            uint64_t pair[2] = {GUARD, GUARD};
+            int holds_so = totals_range(tags, a, first, b, second, c, ONE, pair, HOLDS(0) ? 1 : 2) == code;
+            if (!HOLDS(0)) {
+                holds_so &= is_refused_with(totals_range_words(tags, a, first, b, second, c, ONE), code);
+                holds_so &= is_refused_with(totals_range_double(tags, a, halves, b, halves, c, 1), code);
+            }
+            for (k = 0; k <= most; k += most / 2) {
+                holds_so &= first[k] == ONE && second[k] == ONE;
+            }
+            if (!holds_so || pair[0] != GUARD || pair[1] != GUARD) {
+                fprintf(stderr, "ranges_refused: %u %u\n", holding, which);
+                failures++;
+            }
+        }
+    }
+    tags[1] = TOTALS_KNOWN;
+    CHECK(owned == 0);
+
+    /* as many entries as there may be, in memory that is given back */
+    CHECK(totals_range_double(tags, most, halves, most, halves, most, 0).lower == (double)(most / 2) && owned == 0);
+    CHECK(totals_range_words(tags, most, first, most, second, most, ONE).upper == (double)most);
+    CHECK(is_refused_with(totals_range_double(tags, most + 1, halves, most + 1, halves, most + 1, 0), TOTALS_TOO_MANY_ELEMENTS));
+    /* one less, as many and one more than find room without a copy in memory of its own */
+    for (k = TOTALS_ROOM_ - 1; k <= TOTALS_ROOM_ + 1; k++) {
+        tags[k - 1] = TOTALS_MISSING;
+        CHECK(totals_range_double(tags, k, halves, k, halves, k, 7).lower == (double)(k - 1) / 2);
+        CHECK(totals_range_double(tags, k, halves, k, halves, k, 7).upper == (double)(k - 1) / 2 + 7);
+        tags[k - 1] = TOTALS_KNOWN;
+    }
+    CHECK(owned == 0);
+    has_memory = 0;
+    CHECK(totals_range_double(tags, TOTALS_ROOM_, halves, TOTALS_ROOM_, halves, TOTALS_ROOM_, 0).refusal == TOTALS_ACCEPTED);
+    CHECK(is_refused_with(totals_range_double(tags, 513, halves, 513, halves, 513, -1), TOTALS_NO_MEMORY));
+    CHECK(is_refused_with(totals_range_double(tags, most + 1, halves, most + 1, halves, most + 1, 0), TOTALS_TOO_MANY_ELEMENTS));
+    CHECK(is_refused_with(totals_range_double(tags, most, halves, most, NULL, most, 0), TOTALS_NO_LIST));
+    CHECK(totals_range_words(tags, most, first, most, second, most, ONE).refusal == TOTALS_ACCEPTED);
+    has_memory = 1;
+
+    /* a NULL list that is not empty comes after 5 and 6 and before 11; a count that no list has is not looked into */
+    CHECK(is_refused_with(totals_range_double(NULL, 1, &figure, 1, &figure, 1, -1), TOTALS_NO_LIST));
+    CHECK(is_refused_with(totals_range_double(&known, 1, NULL, 1, &figure, 1, -1), TOTALS_NO_LIST));
+    CHECK(is_refused_with(totals_range_double(&known, 1, &figure, 1, NULL, 1, -1), TOTALS_NO_LIST));
+    CHECK(is_refused_with(totals_range_words(NULL, 1, &one, 1, &zero, 1, UINT64_MAX), TOTALS_NO_LIST));
+    CHECK(is_refused_with(totals_range_words(&known, 1, NULL, 1, &zero, 1, UINT64_MAX), TOTALS_NO_LIST));
+    CHECK(is_refused_with(totals_range_words(&known, 1, &one, 1, NULL, 1, UINT64_MAX), TOTALS_NO_LIST));
+    CHECK(is_refused_with(totals_range_words(NULL, 1, NULL, 2, NULL, 1, UINT64_MAX), TOTALS_DIFFERENT_LENGTHS));
+    CHECK(is_refused_with(totals_range_double(&known, SIZE_MAX, &figure, 1, &figure, SIZE_MAX, 1), TOTALS_DIFFERENT_LENGTHS));
+    CHECK(is_refused_with(totals_range_double(&known, 1, &figure, 1, &figure, SIZE_MAX / 8 + 2, 1), TOTALS_DIFFERENT_LENGTHS));
+    CHECK(is_refused_with(totals_range_double(NULL, SIZE_MAX, NULL, SIZE_MAX, NULL, SIZE_MAX, 1), TOTALS_TOO_MANY_ELEMENTS));
+    CHECK(is_refused_with(totals_range_double(&known, SIZE_MAX / 8 + 2, &figure, SIZE_MAX / 8 + 2, &figure, SIZE_MAX / 8 + 2, 1), TOTALS_TOO_MANY_ELEMENTS));
+    CHECK(is_refused_with(totals_range_words(&known, SIZE_MAX, &one, SIZE_MAX, &zero, SIZE_MAX, ONE), TOTALS_TOO_MANY_ELEMENTS));
+    CHECK(one == ONE && zero == 0 && owned == 0);
+    /* a ceiling is looked at with empty lists too, and comes after a length */
+    CHECK(is_refused_with(totals_range_double(NULL, 0, NULL, 0, NULL, 0, -1), TOTALS_BAD_AMOUNT));
+    CHECK(is_refused_with(totals_range_double(NULL, 0, &figure, 1, NULL, 0, -1), TOTALS_DIFFERENT_LENGTHS));
+    free(tags);
+    free(first);
+    free(second);
+    free(halves);
+}
+
 /* The raw entry writes nothing where it refuses, and the inline functions lend it a buffer of their own: no list is touched. */
 static void lists_are_only_read(void)
 {
@@ -1200,9 +1587,10 @@ static void lists_are_only_read(void)
 /* Every refusal has words of its own. */
 static void refusals_in_words(void)
 {
-    const unsigned known[13] = {0, 1, 2, 3, 4, 5, 6, 7, TOTALS_NO_PENCE, TOTALS_BAD_SHAPE, TOTALS_NO_ROOM, TOTALS_NO_LIST, TOTALS_NO_MEMORY};
+    const unsigned known[14] = {0, 1, 2, 3, 4, 5, 6, 7, TOTALS_NO_PENCE, TOTALS_BAD_SHAPE, TOTALS_NO_ROOM, TOTALS_BAD_AMOUNT, TOTALS_NO_LIST,
+                                TOTALS_NO_MEMORY};
     size_t i, k;
-    for (i = 0; i < 13; i++) {
+    for (i = 0; i < 14; i++) {
         CHECK(strcmp(totals_strerror(known[i]), totals_strerror(100)) != 0);
         for (k = 0; k < i; k++) {
             CHECK(strcmp(totals_strerror(known[i]), totals_strerror(known[k])) != 0);
@@ -1217,7 +1605,7 @@ static void version(void)
 {
     char text[32];
     sprintf(text, "%d.%d.%d", TOTALS_VERSION_MAJOR, TOTALS_VERSION_MINOR, TOTALS_VERSION_PATCH);
-    CHECK(strcmp(text, TOTALS_VERSION) == 0 && TOTALS_VERSION_NUMBER == 400);
+    CHECK(strcmp(text, TOTALS_VERSION) == 0 && TOTALS_VERSION_NUMBER == 500);
 }
 
 int main(void)
@@ -1245,6 +1633,11 @@ int main(void)
     tables_of_words();
     shapes_refused();
     tables_refused();
+    ranges();
+    bad_amounts();
+    neighbours_of_exact_sums();
+    ranges_in_every_order();
+    ranges_refused();
     lists_are_only_read();
     refusals_in_words();
     version();

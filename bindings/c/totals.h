@@ -8,13 +8,14 @@
  *   totals_sum_words   totals_dot_words     encodings of any format
  *   totals_pence_double  totals_pence_float  totals_pence_words   the exact sum in whole pence
  *   totals_table_double  totals_table_float  totals_table_words   the sums of the rows and columns of a table
+ *   totals_range_double  totals_range_words   the lower and the upper total of amounts known within a range
  *   totals_strerror                         a refusal in words
  *   totals_sum         totals_dot           the functions of the library, over bytes
  *   totals_sum_biased  totals_dot_biased    the same in a format that names its bias
- *   totals_pence       totals_table         and over words
+ *   totals_pence       totals_table   totals_range   and over words
  *
- * The first sixteen count elements, and answer with a record. They are inline, plain C, and call the
- * last six, which are proved. docs/LINKING.md has each with its special cases and an example.
+ * The first eighteen count elements, and answer with a record. They are inline, plain C, and call the
+ * last seven, which are proved. docs/LINKING.md has each with its special cases and an example.
  * What is claimed of the library stands in docs/PROMISES.md, the exact meaning of each number below
  * in docs/SPECIFICATION.md. No function keeps a state, and all may be called from several threads.
  */
@@ -28,9 +29,9 @@
 
 /* The version of this header and of the archive that it was written for. */
 #define TOTALS_VERSION_MAJOR 0
-#define TOTALS_VERSION_MINOR 4
+#define TOTALS_VERSION_MINOR 5
 #define TOTALS_VERSION_PATCH 0
-#define TOTALS_VERSION "0.4.0"
+#define TOTALS_VERSION "0.5.0"
 #define TOTALS_VERSION_NUMBER (TOTALS_VERSION_MAJOR * 10000 + TOTALS_VERSION_MINOR * 100 + TOTALS_VERSION_PATCH)
 
 #ifdef __cplusplus
@@ -139,6 +140,13 @@ enum {
     TOTALS_SQUARE = 2
 };
 
+/* Tag: what is known of an amount. */
+enum {
+    TOTALS_KNOWN = 0,   /* it is the first figure */
+    TOTALS_BETWEEN = 1, /* it lies between the first figure and the second, or is one of them */
+    TOTALS_MISSING = 2  /* it lies between zero and the ceiling, or is one of them */
+};
+
 /* Flags: byte 8 of an answer is a sum of these. */
 enum {
     TOTALS_INVALID = 1,          /* a signaling NaN, infinities of both signs, or an infinity times zero */
@@ -158,7 +166,7 @@ enum {
     TOTALS_NO_COMPARISON = 3 /* there is nothing to compare: a NaN, or an infinity */
 };
 
-/* The most elements of a list, pairs of a dot, or cells of a table. */
+/* The most elements of a list, pairs of a dot, cells of a table, or entries of a range. */
 #define TOTALS_MOST_ELEMENTS 1048576
 
 /*
@@ -168,18 +176,20 @@ enum {
 enum {
     TOTALS_ACCEPTED = 0,
     TOTALS_UNEVEN_LENGTH = 1,        /* a length that is not a multiple of 8 */
-    TOTALS_SHORT_BUFFER = 2,         /* an answer buffer under 24 bytes */
+    TOTALS_SHORT_BUFFER = 2,         /* an answer buffer under 24 bytes; range: a pair under two words */
     TOTALS_NO_SUCH_FORMAT = 3,       /* kind above 3, exponent bits outside 2..28, width below these + 2 or above 64,
                                         or a named bias outside -268,435,456..268,435,456 */
     TOTALS_SETTING_OUT_OF_RANGE = 4, /* a setting or the summand out of its range */
-    TOTALS_DIFFERENT_LENGTHS = 5,    /* dot: the lists differ in length */
-    TOTALS_TOO_MANY_ELEMENTS = 6,    /* over 1,048,576 elements (of a dot: pairs; of a table: cells) */
+    TOTALS_DIFFERENT_LENGTHS = 5,    /* dot, range: the lists differ in length */
+    TOTALS_TOO_MANY_ELEMENTS = 6,    /* over 1,048,576 elements (of a dot: pairs; of a table: cells; of a range: entries) */
     TOTALS_STRAY_BIT = 7,            /* an element is 2^width or more */
     TOTALS_NO_PENCE = 8,             /* pence: a NaN or an infinity in the list, or a figure of magnitude 2^63 or more */
     TOTALS_BAD_SHAPE = 9,            /* table: rows times columns, as whole numbers, is not the number of cells */
     TOTALS_NO_ROOM = 10,             /* table: a list of totals is shorter than there are rows, or columns */
+    TOTALS_BAD_AMOUNT = 11,          /* range: a tag above 2, a used figure not finite, a low above its high, or a ceiling that is
+                                        not finite or is below zero, even where no entry is missing */
     TOTALS_NO_LIST = 254,            /* this and the next from the inline functions alone: NULL for a list that is not empty */
-    TOTALS_NO_MEMORY = 255           /* a long list of float could not be copied */
+    TOTALS_NO_MEMORY = 255           /* a long list of float, or of the figures of a range, could not be copied */
 };
 
 #define TOTALS_REFUSAL(code) ((code) % 256)
@@ -296,9 +306,39 @@ uint64_t totals_table(uint64_t kind, uint64_t exponent_bits, uint64_t width, uin
                       uint8_t *answer, size_t answer_len);
 
 /*
+ * The lower and the upper total of amounts known within a range: whichever amounts the entries allow, their exact sum lies between the
+ * two, and no narrower pair of doubles or infinities has that property. A total of zero is +0; no entries have two. Every order of the
+ * entries gives the same pair.
+ *
+ *   tags, tag_count        TOTALS_KNOWN, TOTALS_BETWEEN or TOTALS_MISSING, one to a word, and the number of them
+ *   first, first_count     the first figure of each entry, an encoding of binary64
+ *   second, second_count   the second
+ *   ceiling                the most that a missing amount can be, an encoding of binary64; -0 is one of zero
+ *   pair, pair_room        at least two words
+ *
+ * The figures that an entry does not use may be anything, a NaN too: the second of a known one, both of a missing one. Counts are those of
+ * elements. No pointer may be NULL, not even with count 0. What is written, first, second and pair, lies apart from each other and from
+ * the tags.
+ *
+ * Returns 0 and writes the encodings of the lower and of the upper total to the first two words of the pair; later words stay as they were.
+ * The low of each entry is then left in first and its high in second, so that only figures that are not used change, and the lists stand
+ * for the same entries. Or writes nothing at all and returns the first of these that holds:
+ *
+ *   TOTALS_SHORT_BUFFER
+ *   TOTALS_DIFFERENT_LENGTHS
+ *   TOTALS_TOO_MANY_ELEMENTS
+ *   TOTALS_BAD_AMOUNT           without a place
+ */
+uint64_t totals_range(const uint64_t *tags, size_t tag_count,
+                      uint64_t *first, size_t first_count,
+                      uint64_t *second, size_t second_count,
+                      uint64_t ceiling,
+                      uint64_t *pair, size_t pair_room);
+
+/*
  * Records: what the inline functions answer. Where refusal is TOTALS_ACCEPTED, result, flags, passes and side hold the total, or
- * figure its pence. Else refusal says why there is none, and every other field is 0 but for the place of a TOTALS_STRAY_BIT. Later
- * versions add fields at the end.
+ * figure its pence, or lower and upper the two that it lies between. Else refusal says why there is none, and every other field is 0
+ * but for the place of a TOTALS_STRAY_BIT. Later versions add fields at the end.
  */
 typedef struct totals_record {
     uint64_t result; /* an encoding of the format */
@@ -335,6 +375,14 @@ typedef struct totals_pence_record {
     unsigned refusal;
 } totals_pence_record;
 
+typedef struct totals_range_record {
+    double lower;
+    double upper;
+    uint64_t lower_bits; /* the encodings of the two */
+    uint64_t upper_bits;
+    unsigned refusal;
+} totals_range_record;
+
 /*
  * A refusal in words. Takes the refusal of a record, or all that a function of the library returned.
  * Never NULL; of a number that it does not know it says so.
@@ -344,22 +392,27 @@ static inline const char *totals_strerror(uint64_t refusal)
     switch (TOTALS_REFUSAL(refusal)) {
     case TOTALS_ACCEPTED: return "accepted";
     case TOTALS_UNEVEN_LENGTH: return "the length in bytes is not a multiple of 8";
-    case TOTALS_SHORT_BUFFER: return "the answer buffer has fewer than 24 bytes";
+    case TOTALS_SHORT_BUFFER: return "the answer buffer has fewer than 24 bytes, or the pair fewer than two words";
     case TOTALS_NO_SUCH_FORMAT: return "there is no such format, or the bias that it names is out of its range";
     case TOTALS_SETTING_OUT_OF_RANGE: return "a setting or the summand is out of its range";
-    case TOTALS_DIFFERENT_LENGTHS: return "the two lists differ in length";
+    case TOTALS_DIFFERENT_LENGTHS: return "the lists differ in length";
     case TOTALS_TOO_MANY_ELEMENTS: return "there are more than 1,048,576 elements";
     case TOTALS_STRAY_BIT: return "an element does not fit the format's width";
     case TOTALS_NO_PENCE: return "the list holds a NaN or an infinity, or its sum is 2^63 pence or more, of either sign";
     case TOTALS_BAD_SHAPE: return "rows times columns is not the number of cells";
     case TOTALS_NO_ROOM: return "there is no room for the total of each row and column";
+    case TOTALS_BAD_AMOUNT:
+        return "a tag is above 2, a figure is not finite, a low is above its high, or the ceiling is not finite or below zero";
     case TOTALS_NO_LIST: return "the list is NULL, and its length is not 0";
     case TOTALS_NO_MEMORY: return "there is no memory for a copy of the list";
     default: return "a refusal that this header does not know";
     }
 }
 
-/* Where a list of float has more than TOTALS_ROOM_ elements, it is copied to memory of this kind. Both may be defined before. */
+/*
+ * Where a list of float, or of the figures of a range, has more than TOTALS_ROOM_ elements, it is copied to memory of this kind. Both
+ * may be defined before.
+ */
 #ifndef TOTALS_MALLOC
 #define TOTALS_MALLOC(size) malloc(size)
 #define TOTALS_FREE(pointer) free(pointer)
@@ -648,6 +701,39 @@ static inline totals_record totals_take_table_(totals_format f, const totals_set
     return record;
 }
 
+/* What is wrong with the lists of a range, as far as it can be told without reading them. */
+static inline uint64_t totals_unlent_(totals_list_ tags, totals_list_ first, totals_list_ second)
+{
+    if (tags.count != first.count || tags.count != second.count) {
+        return TOTALS_DIFFERENT_LENGTHS;
+    }
+    if (tags.count > TOTALS_MOST_ELEMENTS) {
+        return TOTALS_TOO_MANY_ELEMENTS;
+    }
+    return totals_is_missing_(tags) || totals_is_missing_(first) || totals_is_missing_(second) ? TOTALS_NO_LIST : TOTALS_ACCEPTED;
+}
+
+/* Where the code is TOTALS_ACCEPTED, the lists have `count` elements each, or may be NULL where there are none. */
+static inline totals_range_record totals_take_range_(uint64_t code, const uint64_t *tags, uint64_t *first, uint64_t *second, size_t count,
+                                                     uint64_t ceiling)
+{
+    totals_range_record record = {0, 0, 0, 0, 0};
+    uint64_t none[3] = {0, 0, 0}, pair[2] = {0, 0};
+
+    if (code == TOTALS_ACCEPTED) {
+        const int is_empty = count == 0;
+        code = totals_range(is_empty ? none : tags, count, is_empty ? none + 1 : first, count, is_empty ? none + 2 : second, count, ceiling,
+                            pair, 2);
+    }
+    /* a refused call leaves the pair, two of +0 */
+    record.lower_bits = pair[0];
+    record.upper_bits = pair[1];
+    memcpy(&record.lower, &pair[0], sizeof record.lower);
+    memcpy(&record.upper, &pair[1], sizeof record.upper);
+    record.refusal = (unsigned)TOTALS_REFUSAL(code);
+    return record;
+}
+
 static inline totals_double_record totals_as_double_(totals_record record)
 {
     totals_double_record of;
@@ -799,6 +885,46 @@ static inline totals_record totals_table_words(totals_format format, const uint6
 {
     return totals_take_table_(format, settings, totals_list_of_(cells, count, sizeof *cells), rows, columns, row_totals, row_room,
                               column_totals, column_room);
+}
+
+/*
+ * The lower and the upper total of entries, as totals_range has them. A list may be NULL where its count is 0. Of double both lists of
+ * figures are only read, and may be one: they are copied, eight bytes a figure. Words are lent where they lie, so an accepted call leaves
+ * the lows in first and the highs in second.
+ */
+static inline totals_range_record totals_range_double(const uint64_t *tags, size_t tag_count, const double *first, size_t first_count,
+                                                      const double *second, size_t second_count, double ceiling)
+{
+    uint64_t code = totals_unlent_(totals_list_of_(tags, tag_count, sizeof *tags), totals_list_of_(first, first_count, sizeof *first),
+                                   totals_list_of_(second, second_count, sizeof *second));
+    uint64_t room[2 * TOTALS_ROOM_], *owned = NULL, *lows = room, *highs = room + TOTALS_ROOM_, most;
+    totals_range_record record;
+
+    if (code == TOTALS_ACCEPTED && tag_count > TOTALS_ROOM_) {
+        owned = (uint64_t *)TOTALS_MALLOC(2 * 8 * tag_count);
+        if (owned == NULL) {
+            code = TOTALS_NO_MEMORY;
+        } else {
+            lows = owned;
+            highs = owned + tag_count;
+        }
+    }
+    if (code == TOTALS_ACCEPTED && tag_count != 0) {
+        memcpy(lows, first, 8 * tag_count);
+        memcpy(highs, second, 8 * tag_count);
+    }
+    memcpy(&most, &ceiling, sizeof most);
+    record = totals_take_range_(code, tags, lows, highs, tag_count, most);
+    TOTALS_FREE(owned);
+    return record;
+}
+
+static inline totals_range_record totals_range_words(const uint64_t *tags, size_t tag_count, uint64_t *first, size_t first_count,
+                                                     uint64_t *second, size_t second_count, uint64_t ceiling)
+{
+    const uint64_t code = totals_unlent_(totals_list_of_(tags, tag_count, sizeof *tags), totals_list_of_(first, first_count, sizeof *first),
+                                         totals_list_of_(second, second_count, sizeof *second));
+    return totals_take_range_(code, tags, first, second, tag_count, ceiling);
 }
 
 #ifdef __cplusplus

@@ -4,6 +4,7 @@
 extern crate alloc;
 
 mod format;
+mod range;
 pub mod raw;
 mod record;
 mod refusal;
@@ -13,6 +14,7 @@ mod totals;
 mod value;
 
 pub use format::{Format, Kind};
+pub use range::{range, Amount};
 pub use record::{Flags, Record, Side};
 pub use refusal::{List, Refusal};
 pub use settings::{NanPropagation, Rounding, Settings, Summand, Tininess};

@@ -1,8 +1,8 @@
-//! The six entries of `libtotals.a`, as they are: four over bytes, and [`pence`] and [`table`] over
-//! words.
+//! The seven entries of `libtotals.a`, as they are: four over bytes, and [`pence`], [`table`] and
+//! [`range`] over words.
 //!
 //! The numbers and the layout of the answer are those of the repository's `docs/SPECIFICATION.md`.
-//! For most callers [`Totals`](crate::Totals) is the better way in.
+//! For most callers [`Totals`](crate::Totals), and for ranges [`crate::range`], is the better way in.
 
 use alloc::vec::Vec;
 
@@ -130,6 +130,17 @@ mod entry {
             column_room: usize,
             answer: *mut u8,
             answer_len: usize,
+        ) -> u64;
+        pub fn totals_range(
+            tags: *const u64,
+            tag_count: usize,
+            first: *mut u64,
+            first_count: usize,
+            second: *mut u64,
+            second_count: usize,
+            ceiling: u64,
+            pair: *mut u64,
+            pair_room: usize,
         ) -> u64;
     }
 }
@@ -430,6 +441,63 @@ pub fn table(
             column_totals.len(),
             answer.as_mut_ptr(),
             answer.len(),
+        )
+    }
+}
+
+/// The lower and the upper total of amounts known within a range. `tags` say of each entry whether
+/// its amount is the first figure (0), lies between the first and the second (1), or is missing (2),
+/// and then lies between zero and the ceiling. Figures and ceiling are encodings of binary64. Those
+/// that an entry does not use may be any words: the second of a known one, both of a missing one.
+///
+/// Returns 0 and writes the two totals to `pair`, whose later words stay as they were. The low of each
+/// entry is then left in `first` and its high in `second`. So only figures that are not used change,
+/// and the lists stand for the same entries. Or returns a refusal's code and writes nothing at all: 2
+/// where `pair` has fewer than two words, else 5 where the lists differ in length, 6 or 11. What these
+/// mean is said at [`range`](crate::range).
+///
+/// Proved: the contract of `totals_range` in `crates/totals/src/entry.rt`; `range-holds`,
+/// `range-narrowest`, `range-zero`, `range-order`, `range-refused-exactly`, `range-entry-refused`,
+/// `range-entries-kept` in `crates/totals_spec/proofs/Promises.antt`.
+///
+/// ```
+/// use fermuzhai::raw;
+///
+/// let [low, high, ceiling] = [-100f64, 200.0, 1000.0].map(f64::to_bits);
+/// // between −100 and 200; and a missing amount, with a NaN and a stray word for its figures
+/// let (tags, mut first, mut second) = ([1, 2], [low, 0x7ff8 << 48], [high, 7]);
+/// let mut pair = [7; 3];
+/// assert_eq!(raw::range(&tags, &mut first, &mut second, ceiling, &mut pair), 0);
+/// assert_eq!(pair, [(-100f64).to_bits(), 1200f64.to_bits(), 7]);
+/// // the missing amount is one from +0 to the ceiling
+/// assert_eq!(first, [low, 0]);
+/// assert_eq!(second, [high, ceiling]);
+///
+/// assert_eq!(raw::range(&[3], &mut [0], &mut [0], ceiling, &mut pair), 11);
+/// assert_eq!(raw::range(&[0], &mut [0], &mut [], ceiling, &mut pair), 5);
+/// ```
+#[must_use = "the pair is written only where 0 is returned"]
+pub fn range(
+    tags: &[u64],
+    first: &mut [u64],
+    second: &mut [u64],
+    ceiling: u64,
+    pair: &mut [u64],
+) -> u64 {
+    // SAFETY: each pointer comes with the length of the slice that it is taken from, and the three
+    // that are borrowed for writing lie apart from each other and from `tags`. Of the numbers nothing
+    // is asked.
+    unsafe {
+        entry::totals_range(
+            tags.as_ptr(),
+            tags.len(),
+            first.as_mut_ptr(),
+            first.len(),
+            second.as_mut_ptr(),
+            second.len(),
+            ceiling,
+            pair.as_mut_ptr(),
+            pair.len(),
         )
     }
 }

@@ -27,15 +27,15 @@ impl Display for OfList {
 /// of a table 9 and 10 come before 7. The numbers and their conditions stand in
 /// `docs/SPECIFICATION.md` of the repository.
 ///
-/// Proved: `sum-refusal`, `dot-refusal`, `sum-pence-refused-exactly`, `table-refused-exactly` in
-/// `crates/totals_spec/proofs/Promises.antt`.
+/// Proved: `sum-refusal`, `dot-refusal`, `sum-pence-refused-exactly`, `table-refused-exactly`,
+/// `range-refused-exactly` in `crates/totals_spec/proofs/Promises.antt`.
 ///
 /// ```
 /// use fermuzhai::{dot, Refusal};
 ///
 /// let refusal = dot(&[1.0, 2.0], &[3.0]).unwrap_err();
 /// assert_eq!(refusal, Refusal::DifferentLengths);
-/// assert_eq!(refusal.to_string(), "the two lists differ in length");
+/// assert_eq!(refusal.to_string(), "the lists differ in length");
 /// ```
 #[derive(Clone, Copy, Debug, PartialEq, Eq, Hash)]
 #[non_exhaustive]
@@ -46,7 +46,8 @@ pub enum Refusal {
         /// [`Refusal::from_code`].
         list: Option<List>,
     },
-    /// 2: an answer buffer under 24 bytes; only through [`raw`](crate::raw).
+    /// 2: an answer buffer under 24 bytes, or of a range a pair under two words; only through
+    /// [`raw`](crate::raw).
     ShortBuffer,
     /// 3: the library has no such format, or the format names a bias outside −268,435,456 to
     /// 268,435,456.
@@ -61,9 +62,10 @@ pub enum Refusal {
     /// 4: a setting or the summand out of its range; only through [`raw`](crate::raw), whose numbers can say
     /// what the types of this crate cannot.
     SettingOutOfRange,
-    /// 5: the two lists of a dot have different lengths.
+    /// 5: the two lists of a dot have different lengths; or the three of a range, through
+    /// [`raw`](crate::raw).
     DifferentLengths,
-    /// 6: over 1,048,576 elements (of a dot: pairs; of a table: cells).
+    /// 6: over 1,048,576 elements (of a dot: pairs; of a table: cells; of a range: entries).
     TooManyElements,
     /// 7: an element is 2 to the power of the format's width, or more.
     StrayBit {
@@ -81,6 +83,10 @@ pub enum Refusal {
     /// 10: there are fewer places for the totals of a table than it has rows, or fewer than it has
     /// columns.
     NoRoom,
+    /// 11: of a range, a figure that an entry uses is not finite, or a low is above its high; or the
+    /// ceiling is not finite or below zero, even where no entry is missing. Through
+    /// [`raw`](crate::raw) also a tag above 2. It has no place.
+    BadAmount,
     /// A code that this crate does not know: the archive is not the one that it was written for.
     Unknown {
         /// What the entry returned.
@@ -112,6 +118,7 @@ impl Refusal {
             8 => Self::NoPence,
             9 => Self::BadShape,
             10 => Self::NoRoom,
+            11 => Self::BadAmount,
             _ if code % 256 == 7 => Self::StrayBit {
                 place: (code / 256) as usize,
                 list: None,
@@ -131,7 +138,9 @@ impl Display for Refusal {
                     OfList(*list)
                 )
             }
-            Self::ShortBuffer => out.write_str("the answer buffer has fewer than 24 bytes"),
+            Self::ShortBuffer => out.write_str(
+                "the answer buffer has fewer than 24 bytes, or the pair fewer than two words",
+            ),
             Self::NoSuchFormat => out.write_str(
                 "there is no such format, or the bias that it names is out of its range",
             ),
@@ -144,7 +153,7 @@ impl Display for Refusal {
             Self::SettingOutOfRange => {
                 out.write_str("a setting or the summand is out of its range")
             }
-            Self::DifferentLengths => out.write_str("the two lists differ in length"),
+            Self::DifferentLengths => out.write_str("the lists differ in length"),
             Self::TooManyElements => out.write_str("there are more than 1,048,576 elements"),
             Self::StrayBit { place, list } => {
                 write!(
@@ -158,6 +167,9 @@ impl Display for Refusal {
             ),
             Self::BadShape => out.write_str("rows times columns is not the number of cells"),
             Self::NoRoom => out.write_str("there is no room for the total of each row and column"),
+            Self::BadAmount => out.write_str(
+                "a tag is above 2, a figure is not finite, a low is above its high, or the ceiling is not finite or below zero",
+            ),
             Self::Unknown { code } => {
                 write!(
                     out,
@@ -191,8 +203,9 @@ mod tests {
         assert_eq!(Refusal::from_code(8), Some(Refusal::NoPence));
         assert_eq!(Refusal::from_code(9), Some(Refusal::BadShape));
         assert_eq!(Refusal::from_code(10), Some(Refusal::NoRoom));
+        assert_eq!(Refusal::from_code(11), Some(Refusal::BadAmount));
         // a place belongs to a stray bit alone
-        for code in [11, 255, 256, 257, 8 + 256, 9 + 256, 10 + 256, u64::MAX] {
+        for code in [12, 255, 256, 257, 8 + 256, 9 + 256, 11 + 256, u64::MAX] {
             assert_eq!(Refusal::from_code(code), Some(Refusal::Unknown { code }));
         }
     }
@@ -209,6 +222,10 @@ mod tests {
                     list: Some(List::Right),
                 },
                 "the length of the right list in bytes is not a multiple of 8",
+            ),
+            (
+                Refusal::ShortBuffer,
+                "the answer buffer has fewer than 24 bytes, or the pair fewer than two words",
             ),
             (
                 Refusal::NoSuchFormat,
@@ -239,6 +256,11 @@ mod tests {
             (
                 Refusal::NoRoom,
                 "there is no room for the total of each row and column",
+            ),
+            (Refusal::DifferentLengths, "the lists differ in length"),
+            (
+                Refusal::BadAmount,
+                "a tag is above 2, a figure is not finite, a low is above its high, or the ceiling is not finite or below zero",
             ),
         ] {
             assert_eq!(refusal.to_string(), words);
