@@ -68,7 +68,7 @@ column  0      p
        79      twelve values, 16 digits each
       283      the bias, in a row that names one
 
-Last come the rows of tables, without and with a named bias, each part with its number first. Such a row has 487 or 505 bytes, with the format, the
+Then come the rows of tables, without and with a named bias, each part with its number first. Such a row has 487 or 505 bytes, with the format, the
 settings, the length of the buffer and the record that is expected of all cells where a sum's row has them; and else:
 
 column  0      t
@@ -78,12 +78,26 @@ column  0      t
       283      rows, columns
       317      ten totals that are expected: of the rows, and behind them of the columns
       487      the bias, in a row that names one
+
+Behind the tables stand the rows of amounts known within a range, their number first. Such a row has 487 bytes:
+
+column  0      r
+        2      lengths of the lists: of the tags, of the first and of the second figures
+        6      length of the list that is lent for the pair
+        8      refusal, two digits
+       11      what the entry returns, two digits
+       14      ceiling, lower total, upper total, 16 digits each
+       65      six tags, a digit each: itself up to 2, and else one of the greater tags in the list TAGS
+       79      six first figures, 16 digits each, as are all that follow
+      181      six second figures
+      283      what an accepted call leaves in the place of the first figures: six lows
+      385      and of the second ones: six highs
 """
 
 import os
 import subprocess
 import sys
-from itertools import combinations, product
+from itertools import combinations, permutations, product
 
 sys.dont_write_bytecode = True
 from model import *
@@ -1178,6 +1192,9 @@ def texts(made):
         stdout += dots(name) + ' %d of %d agree\n' % (len(rows), len(rows))
     # the same of the entry of tables, and 2 where the buffer is too short besides
     stdout += dots('tables, a bias misnamed') + ' 8 of 8 agree\n'
+    rows = ranges()
+    stdin += '%04x\n' % len(rows) + ''.join(r.row() for r in rows)
+    stdout += dots('amounts known within a range') + ' %d of %d agree\n' % (len(rows), len(rows))
     return stdin, stdout
 
 
@@ -1189,7 +1206,7 @@ def pence_parts():
 
 
 def table_parts():
-    """The last parts, each with its name and its tables."""
+    """The parts of tables, each with its name and its rows."""
     return [('tables', tables()), ('tables, a bias named', biased_tables())]
 
 
@@ -1240,7 +1257,8 @@ def check():
         at += 1 + n
     for name, other in (('pence of one encoding', pence_again), ('pence of one encoding, a bias named', pence_again),
                         ('pence of lists', lambda row: list_of(row, False).row()), ('pence of lists, a bias named', lambda row: list_of(row, True).row()),
-                        ('tables', lambda row: table_of(row, False).row()), ('tables, a bias named', lambda row: table_of(row, True).row())):
+                        ('tables', lambda row: table_of(row, False).row()), ('tables, a bias named', lambda row: table_of(row, True).row()),
+                        ('amounts known within a range', lambda row: range_of(row).row())):
         n = int(lines[at], 16)
         for i, row in enumerate(lines[at + 1:at + 1 + n]):
             rows += 1
@@ -1288,6 +1306,7 @@ def cover():
     cover_pence(pence_lists())
     cover_biased_pence(biased_pence_lists())
     cover_tables(tables() + biased_tables())
+    cover_ranges(ranges())
 
 
 def cover_plain(every):
@@ -2143,6 +2162,234 @@ def cover_tables(every):
            lambda t: (tuple(sorted(t.holds - {3})),), [(), (2,), (4,), (9,), (10,), (7,)])
     fewest('9 where the product is the number of cells modulo 2^64', [t for t in every if 9 in t.holds],
            lambda t: (t.rows * t.columns % 2 ** 64 == len(t.cells),), (True,))
+
+
+# ---- amounts known within a range
+
+ENTRIES = 6
+# the tag of each digit
+TAGS = (0, 1, 2, 3, 4, 127, 128, 255, 256, 257, 258, 65538, 2 ** 32, 2 ** 32 + 2, 2 ** 63 + 1, 2 ** 64 - 1)
+MINUS = 1 << 63
+MOST, NOT_A_NUMBER, SIGNALING = 0x7fefffffffffffff, 0x7ff8000000000000, 0x7ff0000000000001
+UNIT, HUNDRED, THOUSAND = 0x3ff0000000000000, 0x4059000000000000, 0x408f400000000000
+# the greatest subnormal number, and the least normal one
+SMALL, NORMAL = 0x000fffffffffffff, 0x0010000000000000
+# figures that are not used
+UNUSED = (NOT_A_NUMBER, SIGNALING, MINUS + NOT_A_NUMBER, INFINITE, MINUS + INFINITE, 2 ** 64 - 1, MINUS, MOST, 5)
+
+
+class Amounts:
+    """Entries known within a range, the length of the list that is lent for the pair, and what they answer."""
+
+    def __init__(self, entries, ceiling=0, lent=2, lengths=None):
+        tags, firsts, seconds = ([entry[i] for entry in entries] for i in range(3))
+        a, b, c = lengths or (len(entries),) * 3
+        self.tags, self.firsts, self.seconds, self.ceiling, self.lent = tags[:a], firsts[:b], seconds[:c], ceiling, lent
+        self.causes = range_conditions(self.tags, self.firsts, self.seconds, ceiling, lent)
+        self.holds = {n for n, _ in self.causes}
+        self.returned = min(self.holds, default=0)
+        self.refusal = min(self.holds - {2}, default=0)
+        self.lows, self.highs = (self.firsts, self.seconds) if self.refusal else range_ends(self.tags, self.firsts, self.seconds, ceiling)
+        self.pair = (0, 0) if self.refusal else range_pair(self.lows, self.highs)
+
+    def row(self):
+        lists = self.tags, self.firsts, self.seconds
+        assert max(map(len, lists)) <= ENTRIES and self.lent <= 4
+        filled = lambda words: words + [0] * (ENTRIES - len(words))
+        text = 'r %x%x%x %x %02x %02x %016x %016x %016x %s ------' % (
+            *map(len, lists), self.lent, self.refusal, self.returned, self.ceiling, *self.pair, ''.join('%x' % TAGS.index(tag) for tag in filled(self.tags)))
+        assert len(text) == HEAD - 1
+        return ' '.join([text] + ['%016x' % v for list in (self.firsts, self.seconds, self.lows, self.highs) for v in filled(list)]) + '\n'
+
+
+def range_of(row):
+    """The entries of a row, with the model's answer."""
+    number = lambda at, digits: int(row[at:at + digits], 16)
+    lengths = number(2, 1), number(3, 1), number(4, 1)
+    entries = [(TAGS[number(65 + i, 1)], number(HEAD + 17 * i, 16), number(HEAD + 17 * (ENTRIES + i), 16)) for i in range(max(lengths))]
+    return Amounts(entries, number(14, 16), number(6, 1), lengths)
+
+
+def known(b, unused=0):
+    return KNOWN, b, unused
+
+
+def between(a, b):
+    return BETWEEN, a, b
+
+
+def missing(first=0, second=0):
+    return MISSING, first, second
+
+
+def range_examples():
+    """Worked out by hand."""
+    tie = power(DOUBLE, -53)
+    rows = [
+        ([known(MOST), known(MOST)], 0, MOST, INFINITE),
+        ([known(MINUS + MOST), known(MINUS + MOST)], 0, MINUS + INFINITE, MINUS + MOST),
+        ([known(UNIT), known(tie)], 0, UNIT, UNIT + 1),
+        ([known(MINUS + UNIT), known(MINUS + tie)], 0, MINUS + UNIT + 1, MINUS + UNIT),
+        ([between(MINUS + HUNDRED, 0x4069000000000000), missing()], THOUSAND, MINUS + HUNDRED, 0x4092c00000000000),
+        ([between(MINUS + MOST, MOST)], 0, MINUS + MOST, MOST),
+        ([between(MINUS + MOST, MOST), known(UNIT)], 0, MINUS + MOST, INFINITE),
+        ([between(MINUS + MOST, MOST), known(MINUS + 1)], 0, MINUS + INFINITE, MOST),
+        ([between(MINUS + MOST, MOST)] * 2, 0, MINUS + INFINITE, INFINITE),
+        ([], 0, 0, 0),
+        ([], MOST, 0, 0),
+        ([known(MINUS)], 0, 0, 0),
+        ([between(0, MINUS)], 0, 0, 0),
+        ([between(MINUS, 0)], 0, 0, 0),
+        ([known(UNIT), known(MINUS + UNIT)], 0, 0, 0),
+        ([missing()] * 2, MINUS, 0, 0),
+        ([missing()] * 3, UNIT, 0, 0x4008000000000000),
+        ([missing()] * 6, MOST, 0, INFINITE),
+        ([between(MINUS + 1, 1), known(1)], 0, 0, 2),
+        ([between(MINUS + 2, MINUS + 1), known(1)], 0, MINUS + 1, 0),
+        ([known(power(DOUBLE, 1000)), between(MINUS + UNIT, UNIT), known(power(DOUBLE, 1000, 1))], 0, MINUS + UNIT, UNIT),
+        ([known(MOST), known(MOST), known(MINUS + MOST)], 0, MOST, MOST),
+        ([known(MOST), missing()], 1, MOST, INFINITE),
+        ([known(SMALL), known(1)], 0, NORMAL, NORMAL),
+    ]
+    made = []
+    for i, (entries, ceiling, lower, upper) in enumerate(rows):
+        made.append(Amounts(entries, ceiling, 2 + i % 3))
+        assert made[-1].pair == (lower, upper) and not made[-1].holds, (entries, ['%x' % b for b in made[-1].pair])
+    return made
+
+
+def range_entries():
+    """Entries alone: known by a figure of every kind, from one figure to the same or to the next, missing under ceilings."""
+    figures = 0, 1, SMALL, NORMAL, UNIT, UNIT + 1, power(DOUBLE, 52), MOST
+    made = [Amounts([known(sign + b, UNUSED[i % 9])]) for i, b in enumerate(figures) for sign in (0, MINUS)]
+    made += [Amounts([between(b, b)], UNIT) for b in (0, MINUS, MINUS + 1, UNIT, MOST)]
+    for a, b in ((0, 1), (MINUS + 1, MINUS), (MINUS + 1, 0), (SMALL, NORMAL), (MINUS + NORMAL, MINUS + SMALL), (MINUS + UNIT, UNIT), (MOST - 1, MOST),
+                 (MINUS + MOST, MINUS + MOST - 1), (MINUS + MOST, MINUS), (0, MOST), (MINUS + SMALL, 1)):
+        made.append(Amounts([between(a, b)], lent=3))
+    made += [Amounts([missing(UNUSED[i], UNUSED[8 - i])], z) for i, z in enumerate((0, MINUS, 1, SMALL, NORMAL, UNIT, THOUSAND, MOST))]
+    # one of each tag, in each order, with figures that are not used
+    for i, order in enumerate(permutations((known(UNIT, NOT_A_NUMBER), between(MINUS + HUNDRED, HUNDRED), missing(INFINITE, MINUS + SIGNALING)))):
+        made.append(Amounts(list(order), THOUSAND, 2 + i % 3))
+    return made + [Amounts([known(HUNDRED, b), missing(b, UNUSED[-1 - i])], UNIT) for i, b in enumerate(UNUSED[:5])]
+
+
+def range_roundings():
+    """Sums beside a double: exact, a tie, and a trace more or less than each, as both totals and as one of them; beside the greatest double, among the
+    subnormal numbers, and where huge figures cancel."""
+    made = []
+    half, trace = power(DOUBLE, -53), 1
+    for parts, sign in product(([half], [half, trace], [half, MINUS + trace], [trace], [MINUS + trace], [MINUS + half], [UNIT - 1, half]), (0, MINUS)):
+        figures = [b ^ sign for b in [UNIT] + parts]
+        made.append(Amounts([known(b) for b in figures], UNIT))
+        made.append(Amounts([known(figures[0])] + [between(0, b) if b < MINUS else between(b, 0) for b in figures[1:]]))
+    # beside the greatest double a tie is half of 2^971
+    half = power(DOUBLE, 970)
+    for parts in ([half], [half, MINUS + trace], [trace], [MINUS + trace], [half, half], [MINUS + MOST, trace], [MOST, MINUS + MOST],
+                  [MOST, MINUS + MOST, trace]):
+        made += [Amounts([known(b ^ sign) for b in [MOST] + parts], lent=4) for sign in (0, MINUS)]
+    huge = power(DOUBLE, 1000, 0, 0x123456789abcd)
+    for small in (UNIT, MINUS + 1, half):
+        made.append(Amounts([known(huge), known(small), known(MINUS + huge)]))
+        made.append(Amounts([between(MINUS + huge, huge), known(small), missing(), known(MINUS + huge)], huge))
+    return made + [Amounts([between(MINUS + 1, SMALL), known(b), missing()], SMALL) for b in (SMALL, MINUS + 1, MINUS + SMALL, MINUS + NORMAL)]
+
+
+def range_ceilings():
+    """Good ceilings and bad ones, with an entry that is missing, with none, and with no entry."""
+    bad = NOT_A_NUMBER, SIGNALING, 2 ** 64 - 1, INFINITE, MINUS + INFINITE, MINUS + 1, MINUS + UNIT, MINUS + MOST
+    made = [Amounts(entries, z, 2 + i % 2) for i, z in enumerate(bad) for entries in ([known(UNIT)], [missing()] if i % 2 else [])]
+    return made + [Amounts([known(UNIT), between(0, UNIT)], z) for z in (MINUS, 1, MOST)] + [Amounts([missing(), known(UNIT)], MINUS), Amounts([], MINUS)]
+
+
+def range_refusals():
+    """Each cause of 11, 5 by each list, 2, and several at once."""
+    made = [Amounts([known(UNIT)] * (i % 6) + [(tag, UNIT, UNIT)], UNIT) for i, tag in enumerate(TAGS[3:])]
+    for i, b in enumerate((NOT_A_NUMBER, SIGNALING, MINUS + NOT_A_NUMBER, INFINITE, MINUS + INFINITE)):
+        made.append(Amounts([missing()] * i + [known(b, UNIT)]))
+        made.append(Amounts([between(b, MOST)] + [known(0)] * i))
+        made.append(Amounts([known(b ^ b % MINUS), between(MINUS + MOST, b), missing()]))
+    # a low above its high: by the least step, over zero, by the sign, amid others
+    for a, b in ((UNIT + 1, UNIT), (MINUS + UNIT, MINUS + UNIT + 1), (1, 0), (1, MINUS), (0, MINUS + 1), (MINUS, MINUS + 1), (1, MINUS + 1), (MOST, MOST - 1),
+                 (NORMAL, SMALL), (UNIT, MINUS + UNIT), (MOST, MINUS + MOST)):
+        made.append(Amounts([known(UNIT)] * (a % 3) + [between(a, b)], THOUSAND))
+    for i, lengths in enumerate(((2, 2, 3), (2, 3, 2), (3, 2, 2), (0, 0, 1), (0, 1, 0), (1, 0, 0), (0, 1, 1), (1, 2, 3), (6, 6, 5))):
+        made.append(Amounts([known(UNIT)] * 6, UNIT, 2 + i % 3, lengths))
+    # 5 before 11: by the ceiling, a tag, a figure, a low above its high
+    for entry, z in ((known(UNIT), NOT_A_NUMBER), ((3, 0, 0), 0), (known(INFINITE), 0), (between(UNIT, 0), 0)):
+        made.append(Amounts([entry] * 3, z, lengths=(3, 3, 2)))
+        made.append(Amounts([entry] * 3, z, lengths=(2, 3, 3)))
+    # 2 alone, before 5, before 11, and before both
+    for entries, lengths in (([known(UNIT, 5), missing(5, 5)], None), ([known(UNIT)] * 2, (1, 2, 2)), ([(3, 0, 0)], None), ([(3, 0, 0)] * 2, (2, 2, 1))):
+        made += [Amounts(entries, UNIT, lent, lengths) for lent in range(2)]
+    return made
+
+
+def any_figure(draw, near):
+    """A finite double near an exponent, a subnormal one or a zero among them."""
+    b = draw.bits(1) << 63 | max(0, min(2046, near + draw.choice([0, 0, 1, -1, 53, -53, 54]))) << 52 | draw.choice([0, 1, draw.bits(52), draw.bits(52)])
+    return draw.choice([b, b, b, b, MINUS * draw.bits(1), MINUS * draw.bits(1) + 1, MINUS * draw.bits(1) + SMALL])
+
+
+def any_entries(draw):
+    near = draw.choice([0, 1, 2046, 1023, 1023, draw.bits(11)])
+    entries = []
+    for _ in range(draw.between(2, ENTRIES)):
+        a, b = sorted((any_figure(draw, near), any_figure(draw, near)), key=double)
+        entries.append(draw.choice([known(a, draw.choice(UNUSED)), between(a, b), between(a, b), missing(draw.choice(UNUSED), b)]))
+    return entries, any_figure(draw, near) % MINUS
+
+
+def range_orders(draw):
+    """Entries in five orders, one pair for each."""
+    made = []
+    for _ in range(5):
+        entries, z = any_entries(draw)
+        while len(set(entries)) < 4:
+            entries, z = any_entries(draw)
+        group = [Amounts(order, z, 3) for order in (entries, entries[::-1], sorted(entries), draw.shuffled(entries), draw.shuffled(entries))]
+        assert len({other.pair for other in group}) == 1 and not group[0].holds
+        made += group
+    return made
+
+
+def ranges():
+    draw = Draw(600)
+    made = range_examples() + range_entries() + range_roundings() + range_ceilings() + range_refusals() + range_orders(draw)
+    for i in range(7):
+        entries, z = any_entries(draw)
+        made.append(Amounts(entries, z, 2 + i % 3))
+    return made
+
+
+def cover_ranges(every):
+    accepted = [r for r in every if r.refusal == 0]
+    print('%5d  lists of amounts, %d of them accepted' % (len(every), len(accepted)))
+    each = lambda rows, of: [(r, kind) for r in rows for kind in of(r)]
+    second = lambda pair: (pair[1],)
+    fewest('tags', each(accepted, lambda r: set(r.tags)), second, range(3))
+    # a known entry's second figure, and both of a missing one
+    unused = lambda r: {(tag, math.isnan(double(b))) for tag, *two in zip(r.tags, r.firsts, r.seconds) for b in two[1 - tag // 2:]
+                        if tag != BETWEEN and not is_finite(b)}
+    fewest('infinities and NaNs in unused figures, known and missing', each(accepted, unused), lambda pair: pair[1], (KNOWN, MISSING), (False, True))
+    kind = lambda b: 'infinity' if not is_finite(b) else 'zero' if b % MINUS == 0 else 'subnormal' if b % MINUS < NORMAL else 'normal'
+    fewest('lower totals by kind', accepted, lambda r: (kind(r.pair[0]),), ('infinity', 'zero', 'subnormal', 'normal'))
+    fewest('upper totals by kind', accepted, lambda r: (kind(r.pair[1]),), ('infinity', 'zero', 'subnormal', 'normal'))
+    exact = lambda figures: sum((Fraction(double(b)) for b in figures), Fraction(0))
+    same = lambda b, figures: is_finite(b) and double(b) == exact(figures)
+    fewest('totals that are the sum of the lows or not, and of the highs', accepted, lambda r: (same(r.pair[0], r.lows), same(r.pair[1], r.highs)),
+           (True, False), (True, False))
+    # Python rounds a fraction to the nearest double, ties to even
+    nearest = lambda b, x: abs(x) >= 2 ** 1023 or float(x) == double(b)
+    fewest('totals that are not the nearest double', accepted, lambda r: (nearest(r.pair[0], exact(r.lows)), nearest(r.pair[1], exact(r.highs))),
+           (True, False), (True, False))
+    fewest('one cause of 11 alone', [r for r in every if len(r.causes) == 1 and r.holds == {11}], lambda r: next(iter(r.causes))[1:],
+           ('ceiling not finite', 'ceiling below zero', 'tag', 'first figure', 'second figure', 'low above high'))
+    fewest('a bad ceiling where no entry is missing', [r for r in every if r.refusal == 11 and MISSING not in r.tags and len(r.causes) == 1],
+           lambda r: (next(iter(r.causes))[1][:7],), ('ceiling',))
+    fewest('refusals alone and two or three at once', [r for r in every if r.holds], lambda r: (tuple(sorted(r.holds)),),
+           [(2,), (5,), (11,), (2, 5), (2, 11), (5, 11), (2, 5, 11)])
+    fewest('number of entries, 0 to 6', accepted, lambda r: (len(r.tags),), range(7))
+    fewest('length of the pair, 0 to 4', every, lambda r: (r.lent,), range(5))
 
 
 def main():

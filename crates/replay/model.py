@@ -1,12 +1,17 @@
-"""What document 01 says of a total, and document 02 of which way its result leans, of a named bias, of a list's pence and of a table, in whole numbers
-of any length.
+"""What document 01 says of a total, and document 02 of which way its result leans, of a named bias, of a list's pence, of a table and of amounts known
+within a range, in whole numbers of any length.
 
 Written from the text of document 01, and from the Rust's where document 01
 names a function of it (the choice among NaNs, overflow, the largest number).
 A sum is added up exactly, as a whole number times a power of two, and rounded
 once. The chain of passes is walked beside that, for the passes and the last
-edge alone; the result does not depend on the walk.
+edge alone; the result does not depend on the walk. A range's totals are found
+among the doubles by their size, with fractions and no rounding at all.
 """
+
+import math
+import struct
+from fractions import Fraction
 
 IEEE, NOINF, FNUZ, FINITE = range(4)
 EVEN, TIES_AWAY, TIES_TO_ZERO, UP, DOWN, TO_ZERO, AWAY, TO_ODD = range(8)
@@ -428,3 +433,80 @@ def table_lists(rows, columns, cells):
     """The cells of each row, from left to right, and those of each column, from top to bottom."""
     at = lambda i, j: cells[i * columns + j]
     return [[at(i, j) for j in range(columns)] for i in range(rows)], [[at(i, j) for i in range(rows)] for j in range(columns)]
+
+
+# ---- amounts known within a range
+
+KNOWN, BETWEEN, MISSING = range(3)
+INFINITE = 0x7ff0000000000000
+
+
+def double(b):
+    """The double of an encoding, as Python has it."""
+    return struct.unpack('<d', b.to_bytes(8, 'little'))[0]
+
+
+def is_finite(b):
+    return math.isfinite(double(b))
+
+
+def in_order(k):
+    """The encoding of the double k places above zero, or below it: from -infinity to infinity by its size, the one zero +0."""
+    return k if k >= 0 else (1 << 63) - k
+
+
+def not_above(k, x):
+    """Whether the double k places above zero is at most x; an infinity is below or above every fraction."""
+    return k == -INFINITE or k != INFINITE and Fraction(double(in_order(k))) <= x
+
+
+def greatest_not_above(x):
+    """The greatest double or infinity that is not above a fraction."""
+    low, high = -INFINITE, INFINITE
+    while high - low > 1:
+        k = (low + high) // 2
+        low, high = (k, high) if not_above(k, x) else (low, k)
+    return in_order(low)
+
+
+def least_not_below(x):
+    """The least one that is not below it: the negative of the greatest that is not above its negative."""
+    b = greatest_not_above(-x)
+    return b if b == 0 else b ^ 1 << 63
+
+
+def range_conditions(tags, firsts, seconds, ceiling, lent):
+    """The numbers whose conditions hold, each with what causes it; lent is the length of the list for the pair."""
+    holds = set()
+    if lent < 2:
+        holds.add((2, 'pair'))
+    if not len(tags) == len(firsts) == len(seconds):
+        holds.add((5, 'lengths'))
+    if len(tags) > LIMIT:
+        holds.add((6, 'entries'))
+    if not is_finite(ceiling):
+        holds.add((11, 'ceiling not finite'))
+    elif double(ceiling) < 0:
+        holds.add((11, 'ceiling below zero'))
+    for tag, first, second in zip(tags, firsts, seconds):
+        if tag > MISSING:
+            holds.add((11, 'tag'))
+        elif tag != MISSING and not is_finite(first):
+            holds.add((11, 'first figure'))
+        elif tag == BETWEEN and not is_finite(second):
+            holds.add((11, 'second figure'))
+        elif tag == BETWEEN and double(first) > double(second):
+            holds.add((11, 'low above high'))
+    return holds
+
+
+def range_ends(tags, firsts, seconds, ceiling):
+    """The lows and the highs of the entries of an accepted call."""
+    lows = [0 if tag == MISSING else first for tag, first in zip(tags, firsts)]
+    highs = [first if tag == KNOWN else second if tag == BETWEEN else ceiling for tag, first, second in zip(tags, firsts, seconds)]
+    return lows, highs
+
+
+def range_pair(lows, highs):
+    exact = lambda figures: sum((Fraction(double(b)) for b in figures), Fraction(0))
+    return greatest_not_above(exact(lows)), least_not_below(exact(highs))

@@ -1,9 +1,11 @@
 // Replays the cases of standard input: works each one out, compares the answer with the one that its row holds, and prints how many agree. Totals are
-// worked out over words, over bytes and through a byte entry, the pence of a list and the totals of a table by the function and through its entry.
+// worked out over words, over bytes and through a byte entry, the pence of a list, the totals of a table and those of ranges by the function and through its
+// entry.
 // cases.py makes the list, and says how it is laid out; README.md says where the answers come from.
 mod counts;
 mod figures;
 mod lists;
+mod ranges;
 mod row;
 mod tables;
 mod ways;
@@ -13,6 +15,7 @@ use figures::figures;
 use hex::number;
 use lists::lists;
 use lists::misnamed;
+use ranges::ranges;
 use row::BIASED;
 use row::LONG;
 use row::ROW;
@@ -142,7 +145,7 @@ fn sections(n: u64) -> Agreed
     all
 }
 
-// The number of the rows of pence, or of tables, that follow.
+// The number of the rows of pence, of tables or of ranges that follow.
 fn next_count() -> u64
     ensures { λ r. ⌜ r < 65536 ⌝ }
 {
@@ -177,6 +180,12 @@ fn report_tables(name: &[u8], biased: bool) {
     report_of(name, tables(n, biased), n);
 }
 
+// The same of the rows of ranges.
+fn report_ranges(name: &[u8]) {
+    let n = next_count();
+    report_of(name, ranges(n), n);
+}
+
 fn main() {
     let mut head = [0u8; 3];
     io::read_full(0, &mut head);
@@ -204,4 +213,5 @@ fn main() {
         tables::misnamed(),
         8,
     );
+    report_ranges(b"amounts known within a range ............... ");
 }

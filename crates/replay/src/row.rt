@@ -136,7 +136,7 @@ fn right_at(s: &[u8]) -> usize
 
 // Twelve values from one on. A sum's list begins at the value 0, and so does a dot's left list.
 pub fn words_at(s: &[u8], first: usize) -> [u64; 12]
-    requires { ⌜ first ≤ 12 ⌝ }
+    requires { ⌜ first ≤ 18 ⌝ }
     ensures { λ r. ⌜ length r ≡ 12 ⌝ }
 {
     let mut words = [0u64; 12];

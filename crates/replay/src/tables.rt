@@ -74,7 +74,7 @@ fn at_most_sixteen(n: usize) -> usize
     if n > 16 { 16 } else { n }
 }
 
-fn same_words(a: &[u64], b: &[u64]) -> bool {
+pub fn same_words(a: &[u64], b: &[u64]) -> bool {
     if a.len() != b.len() {
         return false;
     }
