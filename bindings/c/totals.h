@@ -306,9 +306,9 @@ uint64_t totals_table(uint64_t kind, uint64_t exponent_bits, uint64_t width, uin
                       uint8_t *answer, size_t answer_len);
 
 /*
- * The lower and the upper total of amounts known within a range: whichever amounts the entries allow, their exact sum lies between the
- * two, and no narrower pair of doubles or infinities has that property. A total of zero is +0; no entries have two. Every order of the
- * entries gives the same pair.
+ * The lower and the upper total of amounts known within a range: every sum that the entries allow lies on one of the two or between, and
+ * of two doubles or infinities that are nearer to each other this is not true. A total of zero is +0; no entries have two. Every order of
+ * the entries gives the same pair.
  *
  *   tags, tag_count        TOTALS_KNOWN, TOTALS_BETWEEN or TOTALS_MISSING, one to a word, and the number of them
  *   first, first_count     the first figure of each entry, an encoding of binary64

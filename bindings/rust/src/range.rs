@@ -32,8 +32,8 @@ impl Amount {
     }
 }
 
-/// The lower and the upper total of amounts known within a range: the exact sum lies between the two
-/// whichever amounts the ranges allow, and no narrower two doubles or infinities have that property.
+/// The lower and the upper total of amounts known within a range: every sum that the ranges allow
+/// lies on one of the two or between, and of two that are nearer to each other this is not true.
 ///
 /// So the lower total is the greatest double, or −∞, that is not above the exact sum of the lows, and
 /// the upper one the least, or +∞, that is not below that of the highs. A missing amount has a low of
