@@ -403,7 +403,7 @@ Range-plain = (ts xs ys : List ℕ) (z : ℕ) → rangeRefusal ts xs ys z ≡ 0
     × ((rangeAnswer ts xs ys z) .lower ≡ plusZero ((sumAnswer binary64 (withRounding 4) 0 lows) .result))
     × ((rangeAnswer ts xs ys z) .upper ≡ plusZero ((sumAnswer binary64 (withRounding 3) 0 highs) .result))
 
--- whichever amounts the entries allow, their exact sum lies between the two
+-- every sum of amounts that the entries allow lies on one of the two or between
 abbrev pub Range-holds : Type 0
 Range-holds = (ts xs ys : List ℕ) (z : ℕ) → rangeRefusal ts xs ys z ≡ 0
     → let r = rangeAnswer ts xs ys z in Encloses z (entries ts xs ys) (r .lower) (r .upper)
