@@ -92,7 +92,7 @@ not-both a b {A} {B} h k = (part-fails a b (λ t. inl (h .0 t)) (λ t. inr (k .0
 uneven-found : (bytes : List ℕ) → T (uneven bytes) ↔ Uneven bytes
 uneven-found bytes = different (length bytes % 8) 0
 
-short-found : (old : List ℕ) → T (short old) ↔ Short old
+pub short-found : (old : List ℕ) → T (short old) ↔ Short old
 short-found old = ((λ t. omega (arith, ltb→lt (length old) 24 t)), λ h. lt→ltb (length old) 24 (omega (arith, h)))
 
 -- ---- 3 and 4
@@ -136,7 +136,7 @@ format-fails f = (forth, λ p. not-T (validFormat f) (λ t. back p (format-bound
     back (inr (inr (inr (inr (inl h))))) b = omega (arith, h, b .w-le)
     back (inr (inr (inr (inr (inr h))))) b = far-back (f .named) h (b .named-le)
 
-settings-fail : (f : Format) (c : Settings) → T (not (validSettings f c)) ↔ BadSettings f c
+pub settings-fail : (f : Format) (c : Settings) → T (not (validSettings f c)) ↔ BadSettings f c
 unfolding validSettings
 settings-fail f c = (forth, λ p. not-T (validSettings f c) (λ t. back p (settings-bounds f c t)))
   where
@@ -176,7 +176,7 @@ settings-fail f c = (forth, λ p. not-T (validSettings f c) (λ t. back p (setti
     back (inr (inr (inr (inr (inr (inr (inl h))))))) b = omega (arith, h, b .saturate-le)
     back (inr (inr (inr (inr (inr (inr (inr h))))))) b = omega (arith, h, b .precision-le)
 
-summand-fails : (u : ℕ) → T (not (leb u 2)) ↔ BadSummand u
+pub summand-fails : (u : ℕ) → T (not (leb u 2)) ↔ BadSummand u
 summand-fails u = ((λ t. omega (arith, nleb→lt u 2 t)), λ h. not-T (leb u 2) (λ t. omega (arith, h, leb→le u 2 t)))
 
 -- ---- 5 and 6
@@ -226,7 +226,7 @@ stray-found f = some-found (stray f) (StrayBit f) (stray-bit f) 0
 
 -- ---- sums and dots
 
-sum-tests : (f : Format) (c : Settings) (u : ℕ) (l : List ℕ) → Tests (sumConditions f c u l) (sumRefusal f c u l)
+pub sum-tests : (f : Format) (c : Settings) (u : ℕ) (l : List ℕ) → Tests (sumConditions f c u l) (sumRefusal f c u l)
 unfolding sumRefusal
 sum-tests f c u l =
     test (not (validFormat f)) (format-fails f)

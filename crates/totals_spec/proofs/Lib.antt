@@ -64,6 +64,9 @@ pub mod Figures
 pub mod RangeRefused
 pub mod Ranges
 pub mod RangeOrder
+-- Career pages.
+pub mod Pages
+pub mod PageRefused
 -- The promises: what `specs/Promises.antt` states. Read this one first.
 pub mod Promises
 -- More of a pass: how near S is to the exact sum, and that a boundary need not be taken off.

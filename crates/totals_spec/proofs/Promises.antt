@@ -22,6 +22,9 @@ use Rattle.totals_spec.specs.Promises.{Table-entry-read-back, Table-gran
 use Rattle.totals_spec.specs.Promises.{Ranges-agree, Range-refused-exactly, Range-entry-refused-exactly, Range-refused, Range-entry-refused}
 use Rattle.totals_spec.specs.Promises.{Range-entry-read-back, Range-entries-kept, Range-plain, Range-holds, Range-narrowest}
 use Rattle.totals_spec.specs.Promises.{Range-zero, Range-fits, Range-order}
+use Rattle.totals_spec.specs.Promises.{Pages-agree, Page-opens, Page-beyond, Page-refused-exactly, Page-refused, Page-length, Page-summary, Page-only}
+use Rattle.totals_spec.specs.Promises.{Page-span, Page-span-read, Page-empty, Page-span-refused-exactly, Page-span-numbers, Page-span-refused}
+use Rattle.totals_spec.specs.Promises.{Page-entry-refused-exactly, Page-entry-refused, Page-entry-read-back}
 use Rattle.totals_spec.proofs.Bits.{low-divides, low-set, size-none, size-one-less}
 use Rattle.totals_spec.proofs.Good.{good-terms, good-pairs}
 use Rattle.totals_spec.proofs.Valid.{digits-le}
@@ -49,6 +52,9 @@ use Rattle.totals_spec.specs.RangeExamples as tests-of-ranges
 use Rattle.totals_spec.proofs.RangeRefused as refused-ranges
 use Rattle.totals_spec.proofs.Ranges as ranges
 use Rattle.totals_spec.proofs.RangeOrder as ordered-ranges
+use Rattle.totals_spec.specs.PageExamples as tests-of-pages
+use Rattle.totals_spec.proofs.Pages as pages
+use Rattle.totals_spec.proofs.PageRefused as refused-pages
 
 -- ==== the document's examples (specs/Careers, which computes them, and Careers)
 
@@ -307,6 +313,59 @@ range-fits = ranges.range-fits
 
 pub range-order : Range-order
 range-order = ordered-ranges.range-order
+
+-- ==== document 02, A.8: career pages (specs/PageExamples, which computes the examples, Pages, PageRefused)
+
+pub pages-agree : Pages-agree
+pages-agree = tests-of-pages.pages-agree
+
+pub page-opens : Page-opens
+page-opens = refused-pages.page-opens
+
+pub page-beyond : Page-beyond
+page-beyond = refused-pages.page-beyond
+
+pub page-refused-exactly : Page-refused-exactly
+page-refused-exactly = refused-pages.page-refused-exactly
+
+pub page-refused : Page-refused
+page-refused = refused-pages.page-refused
+
+pub page-length : Page-length
+page-length = pages.page-length
+
+pub page-summary : Page-summary
+page-summary = pages.page-summary
+
+pub page-only : Page-only
+page-only = pages.page-only
+
+pub page-span : Page-span
+page-span = pages.page-span
+
+pub page-span-read : Page-span-read
+page-span-read = pages.page-span-read
+
+pub page-empty : Page-empty
+page-empty = refused-pages.page-empty
+
+pub page-span-refused-exactly : Page-span-refused-exactly
+page-span-refused-exactly = refused-pages.page-span-refused-exactly
+
+pub page-span-numbers : Page-span-numbers
+page-span-numbers = refused-pages.page-span-numbers
+
+pub page-span-refused : Page-span-refused
+page-span-refused = refused-pages.page-span-refused
+
+pub page-entry-refused-exactly : Page-entry-refused-exactly
+page-entry-refused-exactly = refused-pages.page-entry-refused-exactly
+
+pub page-entry-refused : Page-entry-refused
+page-entry-refused = refused-pages.page-entry-refused
+
+pub page-entry-read-back : Page-entry-read-back
+page-entry-read-back = refused-pages.page-entry-read-back
 
 -- ==== document 02, A.7: a named bias (Own)
 

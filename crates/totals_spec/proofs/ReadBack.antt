@@ -26,7 +26,7 @@ use Rattle.totals_spec.proofs.Table.{tableTested, table-number, table-g
 
 -- ---- n bytes of a number
 
-bytes-back : (n x : ℕ) → x < 256 ^ n → fromBytes (toBytes n x) ≡ x
+pub bytes-back : (n x : ℕ) → x < 256 ^ n → fromBytes (toBytes n x) ≡ x
 bytes-back zero x h = omega arith
 bytes-back (suc n) x h = omega (arith, bytes-back n (x / 256) (next-bytes n x h))
 
@@ -64,7 +64,7 @@ module _ (r : Answer) (old : List ℕ) where
           none = omega arith
 
   -- an entry that returns 0 has passed its tests, and its call is accepted: P of the record written is P of the buffer
-  entry-back : (P : List ℕ → Type 0) (a b : Bool) → (b ≡ false → r .refusal ≡ 0 → P (written r old)) → (tested a b r old) .code ≡ 0
+  pub entry-back : (P : List ℕ → Type 0) (a b : Bool) → (b ≡ false → r .refusal ≡ 0 → P (written r old)) → (tested a b r old) .code ≡ 0
       → P ((tested a b r old) .buffer)
   unfolding entered
   entry-back P true b back e = absurd (suc-ne-zero 0 e)
@@ -83,7 +83,7 @@ fits f a old w h s =
     written-back a old (omega (arith, h .result, pow-mono {i = f .W} {j = 64} w)) (omega (arith, h .flags)) (omega (arith, h .side))
     (omega (arith, h .passes)) (ltb-false (length old) 24 s)
 
-sum-back : (f : Format) (c : Settings) (u : ℕ) (l old : List ℕ) → short old ≡ false → (sumAnswer f c u l) .refusal ≡ 0
+pub sum-back : (f : Format) (c : Settings) (u : ℕ) (l old : List ℕ) → short old ≡ false → (sumAnswer f c u l) .refusal ≡ 0
     → ReadsBack (sumAnswer f c u l) old (written (sumAnswer f c u l) old)
 sum-back f c u l old s r = fits f (sumAnswer f c u l) old (sum-accepts f c u l (sym (sum-refusal f c u l) ∙ r) .format .w-le) (sum-fits f c u l) s
 

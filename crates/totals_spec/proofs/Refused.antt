@@ -205,13 +205,13 @@ dot-small f c xs ys = record {
     inside i false d s = omega (arith, s .inside, d .same, d .few)
 
 -- a byte entry by its two tests and the record's
-abbrev byTests : (a b d : Bool) (n : ℕ) (old new : List ℕ) → Entry
+abbrev pub byTests : (a b d : Bool) (n : ℕ) (old new : List ℕ) → Entry
 byTests a b d n old new =
     cond a (record { code = 1; buffer = old })
     (cond b (record { code = 2; buffer = old })
     (cond d (record { code = 0; buffer = new }) (record { code = n; buffer = old })))
 
-entry-refused : (a b d : Bool) (n : ℕ) (old new : List ℕ) → (byTests a b d n old new) .code ≢ 0 → (byTests a b d n old new) .buffer ≡ old
+pub entry-refused : (a b d : Bool) (n : ℕ) (old new : List ℕ) → (byTests a b d n old new) .code ≢ 0 → (byTests a b d n old new) .buffer ≡ old
 entry-refused true b d n old new h = refl
 entry-refused false true d n old new h = refl
 entry-refused false false true n old new h = absurd (h refl)

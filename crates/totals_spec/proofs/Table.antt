@@ -153,7 +153,7 @@ module _ (g : List ℕ → ℕ) (columns : ℕ) (cells now old : List ℕ) (n : 
           ∙ ap (λ (i : ℕ). columnsFrom rows columns cells 0 n ++ (columnOf rows columns cells i ∷ [])) (omega arith)
 
 -- filled or left: its length, and what lies beyond n totals
-kept : (b : Bool) (totals old : List ℕ) (n : ℕ) → length totals ≡ n → (T b → n ≤ length old)
+pub kept : (b : Bool) (totals old : List ℕ) (n : ℕ) → length totals ≡ n → (T b → n ≤ length old)
     → (length (cond b (filled totals old) old) ≡ length old) × (drop n (cond b (filled totals old) old) ≡ drop n old)
 kept true totals old n e h = (
   omega (arith, length-append totals (drop (length totals) old), length-drop (length totals) old, e, h tt),
@@ -168,7 +168,7 @@ neither true b e = absurd (subst T e tt)
 neither false b e = (refl, e)
 
 module _ (t : ℕ → Bool) where
-  none-of-parts : (n : ℕ) (l : List ℕ) → any t l ≡ false → (any t (take n l) ≡ false) × (any t (drop n l) ≡ false)
+  pub none-of-parts : (n : ℕ) (l : List ℕ) → any t l ≡ false → (any t (take n l) ≡ false) × (any t (drop n l) ≡ false)
   none-of-parts n l e =
       neither (any t (take n l)) (any t (drop n l)) (sym (any-append t (take n l) (drop n l)) ∙ ap (any t) (take-append-drop n l) ∙ e)
 

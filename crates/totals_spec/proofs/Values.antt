@@ -10,7 +10,7 @@ use lib.ListN.{length, take, drop, getD, List·getD-eq-default}
 use lib.Seq.{drop-cons, drop-drop}
 use Rattle.totals_spec.specs.Bytes.{fromBytes, valuesFrom, valuesIn}
 
-from-length : (n : ℕ) (bytes : List ℕ) → length (valuesFrom n bytes) ≡ n
+pub from-length : (n : ℕ) (bytes : List ℕ) → length (valuesFrom n bytes) ≡ n
 from-length zero bytes = refl
 from-length (suc n) bytes = ap suc (from-length n (drop 8 bytes))
 

@@ -16,7 +16,7 @@ use lib.Dec.{T as Holds, eqb}
 use lib.ListN.{replicate}
 use lib.IntN.{ℤ, pos, negsuc}
 use lib.Ieee.{size, span, climb}
-use Rattle.totals_spec.specs.Basics.{difference, raised}
+use Rattle.totals_spec.specs.Basics.{difference, raised, sameList}
 use Rattle.totals_spec.specs.Format.{Format, binary64, validFormat, bias, lift, exponentRange, depth, origin, fall, grid, rise}
 use Rattle.totals_spec.specs.Settings.{Settings, withRounding, validSettings, precisionOf}
 use Rattle.totals_spec.specs.Decode.{decode, isSubnormal, operand}
@@ -163,12 +163,6 @@ sideExamples =
 abbrev pub refusedAs : ℕ → ℕ → Answer → Bool
 refusedAs n at a =
     eqb (a .refusal) n && eqb (a .place) at && eqb (a .result) 0 && eqb (a .flags) 0 && eqb (a .passes) 0 && sameInt (a .lastEdge) (pos 0) && eqb (a .side) 0
-
-abbrev pub sameList : List ℕ → List ℕ → Bool
-sameList [] [] = true
-sameList [] (y ∷ ys) = false
-sameList (x ∷ xs) [] = false
-sameList (x ∷ xs) (y ∷ ys) = eqb x y && sameList xs ys
 
 -- the number n, and a buffer left as it was
 abbrev pub enteredAs : ℕ → List ℕ → Entry → Bool

@@ -16,6 +16,7 @@ use Rattle.totals_spec.specs.Terms.{exactSum}
 use Rattle.totals_spec.specs.Totals.{limit, sumTerms}
 use Rattle.totals_spec.specs.Pence.{penceOf}
 use Rattle.totals_spec.specs.Ranges.{nothing, figureWorth}
+use Rattle.totals_spec.specs.Pages.{pageOf, pageValues, spanOf}
 
 -- ---- 1 and 2: a length in bytes that is no multiple of 8, an answer buffer under 24 bytes
 
@@ -131,6 +132,23 @@ BadCeiling z = NoFigure z ⊎ Below (figureWorth z) nothing
 abbrev pub NoPair : List ℕ → Type 0
 NoPair old = length old < 2
 
+-- ---- 12: bytes that are not the page of any values, or of more than 1,048,576; 13: a span that starts above its end, or ends above the count
+
+-- every value is a binary64 encoding
+abbrev pub AllWords : List ℕ → Type 0
+AllWords [] = Unit {0}
+AllWords (x ∷ l) = (x < 2 ^ 64) × AllWords l
+
+abbrev pub NoPage : List ℕ → Type 0
+NoPage page = ¬ ((l : List ℕ) × AllWords l × (length l ≤ 1048576) × (page ≡ pageOf l))
+
+abbrev pub BadSpan : List ℕ → (start end : ℕ) → Type 0
+BadSpan page start end = (end < start) ⊎ (length (pageValues page) < end)
+
+-- 2 of a page that is written: a destination shorter than the page would be
+abbrev pub NoPageRoom : (values old : List ℕ) → Type 0
+NoPageRoom l old = length old < length (pageOf l)
+
 -- ---- the first that holds
 
 -- a number and its condition
@@ -202,3 +220,27 @@ rangeConditions ts xs ys z =
 
 abbrev pub rangeEntryConditions : (tags firsts seconds : List ℕ) (ceiling : ℕ) → List ℕ → List Condition
 rangeEntryConditions ts xs ys z old = (2, NoPair old) ∷ rangeConditions ts xs ys z
+
+-- the page's own, and then those of the span as a list of its own
+abbrev pub pageConditions : Settings → ℕ → List ℕ → (start end : ℕ) → List Condition
+pageConditions c u page start end =
+    (12, NoPage page)
+    ∷ (13, BadSpan page start end)
+    ∷ sumConditions binary64 c u (spanOf start end (pageValues page))
+
+-- of the latter 4 alone can hold
+abbrev pub pageNumbers : Settings → ℕ → List ℕ → (start end : ℕ) → List Condition
+pageNumbers c u page start end =
+    (12, NoPage page)
+    ∷ (13, BadSpan page start end)
+    ∷ (4, BadSettings binary64 c ⊎ BadSummand u)
+    ∷ []
+
+abbrev pub pageEntryConditions : Settings → ℕ → List ℕ → (start end : ℕ) → List ℕ → List Condition
+pageEntryConditions c u page start end old = (2, Short old) ∷ pageConditions c u page start end
+
+abbrev pub writeConditions : (values old : List ℕ) → List Condition
+writeConditions l old =
+    (2, NoPageRoom l old)
+    ∷ (6, TooMany l)
+    ∷ []

@@ -27,16 +27,19 @@ use Rattle.totals_spec.specs.Side.{sideOf}
 use Rattle.totals_spec.specs.Settled.{chainTotal}
 use Rattle.totals_spec.specs.Conditions.{Uneven, First, sumConditions, dotConditions, entryConditions, penceConditions, sumPenceConditions}
 use Rattle.totals_spec.specs.Conditions.{penceEntryConditions, tableConditions, tableEntryConditions, rangeConditions, rangeEntryConditions}
+use Rattle.totals_spec.specs.Conditions.{AllWords, pageConditions, pageNumbers, pageEntryConditions, writeConditions}
 use Rattle.totals_spec.specs.Places.{StrayAt, DotStrayAt}
 use Rattle.totals_spec.specs.Pence.{penceAnswer, sumFigure, sumPence}
 use Rattle.totals_spec.specs.Table.{columnOf, tableRefusal, tableAnswer}
 use Rattle.totals_spec.specs.Ranges.{entries, triples, lowOf, highOf, plusZero, refusedRange, rangeRefusal, rangeAnswer}
 use Rattle.totals_spec.specs.Allowed.{Encloses, Ordered, sameTriple}
+use Rattle.totals_spec.specs.Pages.{summary, pageOf, pageValues, opens, spanOf, pageAnswer, pageEntry, pageWritten}
 use Rattle.totals_spec.specs.Words.{formatBy, penceEntry, tableEntry, rangeEntry}
 use Rattle.totals_spec.specs.Hundredfold.{chainPence}
 use Rattle.totals_spec.specs.Careers.{careers, margins, allAgree, sideExamples, refusals, entryExample}
 use Rattle.totals_spec.specs.Careers.{penceExamples, biases, sumPenceExamples, tableExamples, programRuns, programAgrees}
 use Rattle.totals_spec.specs.RangeExamples.{rangeExamples}
+use Rattle.totals_spec.specs.PageExamples.{pageExamples}
 
 -- ==== the document's examples
 
@@ -67,6 +70,10 @@ Tables-agree = Holds tableExamples
 -- ranges: directed roundings and infinities, zeros, figures that are not used, each cause of 11, and 5 before it
 abbrev pub Ranges-agree : Type 0
 Ranges-agree = Holds rangeExamples
+
+-- pages: byte for byte, each part of one damaged, writing with and without room, spans, each refusal but 6 and two at once, and the entry
+abbrev pub Pages-agree : Type 0
+Pages-agree = Holds pageExamples
 
 -- the examples of the refusals, of a byte entry, of pence and of the program
 abbrev pub Examples-agree : Type 0
@@ -428,6 +435,84 @@ abbrev pub Range-order : Type 0
 Range-order = (ts xs ys ts′ xs′ ys′ : List ℕ) (z : ℕ) → length ts′ ≡ length xs′ → length ts′ ≡ length ys′
     → AsOften sameTriple (triples ts xs ys) (triples ts′ xs′ ys′) → rangeRefusal ts xs ys z ≡ 0
     → (rangeRefusal ts′ xs′ ys′ z ≡ 0) × (rangeAnswer ts xs ys z ≡ rangeAnswer ts′ xs′ ys′ z)
+
+-- ==== career pages (document 02, A.8)
+
+-- a written page: with room and at most 1,048,576 values the writer accepts, answers the page's length and leaves the page in front of the destination; it
+-- opens, and holds what was written
+abbrev pub Page-opens : Type 0
+Page-opens = (l old : List ℕ) → AllWords l → length l ≤ 1048576 → length (pageOf l) ≤ length old
+    → let w = pageWritten l old in
+    (w .code ≡ 256 * length (pageOf l)) × (take (length (pageOf l)) (w .buffer) ≡ pageOf l)
+    × (opens (pageOf l) ≡ true) × (pageValues (pageOf l) ≡ l)
+
+-- beyond the length that it answers no byte changes, nor does the destination's length; of refused calls too, which answer none
+abbrev pub Page-beyond : Type 0
+Page-beyond = (l old : List ℕ) → let w = pageWritten l old in
+    (drop (w .code / 256) (w .buffer) ≡ drop (w .code / 256) old) × (length (w .buffer) ≡ length old)
+
+-- the number in the lowest byte is that of the first condition that holds, 2 or 6, and 0 exactly where none does
+abbrev pub Page-refused-exactly : Type 0
+Page-refused-exactly = (l old : List ℕ) (n : ℕ) → (pageWritten l old) .code % 256 ≡ n ↔ First (writeConditions l old) n
+
+-- a refused writer answers its number alone, and writes nothing
+abbrev pub Page-refused : Type 0
+Page-refused = (l old : List ℕ) → let w = pageWritten l old in w .code % 256 ≢ 0 → (w .code / 256 ≡ 0) × (w .buffer ≡ old)
+
+-- 8 bytes a value, 12 a group of 64 values or fewer, and 16
+abbrev pub Page-length : Type 0
+Page-length = (l : List ℕ) → length (pageOf l) ≡ 8 * length l + 12 * ((length l + 63) / 64) + 16
+
+-- the summary of each group stands behind all the values and the summaries of the groups before it
+abbrev pub Page-summary : Type 0
+Page-summary = (l : List ℕ) (g : ℕ) → 64 * g < length l
+    → take 12 (drop (8 * length l + 12 * g) (pageOf l)) ≡ summary (take 64 (drop (64 * g) l))
+
+-- a page that opens is the page of its values, at most 1,048,576 of them
+abbrev pub Page-only : Type 0
+Page-only = (page : List ℕ) → opens page ≡ true
+    → (page ≡ pageOf (pageValues page)) × AllWords (pageValues page) × (length (pageValues page) ≤ 1048576)
+
+-- the total of a span, of a written page and of every page that opens, is that of the same values as a list of their own
+abbrev pub Page-span : Type 0
+Page-span = (c : Settings) (u : ℕ) (l : List ℕ) (start end : ℕ) → AllWords l → length l ≤ 1048576 → start ≤ end → end ≤ length l
+    → pageAnswer c u (pageOf l) start end ≡ sumAnswer binary64 c u (spanOf start end l)
+
+abbrev pub Page-span-read : Type 0
+Page-span-read = (c : Settings) (u : ℕ) (page : List ℕ) (start end : ℕ) → opens page ≡ true → start ≤ end → end ≤ length (pageValues page)
+    → pageAnswer c u page start end ≡ sumAnswer binary64 c u (spanOf start end (pageValues page))
+
+-- an empty span is +0
+abbrev pub Page-empty : Type 0
+Page-empty = (c : Settings) (u : ℕ) (page : List ℕ) (at : ℕ) → (pageAnswer c u page at at) .refusal ≡ 0
+    → pageAnswer c u page at at ≡ zeroAnswer binary64 false false
+
+-- the number of a span is that of the first condition that holds: 12, 13, and then those of the plain sum; of these only 4 can hold
+abbrev pub Page-span-refused-exactly : Type 0
+Page-span-refused-exactly = (c : Settings) (u : ℕ) (page : List ℕ) (start end : ℕ) (n : ℕ)
+    → (pageAnswer c u page start end) .refusal ≡ n ↔ First (pageConditions c u page start end) n
+
+abbrev pub Page-span-numbers : Type 0
+Page-span-numbers = (c : Settings) (u : ℕ) (page : List ℕ) (start end : ℕ) (n : ℕ)
+    → (pageAnswer c u page start end) .refusal ≡ n ↔ First (pageNumbers c u page start end) n
+
+-- a refused record is 0 but for the number
+abbrev pub Page-span-refused : Type 0
+Page-span-refused = (c : Settings) (u : ℕ) (page : List ℕ) (start end : ℕ) → let r = pageAnswer c u page start end in
+    r .refusal ≢ 0 → r ≡ refused (r .refusal) 0
+
+-- of the entry of a span 2 before these; a refused one writes nothing, and where it returns 0, the buffer holds the record of the span
+abbrev pub Page-entry-refused-exactly : Type 0
+Page-entry-refused-exactly = (c : Settings) (u : ℕ) (page : List ℕ) (start end : ℕ) (old : List ℕ) (n : ℕ)
+    → (pageEntry c u page start end old) .code ≡ n ↔ First (pageEntryConditions c u page start end old) n
+
+abbrev pub Page-entry-refused : Type 0
+Page-entry-refused = (c : Settings) (u : ℕ) (page : List ℕ) (start end : ℕ) (old : List ℕ) → (pageEntry c u page start end old) .code ≢ 0
+    → (pageEntry c u page start end old) .buffer ≡ old
+
+abbrev pub Page-entry-read-back : Type 0
+Page-entry-read-back = (c : Settings) (u : ℕ) (page : List ℕ) (start end : ℕ) (old : List ℕ) → (pageEntry c u page start end old) .code ≡ 0
+    → ReadsBack (sumAnswer binary64 c u (spanOf start end (pageValues page))) old ((pageEntry c u page start end old) .buffer)
 
 -- ==== PROMISE 3: the order
 

@@ -4,7 +4,7 @@ use mathlib.Core.Bool.{Bool, _&&_}
 use mathlib.Core.List.{List, [], _∷_}
 use lib.Dec.{T as Holds, eqb}
 use lib.Ieee.{size, span, climb}
-use Rattle.totals_spec.specs.Basics.{difference, raised}
+use Rattle.totals_spec.specs.Basics.{difference, raised, sameList}
 use Rattle.totals_spec.specs.Format.{binary64, validFormat, bias, lift, exponentRange, depth, origin, fall, grid, rise}
 use Rattle.totals_spec.specs.Settings.{withRounding, validSettings, precisionOf}
 use Rattle.totals_spec.specs.Decode.{decode, isSubnormal, operand}
@@ -17,7 +17,6 @@ use Rattle.totals_spec.specs.Side.{leansOf, sideOf}
 use Rattle.totals_spec.specs.Totals.{special, sumRounded, reported, finiteTotal, withoutNan, accepted, sumRefusal, sumAccepted, sumAnswer}
 use Rattle.totals_spec.specs.Ranges.{figureWorth, rangeRefusal, lowerTotal, upperTotal, Range, rangeAnswer}
 use Rattle.totals_spec.specs.Words.{RangeEntry, rangeEntry}
-use Rattle.totals_spec.specs.Careers.{sameList}
 
 abbrev one : ℕ
 one = 0x3ff0000000000000

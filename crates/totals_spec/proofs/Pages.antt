@@ -1,0 +1,208 @@
+-- Career pages (document 02, A.8): the length of a page, its count, its values and its summaries; what opens; what a span is.
+use mathlib.Core.Path.{_≡_, refl, sym, ap, ap₂, _∙_, subst}
+use mathlib.Core.Bool.{Bool, true, false, not, _&&_, cond}
+use mathlib.Core.List.{List, [], _∷_, _++_, append-assoc}
+use Prim.Native.Nat.{ℕ, zero, suc, _+_, _-_, _*_, _/_, _^_, _≤_, _<_}
+use native.Mathlib.Omega.{arith}
+use lib.Dec.{T, leb, eqb, eqb→eq, leb→le}
+use lib.ListN.{length, take, drop, length-append, length-take, length-drop}
+use lib.Seq.{take-at, drop-at, drop-drop, drop-append-add}
+use borrow.Author.Tests.{eq-eqb, le-leb, le-ltb, lt-leb}
+use Rattle.totals_spec.specs.Basics.{any, sameList}
+use Rattle.totals_spec.specs.Format.{binary64, validFormat}
+use Rattle.totals_spec.specs.Settings.{Settings, validSettings}
+use Rattle.totals_spec.specs.Terms.{Term, topOf}
+use Rattle.totals_spec.specs.Limit.{bottomOf, ceilDiv}
+use Rattle.totals_spec.specs.Totals.{stray, limit, refuseIf, sumRefusal, sumAnswer}
+use Rattle.totals_spec.specs.Bytes.{fromBytes, toBytes, valuesFrom}
+use Rattle.totals_spec.specs.Pages.{groupSize, trailerLength, countMost, positionBytes, extent, summary, groups, valueBytes, summariesFrom}
+use Rattle.totals_spec.specs.Pages.{summaries, trailer, pageOf, pageLength, countIn, pageValues, opens, spanOf, pageRefusal, pageAnswer}
+use Rattle.totals_spec.specs.Conditions.{AllWords}
+use Rattle.totals_spec.specs.Promises.{Page-length, Page-summary, Page-only, Page-span, Page-span-read}
+use Rattle.totals_spec.proofs.Bits.{T-of}
+use Rattle.totals_spec.proofs.Valid.{and-left, and-right}
+use Rattle.totals_spec.proofs.ReadBack.{bytes-back}
+use Rattle.totals_spec.proofs.Table.{none-of-parts}
+use Rattle.totals_spec.proofs.Values.{from-length}
+
+-- ---- the test for equal lists
+
+pub same-refl : (l : List ℕ) → sameList l l ≡ true
+same-refl [] = refl
+same-refl (x ∷ l) = rw (eq-eqb x x refl) (same-refl l)
+
+pub same-eq : (l m : List ℕ) → T (sameList l m) → l ≡ m
+same-eq [] [] h = refl
+same-eq (x ∷ l) (y ∷ m) h =
+    ap₂ _∷_ (eqb→eq x y (and-left (eqb x y) (sameList l m) h)) (same-eq l m (and-right (eqb x y) (sameList l m) h))
+
+-- ---- values and their bytes
+
+pub value-bytes-length : (l : List ℕ) → length (valueBytes l) ≡ 8 * length l
+value-bytes-length [] = refl
+value-bytes-length (x ∷ l) = omega (arith, value-bytes-length l)
+
+-- the values in their own bytes, whatever stands behind them
+values-back : (l r : List ℕ) → AllWords l → valuesFrom (length l) (valueBytes l ++ r) ≡ l
+values-back [] r h = refl
+values-back (x ∷ l) r h = ap₂ _∷_ (bytes-back 8 x (h .0)) (values-back l r (h .1))
+
+-- what is read from n bytes of a number is below 256^n
+read-less : (n x : ℕ) → fromBytes (toBytes n x) < 256 ^ n
+read-less zero x = omega arith
+read-less (suc n) x = omega (arith, read-less n (x / 256))
+
+words-read : (l r : List ℕ) → AllWords (valuesFrom (length l) (valueBytes l ++ r))
+words-read [] r = tt
+words-read (x ∷ l) r = (read-less 8 x, words-read l r)
+
+-- ---- lengths
+
+trailer-length : (n : ℕ) → length (trailer n) ≡ trailerLength
+unfolding trailer
+trailer-length n = refl
+
+extent-length : (ts : List Term) → length (extent ts) ≡ 8
+unfolding extent
+extent-length ts = go (any (λ t. true) ts)
+  where
+    go : (b : Bool) → length (cond b (positionBytes (topOf ts) ++ positionBytes (bottomOf ts)) (toBytes 4 0 ++ toBytes 4 0)) ≡ 8
+    go true = refl
+    go false = refl
+
+pub summary-length : (l : List ℕ) → length (summary l) ≡ 12
+unfolding summary
+summary-length l = simp (length-append, extent-length)
+
+pub summaries-length : (k : ℕ) (l : List ℕ) → length (summariesFrom k l) ≡ 12 * k
+summaries-length zero l = refl
+summaries-length (suc k) l =
+    let s = take groupSize l in
+    let r = drop groupSize l in
+    omega (arith, length-append (summary s) (summariesFrom k r), summary-length s, summaries-length k r)
+
+pub page-size : (l : List ℕ) → length (pageOf l) ≡ pageLength (length l)
+unfolding pageOf pageLength summaries
+page-size l =
+    let t = trailer (length l) in
+    omega (
+      arith,
+      length-append (valueBytes l) (summaries l ++ t),
+      length-append (summaries l) t,
+      value-bytes-length l,
+      summaries-length (groups (length l)) l,
+      trailer-length (length l),
+    )
+
+pub page-length : Page-length
+unfolding pageLength ceilDiv
+page-length l = page-size l
+
+-- ---- summaries
+
+-- the summary of the group g, among those of k
+summary-at : (k g : ℕ) (l : List ℕ) (r : List ℕ) → g < k → take 12 (drop (12 * g) (summariesFrom k l ++ r)) ≡ summary (take groupSize (drop (groupSize * g) l))
+summary-at (suc k) zero l r h =
+    let s = summary (take groupSize l) in
+    rw (append-assoc s (summariesFrom k (drop groupSize l)) r) (take-at s _ 12 (summary-length (take groupSize l)))
+summary-at (suc k) (suc g) l r h =
+    let s = summary (take groupSize l) in
+    let rest = summariesFrom k (drop groupSize l) in
+    ap (λ (x : List ℕ). take 12 (drop (12 * suc g) x)) (append-assoc s rest r)
+    ∙ ap (λ (n : ℕ). take 12 (drop n (s ++ (rest ++ r)))) place
+    ∙ ap (take 12) (drop-append-add s (rest ++ r) (12 * g))
+    ∙ summary-at k g (drop groupSize l) r (omega arith)
+    ∙ ap (λ (x : List ℕ). summary (take groupSize x)) (drop-drop (groupSize * g) groupSize l ∙ ap (λ (n : ℕ). drop n l) next)
+  where
+    place : 12 * suc g ≡ length (summary (take groupSize l)) + 12 * g
+    place = omega (arith, summary-length (take groupSize l))
+
+    next : groupSize + groupSize * g ≡ groupSize * suc g
+    next = omega arith
+
+pub page-summary : Page-summary
+unfolding pageOf summaries ceilDiv
+page-summary l g h =
+    let s = summariesFrom (groups (length l)) l in
+    let t = trailer (length l) in
+    ap (λ (n : ℕ). take 12 (drop n (valueBytes l ++ (s ++ t)))) place
+    ∙ ap (take 12) (drop-append-add (valueBytes l) (s ++ t) (12 * g))
+    ∙ summary-at (groups (length l)) g l t (omega arith)
+  where
+    place : 8 * length l + 12 * g ≡ length (valueBytes l) + 12 * g
+    place = omega (arith, value-bytes-length l)
+
+-- ---- the count and the values
+
+trailer-in : (l : List ℕ) → drop (length (pageOf l) - trailerLength) (pageOf l) ≡ trailer (length l)
+unfolding pageOf
+trailer-in l =
+    let front = valueBytes l ++ summaries l in
+    let t = trailer (length l) in
+    rw (← append-assoc (valueBytes l) (summaries l) t)
+    (drop-at front t (length (front ++ t) - trailerLength) (omega (arith, length-append front t, trailer-length (length l))))
+
+pub count-in : (l : List ℕ) → length l ≤ countMost → countIn (pageOf l) ≡ length l
+unfolding countIn trailer
+count-in l h = ap (λ (s : List ℕ). fromBytes (take 4 (drop 4 s))) (trailer-in l) ∙ bytes-back 4 (length l) (omega arith)
+
+pub page-values : (l : List ℕ) → AllWords l → length l ≤ countMost → pageValues (pageOf l) ≡ l
+unfolding pageOf
+page-values l w h = rw (count-in l h) (values-back l (summaries l ++ trailer (length l)) w)
+
+-- ---- what opens
+
+pub is-open : (l : List ℕ) → AllWords l → length l ≤ countMost → opens (pageOf l) ≡ true
+unfolding opens
+is-open l w h = rw (page-values l w h, count-in l h, le-leb (length l) countMost h) (same-refl (pageOf l))
+
+pub page-only : Page-only
+unfolding opens
+page-only page o = (e, words, rw (from-length n page) (leb→le n countMost (and-left (leb n countMost) (sameList page (pageOf l)) (T-of o))))
+  where
+    n : ℕ
+    n = countIn page
+
+    l : List ℕ
+    l = valuesFrom n page
+
+    e : page ≡ pageOf l
+    e = same-eq page (pageOf l) (and-right (leb n countMost) (sameList page (pageOf l)) (T-of o))
+
+    again : valuesFrom (length l) (pageOf l) ≡ l
+    again = ap₂ valuesFrom (from-length n page) (sym e)
+
+    words : AllWords l
+    words = subst AllWords again (unfold pageOf in words-read l (summaries l ++ trailer (length l)))
+
+-- ---- spans
+
+pub span-accepted : (page : List ℕ) (start end : ℕ) → opens page ≡ true → start ≤ end → end ≤ length (pageValues page) → pageRefusal page start end ≡ 0
+unfolding pageRefusal
+span-accepted page start end e a b = rw (e, le-ltb end start a, le-ltb (countIn page) end (rw (from-length (countIn page) page) at b))
+
+pub page-span-read : Page-span-read
+unfolding pageAnswer
+page-span-read c u page start end e a b = rw (span-accepted page start end e a b)
+
+pub page-span : Page-span
+page-span c u l start end w h a b =
+    let v = page-values l w h in
+    page-span-read c u (pageOf l) start end (is-open l w h) a (rw v b) ∙ ap (λ (m : List ℕ). sumAnswer binary64 c u (spanOf start end m)) v
+
+-- the plain sum refuses a span for its settings or its summand alone
+words-fit : (l : List ℕ) → AllWords l → any (stray binary64) l ≡ false
+unfolding binary64
+words-fit [] w = refl
+words-fit (x ∷ l) w = rw (lt-leb (2 ^ 64) x (w .0)) (words-fit l (w .1))
+
+pub span-refusal : (c : Settings) (u : ℕ) (l : List ℕ) (start end : ℕ) → AllWords l → length l ≤ limit
+    → sumRefusal binary64 c u (spanOf start end l) ≡ refuseIf (not (validSettings binary64 c && leb u 2)) 4 0
+unfolding sumRefusal
+span-refusal c u l start end w few =
+    let part = drop start l in
+    let fit = none-of-parts (stray binary64) (end - start) part (none-of-parts (stray binary64) start l (words-fit l w) .1) .0 in
+    rw (valid, le-ltb limit (length (spanOf start end l)) (omega (arith, length-take (end - start) part, length-drop start l)), fit)
+  where
+    valid : validFormat binary64 ≡ true
+    valid = unfold validFormat in unfold binary64 in refl
