@@ -61,7 +61,7 @@ few-overflow f c q s = go (toInfinity (roundingOf (c .rounding)) s && not (isSet
     go true = few-beyond (kindOf (f .kind)) (largest f q s) s
     go false = omega arith
 
-flag-less : (n : ℕ) (b : Bool) → flag n b < suc n
+pub flag-less : (n : ℕ) (b : Bool) → flag n b < suc n
 flag-less n true = omega arith
 flag-less n false = omega arith
 

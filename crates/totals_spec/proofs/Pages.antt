@@ -1,29 +1,34 @@
 -- Career pages (document 02, A.8): the length of a page, its count, its values and its summaries; what opens; what a span is.
 use mathlib.Core.Path.{_≡_, refl, sym, ap, ap₂, _∙_, subst}
-use mathlib.Core.Bool.{Bool, true, false, not, _&&_, cond}
+use mathlib.Core.Bool.{Bool, true, false, not, _&&_, _||_, cond}
 use mathlib.Core.List.{List, [], _∷_, _++_, append-assoc}
-use Prim.Native.Nat.{ℕ, zero, suc, _+_, _-_, _*_, _/_, _^_, _≤_, _<_}
+use Prim.Native.Nat.{ℕ, zero, suc, _+_, _-_, _*_, _/_, _%_, _^_, _≤_, _<_}
+use native.Mathlib.Nat.{le-trans}
 use native.Mathlib.Omega.{arith}
-use lib.Dec.{T, leb, eqb, eqb→eq, leb→le}
+use lib.Dec.{T, leb, ltb, eqb, eqb→eq, leb→le}
 use lib.ListN.{length, take, drop, length-append, length-take, length-drop}
-use lib.Seq.{take-at, drop-at, drop-drop, drop-append-add}
-use borrow.Author.Tests.{eq-eqb, le-leb, le-ltb, lt-leb}
+use lib.IntN.{pos, negsuc, subℕ}
+use lib.Seq.{length-take-le, take-at, drop-at, getD-take, getD-drop, drop-drop, drop-append-add}
+use borrow.Author.Tests.{eq-eqb, ltb-true, ltb-false, le-leb, le-ltb, lt-leb, lt-ltb}
 use Rattle.totals_spec.specs.Basics.{any, sameList}
-use Rattle.totals_spec.specs.Format.{binary64, validFormat}
-use Rattle.totals_spec.specs.Settings.{Settings, validSettings}
-use Rattle.totals_spec.specs.Terms.{Term, topOf}
-use Rattle.totals_spec.specs.Limit.{bottomOf, ceilDiv}
-use Rattle.totals_spec.specs.Totals.{stray, limit, refuseIf, sumRefusal, sumAnswer}
+use Rattle.totals_spec.specs.Format.{binary64, validFormat, bias, depth, origin}
+use Rattle.totals_spec.specs.Settings.{Settings, validSettings, noSettings, value}
+use Rattle.totals_spec.specs.Terms.{Term, Item, isNanItem, isInfinite, isZero, topOf}
+use Rattle.totals_spec.specs.Limit.{lowOf, bottomOf, ceilDiv}
+use Rattle.totals_spec.specs.Totals.{stray, limit, refuseIf, sumTerms, sumRefusal, sumAnswer}
 use Rattle.totals_spec.specs.Bytes.{fromBytes, toBytes, valuesFrom}
-use Rattle.totals_spec.specs.Pages.{groupSize, trailerLength, countMost, positionBytes, extent, summary, groups, valueBytes, summariesFrom}
+use Rattle.totals_spec.specs.Pages.{groupSize, trailerLength, countMost, positionBytes, extent, classOf, pageItems, summary, groups, valueBytes, summariesFrom}
 use Rattle.totals_spec.specs.Pages.{summaries, trailer, pageOf, pageLength, countIn, pageValues, opens, spanOf, pageRefusal, pageAnswer}
 use Rattle.totals_spec.specs.Conditions.{AllWords}
-use Rattle.totals_spec.specs.Promises.{Page-length, Page-summary, Page-only, Page-span, Page-span-read}
+use Rattle.totals_spec.specs.Promises.{signedOf, Summarizes, Page-length, Page-summary, Page-summarizes, Page-only, Span-values, Page-span, Page-span-read}
 use Rattle.totals_spec.proofs.Bits.{T-of}
+use Rattle.totals_spec.proofs.Fields.{flag-less}
+use Rattle.totals_spec.proofs.Tops.{single-sum-top}
 use Rattle.totals_spec.proofs.Valid.{and-left, and-right}
 use Rattle.totals_spec.proofs.ReadBack.{bytes-back}
 use Rattle.totals_spec.proofs.Table.{none-of-parts}
 use Rattle.totals_spec.proofs.Values.{from-length}
+use Rattle.totals_spec.proofs.Walk.{least-le}
 
 -- ---- the test for equal lists
 
@@ -132,6 +137,87 @@ page-summary l g h =
     place : 8 * length l + 12 * g ≡ length (valueBytes l) + 12 * g
     place = omega (arith, value-bytes-length l)
 
+-- ---- what a reader finds in a summary
+
+four-read : (n : ℕ) → fromBytes (toBytes 4 n) ≡ n % 4294967296
+four-read n = omega arith
+
+-- the bit worth 1 stands 2098 above the unit, and the highest bit of a double 1024 above that
+position-back : (at : ℕ) → at ≤ 3122 → signedOf (positionBytes at) ≡ subℕ at (origin binary64 false)
+unfolding origin depth bias binary64
+position-back at h = rw (four-read (4294967296 + at - 2098)) (go (ltb at 2098) refl)
+  where
+    n : ℕ
+    n = (4294967296 + at - 2098) % 4294967296
+
+    go : (b : Bool) → ltb at 2098 ≡ b → cond (ltb n 2147483648) (pos n) (subℕ n 4294967296) ≡ cond b (negsuc (2098 - suc at)) (pos (at - 2098))
+    go true e =
+        let less : at < 2098 = ltb-true at 2098 e in
+        let same : 4294967296 - suc n ≡ 2098 - suc at = omega arith in
+        rw (le-ltb n 2147483648 (omega arith), lt-ltb n 4294967296 (omega arith)) (ap negsuc same)
+    go false e =
+        let more = ltb-false at 2098 e in
+        let same : n ≡ at - 2098 = omega (arith, more) in
+        rw (lt-ltb n 2147483648 (omega (arith, more))) (ap pos same)
+
+-- a class is below 8
+class-bytes : (l : List Item) → toBytes 4 (classOf l) ≡ classOf l ∷ 0 ∷ 0 ∷ 0 ∷ []
+class-bytes l = λ i. low i ∷ second i ∷ third i ∷ fourth i ∷ []
+  where
+    n : ℕ
+    n = classOf l
+
+    less : n < 8
+    less =
+        unfold classOf in
+        omega (
+          arith,
+          flag-less 1 (any isNanItem l),
+          flag-less 2 (any (isInfinite false) l || any (isInfinite true) l),
+          flag-less 4 (any (isZero false) l || any (isZero true) l),
+        )
+
+    low : n % 256 ≡ n
+    low = omega (arith, less)
+
+    second : n / 256 % 256 ≡ 0
+    second = omega (arith, less)
+
+    third : n / 256 / 256 % 256 ≡ 0
+    third = omega (arith, less)
+
+    fourth : n / 256 / 256 / 256 % 256 ≡ 0
+    fourth = omega (arith, less)
+
+pub page-summarizes : Page-summarizes
+unfolding summary extent
+page-summarizes l = rw (class-bytes (pageItems l)) (go (sumTerms binary64 noSettings value l) most)
+  where
+    class : ℕ
+    class = classOf (pageItems l)
+
+    most : topOf (sumTerms binary64 noSettings value l) ≤ 3122
+    most = unfold binary64 in single-sum-top binary64 noSettings value tt l
+
+    go : (ts : List Term) → topOf ts ≤ 3122 → Summarizes ts class (extent ts ++ (class ∷ 0 ∷ 0 ∷ 0 ∷ []))
+    go [] h = record {
+      highest = λ e. absurd (let z : ⊥ = omega (arith, e) in z);
+      lowest = λ e. absurd (let z : ⊥ = omega (arith, e) in z);
+      without = λ _. refl;
+      classes = refl;
+      zeros = refl;
+    }
+    go (t ∷ ts) h = record {
+      highest = λ _. position-back (topOf (t ∷ ts)) h;
+      lowest = λ _. position-back (bottomOf (t ∷ ts)) (le-trans bottom-le h);
+      without = λ e. absurd (let z : ⊥ = omega (arith, e) in z);
+      classes = refl;
+      zeros = refl;
+    }
+      where
+        bottom-le : bottomOf (t ∷ ts) ≤ topOf (t ∷ ts)
+        bottom-le = unfold bottomOf in least-le (topOf (t ∷ ts)) lowOf (t ∷ ts)
+
 -- ---- the count and the values
 
 trailer-in : (l : List ℕ) → drop (length (pageOf l) - trailerLength) (pageOf l) ≡ trailer (length l)
@@ -189,6 +275,12 @@ pub page-span : Page-span
 page-span c u l start end w h a b =
     let v = page-values l w h in
     page-span-read c u (pageOf l) start end (is-open l w h) a (rw v b) ∙ ap (λ (m : List ℕ). sumAnswer binary64 c u (spanOf start end m)) v
+
+pub span-values : Span-values
+span-values start end l a b = (
+  length-take-le (end - start) (drop start l) (omega (arith, length-drop start l)),
+  λ i h. getD-take (end - start) (drop start l) i 0 h ∙ getD-drop start l i 0,
+)
 
 -- the plain sum refuses a span for its settings or its summand alone
 words-fit : (l : List ℕ) → AllWords l → any (stray binary64) l ≡ false

@@ -3,12 +3,12 @@ use mathlib.Core.Path.{_≡_, refl, sym, ap, _∙_}
 use mathlib.Core.Bool.{Bool, true, false, _||_}
 use mathlib.Core.List.{List, [], _∷_, _++_}
 use mathlib.Core.Option.{Option, none, some}
-use Prim.Native.Nat.{ℕ, suc, _+_, _<_, max}
+use Prim.Native.Nat.{ℕ, suc, _+_, _≤_, _<_, min, max}
 use native.Mathlib.Nat.{add-assoc, zero-add}
 use native.Mathlib.Omega.{arith}
 use lib.ListN.{length, take, getD}
 use lib.Seq.{take-suc}
-use Rattle.totals_spec.specs.Basics.{total, greatest, any, keep, picked}
+use Rattle.totals_spec.specs.Basics.{total, greatest, least, any, keep, picked}
 
 module _ {A : Type 0} where
   pub total-append : (f : A → ℕ) (s t : List A) → total f (s ++ t) ≡ total f s + total f t
@@ -18,6 +18,14 @@ module _ {A : Type 0} where
   pub greatest-append : (f : A → ℕ) (s t : List A) → greatest f (s ++ t) ≡ max (greatest f s) (greatest f t)
   greatest-append f [] t = omega arith
   greatest-append f (x ∷ s) t = omega (arith, greatest-append f s t)
+
+  pub least-le : (m : ℕ) (f : A → ℕ) (l : List A) → least m f l ≤ m
+  least-le m f [] = omega arith
+  least-le m f (x ∷ l) = omega (arith, least-le m f l)
+
+  pub least-append : (m : ℕ) (f : A → ℕ) (s t : List A) → least m f (s ++ t) ≡ min (least m f s) (least m f t)
+  least-append m f [] t = omega (arith, least-le m f t)
+  least-append m f (x ∷ s) t = omega (arith, least-append m f s t)
 
   pub any-append : (f : A → Bool) (s t : List A) → any f (s ++ t) ≡ (any f s || any f t)
   any-append f [] t = refl

@@ -87,8 +87,11 @@ unfoldable pub spans : Bool
 spans =
     -- 1 alone, whose first edge is −702
     totalIs 0x3ff0000000000000 1 (negsuc 701) (pageAnswer (withRounding 0) 0 twoPage 1 2)
-    -- an empty span, toward negative
+    -- 2^1000 alone; 1 is left out
+    && totalIs 0x7e70000000000000 1 (pos 298) (pageAnswer (withRounding 0) 0 twoPage 0 1)
+    -- empty spans, toward negative
     && totalIs 0 0 (pos 0) (pageAnswer (withRounding 4) 0 twoPage 2 2)
+    && totalIs 0 0 (pos 0) (pageAnswer (withRounding 4) 0 twoPage 0 0)
     -- 4 last, 13 before it, 12 first
     && refusedAs 4 0 (pageAnswer (withRounding 9) 0 twoPage 0 2)
     && refusedAs 4 0 (pageAnswer (withRounding 0) 3 twoPage 0 2)

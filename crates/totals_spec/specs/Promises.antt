@@ -2,16 +2,16 @@
 -- The contracts of the code say that its answers are what the definitions give.
 use mathlib.Core.Path.{_≡_}
 use mathlib.Core.Logic.{_≢_, _↔_, _⊎_}
-use mathlib.Core.Bool.{Bool, true, false, _||_}
+use mathlib.Core.Bool.{Bool, true, false, _||_, cond}
 use mathlib.Core.List.{List, [], _∷_, map}
 use mathlib.Core.Option.{none, some}
 use Prim.Native.Nat.{ℕ, _+_, _*_, _-_, _/_, _%_, _^_, _≤_, _<_, max}
 use lib.ListN.{length, replicate, take, drop, getD}
-use lib.IntN.{ℤ, pos}
-use lib.Dec.{T as Holds, eqb}
+use lib.IntN.{ℤ, pos, subℕ}
+use lib.Dec.{T as Holds, ltb, eqb}
 use lib.Ieee.{size}
 use Rattle.totals_spec.specs.Basics.{any, flag}
-use Rattle.totals_spec.specs.Format.{Format, Kind, ieee, noInf, fnuz, finiteOnly, kindOf, biasOf, binary64, validFormat, digits, grid}
+use Rattle.totals_spec.specs.Format.{Format, Kind, ieee, noInf, fnuz, finiteOnly, kindOf, biasOf, binary64, validFormat, digits, origin, grid}
 use Rattle.totals_spec.specs.Settings.{Settings, withRounding, validSettings, noSettings, value, summandOf}
 use Rattle.totals_spec.specs.Decode.{Unpacked, zeroOf, finite, infinity, nan, decode, isNumber, isNan, isSubnormal}
 use Rattle.totals_spec.specs.Encode.{encode}
@@ -22,7 +22,7 @@ use Rattle.totals_spec.specs.Totals.{limit, Answer, refused, sumRounded,
 use Rattle.totals_spec.specs.Totals.{sumRefusal, sumTerms, sumAnswer, dotRefusal, dotTerms, dotAnswer}
 use Rattle.totals_spec.specs.Bytes.{fromBytes, valuesIn, uneven, sumEntry, dotEntry}
 use Rattle.totals_spec.specs.Rearranged.{AsOften, samePair, holdsNan}
-use Rattle.totals_spec.specs.Limit.{lowBit, mostPasses}
+use Rattle.totals_spec.specs.Limit.{lowBit, bottomOf, mostPasses}
 use Rattle.totals_spec.specs.Side.{sideOf}
 use Rattle.totals_spec.specs.Settled.{chainTotal}
 use Rattle.totals_spec.specs.Conditions.{Uneven, First, sumConditions, dotConditions, entryConditions, penceConditions, sumPenceConditions}
@@ -33,7 +33,7 @@ use Rattle.totals_spec.specs.Pence.{penceAnswer, sumFigure, sumPence}
 use Rattle.totals_spec.specs.Table.{columnOf, tableRefusal, tableAnswer}
 use Rattle.totals_spec.specs.Ranges.{entries, triples, lowOf, highOf, plusZero, refusedRange, rangeRefusal, rangeAnswer}
 use Rattle.totals_spec.specs.Allowed.{Encloses, Ordered, sameTriple}
-use Rattle.totals_spec.specs.Pages.{summary, pageOf, pageValues, opens, spanOf, pageAnswer, pageEntry, pageWritten}
+use Rattle.totals_spec.specs.Pages.{classOf, pageItems, summary, pageOf, pageValues, opens, spanOf, pageAnswer, pageEntry, pageWritten}
 use Rattle.totals_spec.specs.Words.{formatBy, penceEntry, tableEntry, rangeEntry}
 use Rattle.totals_spec.specs.Hundredfold.{chainPence}
 use Rattle.totals_spec.specs.Careers.{careers, margins, allAgree, sideExamples, refusals, entryExample}
@@ -468,10 +468,31 @@ abbrev pub Page-summary : Type 0
 Page-summary = (l : List ℕ) (g : ℕ) → 64 * g < length l
     → take 12 (drop (8 * length l + 12 * g) (pageOf l)) ≡ summary (take 64 (drop (64 * g) l))
 
+-- four bytes as a number with a sign
+abbrev pub signedOf : List ℕ → ℤ
+signedOf b = cond (ltb (fromBytes b) (2 ^ 31)) (pos (fromBytes b)) (subℕ (fromBytes b) (2 ^ 32))
+
+-- what a reader finds in a summary s: T and B of the terms as positions (the bit worth 1 stands at 0), or eight zeros; the class, and three zeros
+pub record Summarizes (ts : List Term) (class : ℕ) (s : List ℕ) : Type 0 where
+  pub highest : 0 < length ts → signedOf (take 4 s) ≡ subℕ (topOf ts) (origin binary64 false)
+  pub lowest : 0 < length ts → signedOf (take 4 (drop 4 s)) ≡ subℕ (bottomOf ts) (origin binary64 false)
+  pub without : length ts ≡ 0 → take 8 s ≡ replicate 8 0
+  pub classes : getD s 8 0 ≡ class
+  pub zeros : drop 9 s ≡ replicate 3 0
+
+-- of the terms that a plain sum of the group has where every setting is 0
+abbrev pub Page-summarizes : Type 0
+Page-summarizes = (l : List ℕ) → Summarizes (sumTerms binary64 noSettings value l) (classOf (pageItems l)) (summary l)
+
 -- a page that opens is the page of its values, at most 1,048,576 of them
 abbrev pub Page-only : Type 0
 Page-only = (page : List ℕ) → opens page ≡ true
     → (page ≡ pageOf (pageValues page)) × AllWords (pageValues page) × (length (pageValues page) ≤ 1048576)
+
+-- a span has the values from `start` on, `end` less `start` of them
+abbrev pub Span-values : Type 0
+Span-values = (start end : ℕ) (l : List ℕ) → start ≤ end → end ≤ length l
+    → (length (spanOf start end l) ≡ end - start) × ((i : ℕ) → i < end - start → getD (spanOf start end l) i 0 ≡ getD l (start + i) 0)
 
 -- the total of a span, of a written page and of every page that opens, is that of the same values as a list of their own
 abbrev pub Page-span : Type 0
