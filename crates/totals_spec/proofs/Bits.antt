@@ -1,12 +1,12 @@
 -- Facts about powers of two, bit lengths and lowest set bits that the theorems share.
-use mathlib.Core.Path.{_≡_, refl, sym, ap, _∙_, subst}
+use mathlib.Core.Path.{_≡_, refl, sym, ap, ap₂, _∙_, subst}
 use mathlib.Core.Bool.{Bool, true}
 use Prim.Native.Nat.{ℕ, zero, suc, _+_, _-_, _*_, _/_, _%_, _^_, _≤_, _<_}
 use native.Mathlib.Nat.{le-trans, le-refl, le-antisymm, lt-of-lt-of-le, lt-of-not-le, not-le-of-lt, mul-one, mul-assoc, mul-left-comm, one-mul, zero-mul}
-use native.Mathlib.Nat.{mul-le-mul-right, div-one, div-div-eq-div-mul, pow-succ', mul-mod-left}
+use native.Mathlib.Nat.{mul-le-mul-right, div-one, div-div-eq-div-mul, pow-succ', mul-mod-left, mul-pos, add-zero, add-suc}
 use native.Mathlib.Omega.{arith}
 use lib.Dec.{T}
-use lib.Pow.{pow-add, pow-mono}
+use lib.Pow.{pow-add, pow-mono, pow-pos}
 use lib.Count.{trailingZeros, under}
 use lib.Ieee.{size}
 use lib.Ieee.Digits.{size-lt, size-reaches, size-le}
@@ -113,3 +113,35 @@ zeros-odd (suc d) n h k = go (n % 2) refl (zeros-odd d (n / 2))
 pub low-set : (m : ℕ) → 0 < m → m / 2 ^ lowBit m % 2 ≡ 1
 unfolding lowBit
 low-set m h = zeros-odd (size m) m h (size-lt m)
+
+-- among however many digits a number's lowest set bit is looked for
+pub zeros-same : (d e n : ℕ) → 0 < n → n < 2 ^ d → n < 2 ^ e → trailingZeros d n ≡ trailingZeros e n
+unfolding trailingZeros
+zeros-same zero e n h k j = absurd (not-le-of-lt k h)
+zeros-same (suc d) zero n h k j = absurd (not-le-of-lt j h)
+zeros-same (suc d) (suc e) n h k j = go (n % 2) refl (zeros-same d e (n / 2))
+  where
+    go : (r : ℕ) → n % 2 ≡ r → (0 < n / 2 → n / 2 < 2 ^ d → n / 2 < 2 ^ e → trailingZeros d (n / 2) ≡ trailingZeros e (n / 2))
+        → under r (trailingZeros d (n / 2)) ≡ under r (trailingZeros e (n / 2))
+    go zero z ih = ap suc (ih (omega arith) (omega (arith, pow-succ' 2 d)) (omega (arith, pow-succ' 2 e)))
+    go (suc r) z ih = refl
+
+-- of twice a number, and of m × 2^k
+low-twice : (n : ℕ) → 0 < n → lowBit (2 * n) ≡ suc (lowBit n)
+unfolding lowBit trailingZeros
+low-twice n p =
+    zeros-same (size (2 * n)) (suc (size n)) (2 * n) (omega arith) (size-lt (2 * n)) (omega (arith, size-lt n, pow-succ' 2 (size n)))
+    ∙ ap₂ (λ (r x : ℕ). under r (trailingZeros (size n) x)) even half
+  where
+    even : 2 * n % 2 ≡ 0
+    even = omega arith
+
+    half : 2 * n / 2 ≡ n
+    half = omega arith
+
+pub low-raised : (m k : ℕ) → 0 < m → lowBit (m * 2 ^ k) ≡ lowBit m + k
+low-raised m zero h = ap lowBit (mul-one m) ∙ sym (add-zero (lowBit m))
+low-raised m (suc k) h = ap lowBit twice ∙ low-twice (m * 2 ^ k) (mul-pos h (pow-pos k)) ∙ ap suc (low-raised m k h) ∙ sym (add-suc (lowBit m) k)
+  where
+    twice : m * 2 ^ suc k ≡ 2 * (m * 2 ^ k)
+    twice = ap (λ (x : ℕ). m * x) (pow-succ' 2 k) ∙ mul-left-comm m 2 (2 ^ k)

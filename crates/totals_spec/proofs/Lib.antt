@@ -71,10 +71,12 @@ pub mod PageRefused
 pub mod Promises
 -- More of a pass: how near S is to the exact sum, and that a boundary need not be taken off.
 pub mod Vanish
--- For the code's proofs: a window filled part by part, a list walked, values read from bytes, a chain walked, empty passes counted.
+-- For the code's proofs: a window filled part by part, a list walked, values read from bytes, pages part by part, a chain walked, empty
+-- passes counted.
 pub mod Window
 pub mod Walk
 pub mod Values
+pub mod PageParts
 pub mod Accepts
 pub mod Reached
 pub mod Kept

@@ -220,7 +220,7 @@ page-summarizes l = rw (class-bytes (pageItems l)) (go (sumTerms binary64 noSett
 
 -- ---- the count and the values
 
-trailer-in : (l : List ℕ) → drop (length (pageOf l) - trailerLength) (pageOf l) ≡ trailer (length l)
+pub trailer-in : (l : List ℕ) → drop (length (pageOf l) - trailerLength) (pageOf l) ≡ trailer (length l)
 unfolding pageOf
 trailer-in l =
     let front = valueBytes l ++ summaries l in
