@@ -17,10 +17,12 @@ use Rattle.totals_spec.specs.Terms.{Term, Item, isNanItem, isInfinite, i
 use Rattle.totals_spec.specs.Limit.{lowOf, bottomOf, ceilDiv}
 use Rattle.totals_spec.specs.Totals.{stray, limit, refuseIf, sumTerms, sumRefusal, sumAnswer}
 use Rattle.totals_spec.specs.Bytes.{fromBytes, toBytes, valuesFrom}
-use Rattle.totals_spec.specs.Pages.{groupSize, trailerLength, countMost, positionBytes, extent, classOf, pageItems, summary, groups, valueBytes, summariesFrom}
+use Rattle.totals_spec.specs.Pages.{groupSize, trailerLength, countMost, positionBytes, extent, classOf, pageItems}
+use Rattle.totals_spec.specs.Pages.{summary, groups, valueBytes, summariesFrom}
 use Rattle.totals_spec.specs.Pages.{summaries, trailer, pageOf, pageLength, countIn, pageValues, opens, spanOf, pageRefusal, pageAnswer}
 use Rattle.totals_spec.specs.Conditions.{AllWords}
-use Rattle.totals_spec.specs.Promises.{signedOf, Summarizes, Page-length, Page-summary, Page-summarizes, Page-only, Span-values, Page-span, Page-span-read}
+use Rattle.totals_spec.specs.Promises.{signedOf, Summarizes, Page-length, Page-summary, Page-summarizes, Page-only}
+use Rattle.totals_spec.specs.Promises.{Span-values, Page-span, Page-span-read}
 use Rattle.totals_spec.proofs.Bits.{T-of}
 use Rattle.totals_spec.proofs.Fields.{flag-less}
 use Rattle.totals_spec.proofs.Tops.{single-sum-top}
