@@ -80,7 +80,7 @@ from-take : (k n : ℕ) (page : List ℕ) → take k (valuesFrom (k + n) page) �
 from-take zero n page = refl
 from-take (suc k) n page = rw (suc-add k n) (ap (λ (l : List ℕ). fromBytes (take 8 page) ∷ l) (from-take k n (drop 8 page)))
 
-from-front : (k m : ℕ) (page : List ℕ) → 8 * k ≤ m → valuesFrom k (take m page) ≡ valuesFrom k page
+pub from-front : (k m : ℕ) (page : List ℕ) → 8 * k ≤ m → valuesFrom k (take m page) ≡ valuesFrom k page
 from-front zero m page h = refl
 from-front (suc k) m page h =
     ap₂ (λ (x y : List ℕ). fromBytes x ∷ valuesFrom k y) (take-take 8 m page (omega arith)) (drop-take 8 m page)

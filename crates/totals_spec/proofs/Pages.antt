@@ -50,7 +50,7 @@ value-bytes-length [] = refl
 value-bytes-length (x ∷ l) = omega (arith, value-bytes-length l)
 
 -- the values in their own bytes, whatever stands behind them
-values-back : (l r : List ℕ) → AllWords l → valuesFrom (length l) (valueBytes l ++ r) ≡ l
+pub values-back : (l r : List ℕ) → AllWords l → valuesFrom (length l) (valueBytes l ++ r) ≡ l
 values-back [] r h = refl
 values-back (x ∷ l) r h = ap₂ _∷_ (bytes-back 8 x (h .0)) (values-back l r (h .1))
 
@@ -141,7 +141,7 @@ page-summary l g h =
 
 -- ---- what a reader finds in a summary
 
-four-read : (n : ℕ) → fromBytes (toBytes 4 n) ≡ n % 4294967296
+pub four-read : (n : ℕ) → fromBytes (toBytes 4 n) ≡ n % 4294967296
 four-read n = omega arith
 
 -- the bit worth 1 stands 2098 above the unit, and the highest bit of a double 1024 above that
