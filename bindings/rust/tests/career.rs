@@ -1,8 +1,10 @@
 //! A career in many orders: every order has the same whole record.
 
 mod common;
+mod draw;
 
 use common::ROUNDINGS;
+use draw::Draw;
 use fermuzhai::{Float, Format, Record, Refusal, Settings, Summand, Totals, Value};
 
 const CAREER: &str = include_str!("data/career.txt");
@@ -16,21 +18,10 @@ fn career() -> Vec<f64> {
         .collect()
 }
 
-/// Numbers that are the same in every run (splitmix64).
-struct Draw(u64);
-
 impl Draw {
-    fn next(&mut self) -> u64 {
-        self.0 = self.0.wrapping_add(0x9e37_79b9_7f4a_7c15);
-        let mut x = self.0;
-        x = (x ^ (x >> 30)).wrapping_mul(0xbf58_476d_1ce4_e5b9);
-        x = (x ^ (x >> 27)).wrapping_mul(0x94d0_49bb_1331_11eb);
-        x ^ (x >> 31)
-    }
-
     fn shuffle<T>(&mut self, list: &mut [T]) {
         for i in (1..list.len()).rev() {
-            list.swap(i, (self.next() % (i as u64 + 1)) as usize);
+            list.swap(i, self.below(i as u64 + 1) as usize);
         }
     }
 

@@ -1,6 +1,9 @@
 //! The lower and the upper total of amounts known within a range, through `raw` and through the free function. The expectations are the neighbours of exact
 //! sums, worked out by hand or in whole numbers of 128 bits; over all finite numbers, what the plain sum gives for the lows and for the highs.
 
+mod draw;
+
+use draw::Draw;
 use fermuzhai::Amount::{self, Between, Known, Missing};
 use fermuzhai::{range, raw, Refusal, Rounding, Settings, Totals};
 
@@ -21,23 +24,6 @@ const UNUSED: [u64; 7] = [
     INFINITY | 1,
     0x4059_0000_0000_0000,
 ];
-
-/// Numbers that are the same in every run (splitmix64).
-struct Draw(u64);
-
-impl Draw {
-    fn next(&mut self) -> u64 {
-        self.0 = self.0.wrapping_add(0x9e37_79b9_7f4a_7c15);
-        let mut x = self.0;
-        x = (x ^ (x >> 30)).wrapping_mul(0xbf58_476d_1ce4_e5b9);
-        x = (x ^ (x >> 27)).wrapping_mul(0x94d0_49bb_1331_11eb);
-        x ^ (x >> 31)
-    }
-
-    fn below(&mut self, n: u64) -> u64 {
-        self.next() % n
-    }
-}
 
 /// 2^n, for a normal number.
 fn power(n: i64) -> f64 {

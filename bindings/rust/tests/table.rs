@@ -2,8 +2,10 @@
 //! numbers, those of docs/SPECIFICATION.md worked out by hand, and what the plain sum gives for the cells of each row and column.
 
 mod common;
+mod draw;
 
 use common::ROUNDINGS;
+use draw::Draw;
 use fermuzhai::{
     raw, sum, table, Float, Format, Kind, NanPropagation, Refusal, Rounding, Settings, Side,
     Tininess, Totals,
@@ -15,22 +17,7 @@ const UNTOUCHED: u8 = 0xa5;
 /// How many words stand behind the totals, and bytes behind the answer.
 const BEYOND: usize = 3;
 
-/// Numbers that are the same in every run (splitmix64).
-struct Draw(u64);
-
 impl Draw {
-    fn next(&mut self) -> u64 {
-        self.0 = self.0.wrapping_add(0x9e37_79b9_7f4a_7c15);
-        let mut x = self.0;
-        x = (x ^ (x >> 30)).wrapping_mul(0xbf58_476d_1ce4_e5b9);
-        x = (x ^ (x >> 27)).wrapping_mul(0x94d0_49bb_1331_11eb);
-        x ^ (x >> 31)
-    }
-
-    fn below(&mut self, n: u64) -> u64 {
-        self.next() % n
-    }
-
     fn flag(&mut self) -> bool {
         self.below(2) == 1
     }

@@ -23,7 +23,8 @@ use Rattle.totals_spec.specs.Promises.{Ranges-agree, Range-refused-exact
 use Rattle.totals_spec.specs.Promises.{Range-entry-read-back, Range-entries-kept, Range-plain, Range-holds, Range-narrowest}
 use Rattle.totals_spec.specs.Promises.{Range-zero, Range-fits, Range-order}
 use Rattle.totals_spec.specs.Promises.{Pages-agree, Page-opens, Page-beyond, Page-refused-exactly, Page-refused, Page-length, Page-summary, Page-only}
-use Rattle.totals_spec.specs.Promises.{Page-summarizes, Span-values, Page-span, Page-span-read, Page-empty, Page-span-refused-exactly, Page-span-numbers, Page-span-refused}
+use Rattle.totals_spec.specs.Promises.{Page-summarizes, Span-values, Page-span, Page-span-read, Page-empty, Page-span-refused-exactly}
+use Rattle.totals_spec.specs.Promises.{Page-span-numbers, Page-span-refused}
 use Rattle.totals_spec.specs.Promises.{Page-entry-refused-exactly, Page-entry-refused, Page-entry-read-back}
 use Rattle.totals_spec.proofs.Bits.{low-divides, low-set, size-none, size-one-less}
 use Rattle.totals_spec.proofs.Good.{good-terms, good-pairs}

@@ -96,7 +96,8 @@ abbrev pub Dot-refusal : Type 0
 Dot-refusal = (f : Format) (c : Settings) (xs ys : List ℕ) → (dotAnswer f c xs ys) .refusal ≡ dotRefusal f c xs ys
 
 -- a call has the number n exactly where n's condition holds and none that is tried before it does: 3, 4, 6, 7 of a sum, 3 to 7 of a dot, 1 and 2
--- before these of a byte entry (in the lowest byte of the number it returns), 3, 7, 8 of pence, 3, 6, 7, 8 of a list's and of its entry; and 0 exactly where none holds
+-- before these of a byte entry (in the lowest byte of the number it returns), 3, 7, 8 of pence, 3, 6, 7, 8 of a list's and of its
+-- entry; and 0 exactly where none holds
 abbrev pub Sum-refused-exactly : Type 0
 Sum-refused-exactly = (f : Format) (c : Settings) (u : ℕ) (l : List ℕ) (n : ℕ) → (sumAnswer f c u l) .refusal ≡ n ↔ First (sumConditions f c u l) n
 

@@ -36,7 +36,8 @@ naming m b e = ap (misnamed (entry m .args .bias-named)) (sym (bias-read (entry 
 abbrev settings : tie.Start → Settings
 settings s =
     let a = s .args in
-    settingsFrom (a .rounding) (a .tininess) (a .nan-propagation) (a .default-nan-negative) (a .flush-to-zero) (a .denormals-are-zero) (a .saturate) (a .precision)
+    settingsFrom (a .rounding) (a .tininess) (a .nan-propagation) (a .default-nan-negative) (a .flush-to-zero) (a .denormals-are-zero) (a .saturate)
+    (a .precision)
 
 -- once the table is worked out
 abbrev made : tie.After-table → tie.After-settings

@@ -24,7 +24,8 @@ within s b = record {
       column-room (s .args .count) (s .args .step) (s .args .first) (length (s .args .cells .now)) (s .pre .0 .0) (omega arith) (s .pre .0 .1) (omega arith);
 }
 
-are : (s : tie.Start) (b : List ℕ) → elements (source s) (s .args .cells .now) b ≡ columnOf (s .args .count) (s .args .step) (s .args .cells .now) (s .args .first)
+are : (s : tie.Start) (b : List ℕ) → elements (source s) (s .args .cells .now) b
+    ≡ columnOf (s .args .count) (s .args .step) (s .args .cells .now) (s .args .first)
 unfolding elements
 are s b = column-strided (s .args .count) (s .args .step) (s .args .first) (s .args .cells .now)
 

@@ -14,7 +14,8 @@ use Rattle.values.specs.Walks.{isDot, isHundred, addedIn}
 use Rattle.values.proofs.Sources.{elements-length}
 use Rattle.reduction.specs.Held.{Sums}
 use Rattle.totals.specs.Reported.{TotalAsks}
-use Rattle.totals.proofs.Totalled.{Seen, scanned-orderly, asks-format, asks-few, digits-most, top-room, early-asks, early-told, exact-asks, end-asks, end-told}
+use Rattle.totals.proofs.Totalled.{Seen, scanned-orderly, asks-format, asks-few, digits-most, top-room, early-asks, early-told, exact-asks}
+use Rattle.totals.proofs.Totalled.{end-asks, end-told}
 use Rattle.totals.proofs.lists.total.Statement.{statement}
 use Rattle.totals.proofs.lists.total.Tie as tie
 
