@@ -1,0 +1,287 @@
+// Career pages, as bytes: values, a summary of each group of 64 of them, a trailer. A page opens where it is the page of its own values.
+// Nothing calls `open` and `write` yet: the exported entries come with the request.
+use arithmetic::looked_term;
+use format::Format;
+use format::Named;
+use format::env::Settings;
+use format::env::flag;
+use format::origin;
+use limbs::word::either;
+use limbs::word::smaller;
+use scan::walk::scan;
+use values::Source;
+use values::Walk;
+use values::put_word;
+use values::word_at;
+ghost use mathlib.Core.Path.{_≡_};
+ghost use mathlib.Core.Bool.{Bool, true};
+ghost use mathlib.Core.List.{List, [], _∷_, _++_};
+ghost use Prim.Native.Nat.{_+_, _-_, _*_, _/_, _%_, _<_, _≤_};
+ghost use lib.Dec.{T, ltb};
+ghost use lib.ListN.{length, take, drop};
+ghost use Rattle.totals_spec.specs.Basics.{least};
+ghost use Rattle.totals_spec.specs.Bytes.{fromBytes, toBytes, valuesFrom, valuesIn};
+ghost use Rattle.totals_spec.specs.Limit.{lowOf};
+ghost use Rattle.totals_spec.specs.Terms.{terms, topOf};
+ghost use Rattle.totals_spec.specs.Format as formats;
+ghost use Rattle.totals_spec.specs.Settings as env;
+ghost use Rattle.totals_spec.specs.Pages as spec;
+ghost use Rattle.totals_spec.proofs.PageParts.{Stands};
+ghost use Rattle.totals_spec.specs.Conditions.{AllWords};
+ghost use Rattle.format.specs.Joined.{formatOf, settingsOf};
+ghost use Rattle.page.specs.Paged.{Tells, AllStand, Summarized, Opens, Fills};
+
+const GROUP: usize = 64;
+
+pub const TRAILER: usize = 16;
+
+// The most values that a trailer may count.
+const COUNT_MOST: u64 = 1048576;
+
+// The trailer's second word: 64, and the letters CPG1 above it.
+const ENDING: u64 = 3550895079897956416;
+
+const HALF: u64 = 4294967296;
+
+fn binary64() -> Format
+    ensures { λ r. ⌜ formatOf r ≡ formats.binary64 ⌝ }
+{
+    Format {
+        kind: 0,
+        exponent_bits: 11,
+        width: 64,
+        named: Named::Nothing,
+    }
+}
+
+fn no_settings() -> Settings
+    ensures { λ r. ⌜ settingsOf r ≡ env.noSettings ⌝ }
+{
+    Settings {
+        rounding: 0,
+        tininess: 0,
+        nan_propagation: 0,
+        default_nan_negative: 0,
+        flush_to_zero: 0,
+        denormals_are_zero: 0,
+        saturate: 0,
+        precision: 0,
+    }
+}
+
+// The lower of a position and the lowest set bit of a value.
+fn lower(x: u64, low: u64) -> u64
+    ensures { λ r. ⌜ r ≡ least low lowOf (terms (spec.pageItems (x ∷ []))) ⌝ }
+{
+    let t = looked_term(binary64(), no_settings(), 0, x);
+    if t.low == 0 {
+        return low;
+    }
+    let at = u64::trailing_zeros(t.low) as u64 + t.shift;
+    if at < low { at } else { low }
+}
+
+// The lowest set bit of some values, no higher than a position.
+fn bottom(values: &[u8], top: u64) -> u64
+    ensures { λ r. ⌜ r ≡ least top lowOf (terms (spec.pageItems (valuesIn (now (values .entry))))) ⌝ }
+{
+    let n = values.len() / 8;
+    let mut low = top;
+    let mut i: usize = 0;
+    while i < n {
+        let next = lower(word_at(values, i), low);
+        low = next;
+        i += 1;
+    }
+    low
+}
+
+// A position as a word below 2^32: the bit worth 1 stands at 0.
+fn position(at: u64) -> u64
+    requires { ⌜ at < 4294967296 ⌝ }
+    ensures { λ r. ⌜ r ≡ (4294967296 + at - 2098) % 4294967296 ⌝ }
+{
+    (HALF + at - 2098) % HALF
+}
+
+// A summary: the word of the highest and the lowest set bit, and the class.
+struct Summary {
+    extent: u64,
+    class: u64,
+}
+
+fn summary_of(values: &[u8]) -> Summary
+    ensures { λ r. ⌜ Summarized (valuesIn (now (values .entry))) r ⌝ }
+{
+    let f = binary64();
+    let c = no_settings();
+    let none = [0u64; 1];
+    let k = Walk {
+        summand: 0,
+        source: Source {
+            layout: 1,
+            start: 0,
+            step: 1,
+            count: values.len() / 8,
+        },
+    };
+    let s = scan(f, c, k, &none, values, &none, values);
+    let n = s.nan;
+    let class = flag(1, n.some)
+        + flag(2, either(s.positive_infinity, s.negative_infinity))
+        + flag(4, either(s.positive_zero, s.negative_zero));
+    if s.top == 0 {
+        return Summary { extent: 0, class };
+    }
+    let high = position(s.top);
+    let low = position(bottom(values, s.top));
+    let extent = high + HALF * low;
+    Summary { extent, class }
+}
+
+// The summary of the group g of a page of n values.
+fn group_summary(page: &[u8], n: usize, g: usize) -> Summary
+    requires { ⌜ (64 * g < n) × (8 * n ≤ length (now page)) ⌝ }
+    ensures { λ r. ⌜ Summarized (take spec.groupSize (drop (spec.groupSize * g) (valuesFrom n (now (page .entry))))) r ⌝ }
+{
+    let first = GROUP * g;
+    let end = smaller(first + GROUP, n);
+    let a = 8 * first;
+    let e = 8 * end;
+    summary_of(&page[a..e])
+}
+
+// Whether the summary of a group stands where it should. The trailer lies behind, so that two words can be read.
+fn stands(page: &[u8], n: usize, g: usize) -> bool
+    requires { ⌜ (64 * g < n) × (n ≤ 1048576) × (8 * n + 12 * g + 16 ≤ length (now page)) ⌝ }
+    ensures { λ r. ⌜ Tells r (Stands n (now (page .entry)) g) ⌝ }
+{
+    let s = group_summary(page, n, g);
+    let at = 8 * n + 12 * g;
+    let next = at + 8;
+    let last = at + 16;
+    if word_at(&page[at..next], 0) != s.extent {
+        return false;
+    }
+    word_at(&page[next..last], 0) % HALF == s.class
+}
+
+fn all_stand(page: &[u8], n: usize, groups: usize) -> bool
+    requires { ⌜ (n ≤ 1048576) × (64 * groups < n + 64) × (8 * n + 12 * groups + 16 ≤ length (now page)) ⌝ }
+    ensures { λ r. ⌜ Tells r (AllStand n (now (page .entry)) groups) ⌝ }
+{
+    let mut g: usize = 0;
+    while g < groups {
+        if !stands(page, n, g) {
+            return false;
+        }
+        g += 1;
+    }
+    true
+}
+
+// The groups of n values.
+fn groups_of(n: usize) -> usize
+    requires { ⌜ n < 18446744073709551552 ⌝ }
+    ensures { λ r. ⌜ r ≡ spec.groups n ⌝ }
+{
+    (n + 63) / GROUP
+}
+
+// The number of values of a page that opens.
+pub enum Opened {
+    Count(usize),
+    Nothing,
+}
+
+pub fn open(page: &[u8]) -> Opened
+    ensures { λ r. ⌜ Opens (now (page .entry)) r ⌝ }
+{
+    let all = page.len();
+    if all < TRAILER {
+        return Opened::Nothing;
+    }
+    let at = all - TRAILER;
+    let next = at + 8;
+    let sizes = word_at(&page[at..next], 0);
+    let count = sizes / HALF;
+    if count > COUNT_MOST {
+        return Opened::Nothing;
+    }
+    if sizes % HALF != 8 * count {
+        return Opened::Nothing;
+    }
+    if word_at(&page[next..all], 0) != ENDING {
+        return Opened::Nothing;
+    }
+    let n = count as usize;
+    let groups = groups_of(n);
+    if at != 8 * n + 12 * groups {
+        return Opened::Nothing;
+    }
+    if !all_stand(page, n, groups) {
+        return Opened::Nothing;
+    }
+    Opened::Count(n)
+}
+
+// Whether a page of n values has no room.
+fn no_room(n: usize, room: usize) -> bool
+    ensures { λ r. ⌜ r ≡ ltb room (spec.pageLength n) ⌝ }
+{
+    if room / 8 < n {
+        return true;
+    }
+    let rest = room - 8 * n;
+    rest < 12 * groups_of(n) + TRAILER
+}
+
+fn write_values(values: &[u64], page: &mut [u8])
+    requires { ⌜ spec.pageLength (length (now values)) ≤ length (now page) ⌝ }
+    ensures { λ _. ⌜ Fills (spec.pageOf (now (values .entry))) (8 * length (now (values .entry))) (now (page .entry)) (now (page .exit)) ⌝ }
+{
+    let n = values.len();
+    let mut i: usize = 0;
+    let mut at: usize = 0;
+    while i < n {
+        put_word(page, at, values[i]);
+        at += 8;
+        i += 1;
+    }
+}
+
+// A class is laid as a whole word: the summary or the trailer behind it is laid after it.
+fn write_summaries(n: usize, groups: usize, page: &mut [u8])
+    requires { ⌜ (n ≤ 1048576) × (groups ≡ spec.groups n) × (8 * n + 12 * groups + 16 ≤ length (now page)) ⌝ }
+    ensures { λ _. ⌜ Fills (spec.pageOf (valuesFrom n (now (page .entry)))) (8 * n + 12 * groups) (now (page .entry)) (now (page .exit)) ⌝ }
+{
+    let mut g: usize = 0;
+    let mut at: usize = 8 * n;
+    while g < groups {
+        let s = group_summary(page, n, g);
+        put_word(page, at, s.extent);
+        put_word(page, at + 8, s.class);
+        at += 12;
+        g += 1;
+    }
+}
+
+pub fn write(values: &[u64], page: &mut [u8]) -> u64
+    ensures { λ r. ⌜ (r ≡ (spec.pageWritten (now (values .entry)) (now (page .entry))) .code) × (now (page .exit) ≡ (spec.pageWritten (now (values .entry)) (now (page .entry))) .buffer) ⌝ }
+{
+    let n = values.len();
+    if no_room(n, page.len()) {
+        return 2;
+    }
+    if n as u64 > COUNT_MOST {
+        return 6;
+    }
+    let groups = groups_of(n);
+    write_values(values, page);
+    write_summaries(n, groups, page);
+    let at = 8 * n + 12 * groups;
+    let count = n as u64;
+    put_word(page, at, 8 * count + HALF * count);
+    put_word(page, at + 8, ENDING);
+    256 * (at as u64 + 16)
+}
