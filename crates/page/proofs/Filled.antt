@@ -1,6 +1,6 @@
 -- One step of each loop: a page filled by one word more, and the lowest bit of one value more.
-use mathlib.Core.Path.{_≡_, refl, sym, ap, ap₂, _∙_, subst}
-use mathlib.Core.List.{List, [], _∷_, _++_, map, map-append}
+use mathlib.Core.Path.{_≡_, sym, ap, _∙_, subst}
+use mathlib.Core.List.{List, [], _∷_, _++_, map-append}
 use Prim.Native.Nat.{ℕ, suc, _+_, _*_, _≤_, _<_, min}
 use native.Mathlib.Omega.{arith}
 use lib.ListN.{length, take, drop, getD}

@@ -1,17 +1,17 @@
 -- What a scan and a walk for the lowest bit have gathered of a group is its summary.
 use mathlib.Core.Path.{_≡_, refl, sym, ap, ap₂, _∙_, subst}
 use mathlib.Core.Logic.{_≢_}
-use mathlib.Core.Bool.{Bool, _||_}
+use mathlib.Core.Bool.{_||_}
 use mathlib.Core.List.{List, [], _∷_, _++_}
 use Prim.Native.Nat.{ℕ, _+_, _-_, _*_, _%_, _≤_, _<_, zero-le, suc-le-suc}
 use native.Mathlib.Nat.{le-trans}
 use native.Mathlib.Omega.{arith}
 use lib.ListN.{length}
-use Rattle.totals_spec.specs.Basics.{flag, any, least}
+use Rattle.totals_spec.specs.Basics.{flag, least}
 use Rattle.totals_spec.specs.Bytes.{toBytes}
 use Rattle.totals_spec.specs.Format.{binary64}
 use Rattle.totals_spec.specs.Limit.{lowOf, bottomOf}
-use Rattle.totals_spec.specs.Pages.{classOf, pageItems, summary}
+use Rattle.totals_spec.specs.Pages.{classOf, pageItems}
 use Rattle.totals_spec.specs.Settings.{noSettings, value}
 use Rattle.totals_spec.specs.Terms.{Term, terms, topOf}
 use Rattle.totals_spec.proofs.PageParts.{position-word, summary-word, summary-zero}

@@ -1,5 +1,5 @@
 -- A summary laid behind the values, and the whole page at the end.
-use mathlib.Core.Path.{_≡_, refl, sym, ap, ap₂, _∙_, subst}
+use mathlib.Core.Path.{_≡_, refl, sym, ap, _∙_, subst}
 use mathlib.Core.Bool.{true, false}
 use mathlib.Core.List.{List, [], _∷_, _++_}
 use Prim.Native.Nat.{ℕ, suc, _+_, _*_, _≤_, _<_}
@@ -156,7 +156,8 @@ module _ (l old : List ℕ) (w : AllWords l) (few : length l ≤ 1048576) (g : �
       first : Fills (pageOf l) (end + 8) old three
       first =
           subst (Fills (pageOf l) (end + 8) old) (sym a)
-          (fills-next (pageOf l) old two end (8 * n + 4294967296 * n) 8 both (omega (arith, wide)) (omega (arith, size)) (omega arith) (sym (ap (take 8) trailing)))
+          (fills-next (pageOf l) old two end (8 * n + 4294967296 * n) 8 both (omega (arith, wide)) (omega (arith, size)) (omega arith)
+          (sym (ap (take 8) trailing)))
 
       last : Fills (pageOf l) (end + 8 + 8) old four
       last =

@@ -2,12 +2,12 @@
 use mathlib.Core.Path.{_≡_, refl, sym, ap, _∙_, subst}
 use mathlib.Core.Logic.{_≢_}
 use mathlib.Core.Bool.{Bool, true, false}
-use mathlib.Core.List.{List, [], _∷_}
+use mathlib.Core.List.{[], _∷_}
 use Prim.Native.Nat.{ℕ, _+_, _*_, _^_, _≤_, _<_, min}
 use native.Mathlib.Nat.{mul-one, zero-mul, zero-add}
 use native.Mathlib.Omega.{arith}
 use lib.Count.{trailingZeros}
-use lib.Dec.{T, ltb}
+use lib.Dec.{ltb}
 use lib.Ieee.{size}
 use lib.Ieee.Digits.{size-lt}
 use borrow.Author.Tests.{lt-ltb, le-ltb, ltb-true, ltb-false}
@@ -15,7 +15,7 @@ use Rattle.totals_spec.specs.Basics.{least}
 use Rattle.totals_spec.specs.Bounds.{FormatBounds}
 use Rattle.totals_spec.specs.Format.{binary64, validFormat}
 use Rattle.totals_spec.specs.Limit.{lowBit, lowOf}
-use Rattle.totals_spec.specs.Terms.{Item, Term, nanItem, invalidItem, infinite, zeroItem, term, terms}
+use Rattle.totals_spec.specs.Terms.{Item, nanItem, invalidItem, infinite, zeroItem, term, terms}
 use Rattle.totals_spec.proofs.Bits.{zeros-same, low-raised}
 use Rattle.totals_spec.proofs.Valid.{format-bounds}
 use Rattle.arithmetic.specs.declared.Term as code

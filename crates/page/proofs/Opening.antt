@@ -1,14 +1,14 @@
 -- What the two words of a trailer say of a page.
-use mathlib.Core.Path.{_≡_, refl, sym, ap, ap₂, _∙_, subst}
+use mathlib.Core.Path.{_≡_, refl, sym, ap, ap₂, _∙_}
 use mathlib.Core.Bool.{Bool, true, false}
 use mathlib.Core.List.{List, _++_}
-use Prim.Native.Nat.{ℕ, _+_, _-_, _*_, _/_, _%_, _≤_, _<_}
+use Prim.Native.Nat.{ℕ, _+_, _-_, _*_, _/_, _≤_, _<_}
 use native.Mathlib.Omega.{arith}
 use lib.ListN.{length, take, drop, length-drop}
-use lib.Seq.{take-all, take-add, take-take, drop-drop}
+use lib.Seq.{take-all, take-add, drop-drop}
 use Rattle.totals_spec.specs.Bytes.{fromBytes, toBytes}
-use Rattle.totals_spec.specs.Pages.{countMost, trailer, countIn, opens, pageLength}
-use Rattle.totals_spec.proofs.PageParts.{AllBytes, bytes-at, Parts, open-parts, trailer-words}
+use Rattle.totals_spec.specs.Pages.{countMost, trailer, countIn, opens}
+use Rattle.totals_spec.proofs.PageParts.{AllBytes, bytes-at, trailer-words}
 use Rattle.totals_spec.proofs.ReadBack.{bytes-back}
 
 pub not-open : (page : List ℕ) → (opens page ≡ true → ⊥) → opens page ≡ false

@@ -1,9 +1,9 @@
 -- A summary in its place, by the two words that are read there.
-use mathlib.Core.Path.{_≡_, refl, sym, ap, ap₂, _∙_, subst}
+use mathlib.Core.Path.{_≡_, sym, ap, _∙_, subst}
 use mathlib.Core.Logic.{_≢_}
-use mathlib.Core.Bool.{true, false}
-use mathlib.Core.List.{List, _++_}
-use Prim.Native.Nat.{ℕ, _+_, _-_, _*_, _/_, _%_, _≤_, _<_}
+use mathlib.Core.Bool.{false}
+use mathlib.Core.List.{List}
+use Prim.Native.Nat.{ℕ, _+_, _-_, _*_, _%_, _≤_, _<_}
 use native.Mathlib.Omega.{arith}
 use lib.Dec.{T, eqb}
 use lib.ListN.{length, take, drop, getD, length-drop}
@@ -36,7 +36,8 @@ low-half page at f h =
     four : (x : ℕ) → fromBytes (toBytes 4 x) ≡ x % 4294967296
     four x = omega arith
 
-module _ (n g : ℕ) (page : List ℕ) (s : Summary) (m : Summarized (take groupSize (drop (groupSize * g) (valuesFrom n page))) s) (less : s .extent < 18446744073709551616) where
+module _ (n g : ℕ) (page : List ℕ) (s : Summary) (m : Summarized (take groupSize (drop (groupSize * g) (valuesFrom n page))) s)
+    (less : s .extent < 18446744073709551616) where
   abbrev at : ℕ
   at = 8 * n + 12 * g
 

@@ -1,7 +1,6 @@
 -- `page::all_stand` meets its contract. The invariant: the summaries of the first g groups stand.
-use mathlib.Core.Path.{_≡_, refl, sym, _∙_, subst}
-use mathlib.Core.Bool.{true, false}
-use Prim.Native.Nat.{ℕ, _≤_, _-_}
+use mathlib.Core.Path.{refl, sym, _∙_, subst}
+use Prim.Native.Nat.{_≤_, _-_}
 use native.Mathlib.Nat.{not-suc-le-zero}
 use native.Mathlib.Numerals.{add-one-le}
 use native.Mathlib.Omega.{arith}

@@ -1,5 +1,4 @@
 -- `page::groups_of` meets its contract.
-use mathlib.Core.Path.{refl}
 use borrow.Author.Needs.{needs}
 use Rattle.totals_spec.specs.Limit.{ceilDiv}
 use Rattle.page.proofs.groups_of.Statement.{statement}

@@ -1,12 +1,11 @@
 -- `page::lower` meets its contract.
-use mathlib.Core.Path.{_≡_, sym, ap, _∙_, subst}
-use Prim.Native.Nat.{ℕ, _+_, _^_, _<_, min}
+use mathlib.Core.Path.{_≡_, sym}
+use Prim.Native.Nat.{_<_}
 use native.Mathlib.Omega.{arith}
 use borrow.Author.Needs.{needs}
-use lib.Count.{trailingZeros, trailing-le}
-use Rattle.totals_spec.specs.Bounds.{FormatBounds}
-use Rattle.totals_spec.specs.Format.{Format, binary64}
-use Rattle.totals_spec.specs.Settings.{Settings, noSettings, value}
+use lib.Count.{trailing-le}
+use Rattle.totals_spec.specs.Format.{binary64}
+use Rattle.totals_spec.specs.Settings.{noSettings, value}
 use Rattle.totals_spec.specs.Terms.{Item, item}
 use Rattle.arithmetic.specs.Joined.{StandsFor}
 use Rattle.page.proofs.Numbers.{bounds64, no-lower, lower-bit, shift-less}

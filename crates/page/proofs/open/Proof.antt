@@ -46,44 +46,35 @@ word2 t =
     let p = page (first t) in
     t .word-at2 .ensures ∙ word-there p (length p - 16 + 8) (length p) (omega (arith, long (first t))) (omega arith)
 
--- src/lib.rt:194:9
 returns : tie.Need-returns
 unfolding pageLength
 returns c =
     let p = c .before .before .args .page .now in
     not-open p (λ o. omega (arith, c .if1 .taken, open-parts p o .long))
 
--- src/lib.rt:197:16
 add-next : tie.Need-add-next
 add-next c = search needs
 
--- src/lib.rt:198:25
 sub-word-at : tie.Need-sub-word-at
 sub-word-at c = search needs
 
--- src/lib.rt:198:25
 part-word-at-start : tie.Need-part-word-at-start
 part-word-at-start c = search needs
 
--- src/lib.rt:198:25
 part-word-at-end : tie.Need-part-word-at-end
 part-word-at-end c = search needs
 
--- src/lib.rt:198:9
 word-at-requires : tie.Need-word-at-requires
 word-at-requires c κs = search needs
 
--- src/lib.rt:201:9
 returns-2 : tie.Need-returns-2
 returns-2 c =
     let t = c .before in
     not-open (page t) (λ o. omega (arith, c .if2 .taken, count t, open-parts (page t) o .few))
 
--- src/lib.rt:203:24
 mul-if3 : tie.Need-mul-if3
 mul-if3 c = search needs
 
--- src/lib.rt:204:9
 returns-3 : tie.Need-returns-3
 returns-3 c =
     let t = c .before .before in
@@ -93,23 +84,18 @@ returns-3 c =
     let w = trailed p (bytes t) (long t) (countIn p) (d .few) (d .trails) in
     c .if3 .taken (omega (arith, word t, count t, d .few, w .0)))
 
--- src/lib.rt:206:16
 sub-word-at-2 : tie.Need-sub-word-at-2
 sub-word-at-2 c = search needs
 
--- src/lib.rt:206:16
 part-word-at-start-2 : tie.Need-part-word-at-start-2
 part-word-at-start-2 c = search needs
 
--- src/lib.rt:206:16
 part-word-at-end-2 : tie.Need-part-word-at-end-2
 part-word-at-end-2 c = search needs
 
--- src/lib.rt:206:8
 word-at-requires-2 : tie.Need-word-at-requires-2
 word-at-requires-2 c κs = search needs
 
--- src/lib.rt:207:9
 returns-4 : tie.Need-returns-4
 returns-4 c =
     let u = c .before in
@@ -119,11 +105,9 @@ returns-4 c =
     let d = open-parts p o in
     c .if4 .taken (word2 u ∙ trailed p (bytes t) (long t) (countIn p) (d .few) (d .trails) .1))
 
--- src/lib.rt:210:9
 groups-of-requires : tie.Need-groups-of-requires
 groups-of-requires c κs = search needs
 
--- src/lib.rt:211:14
 mul-if5 : tie.Need-mul-if5
 mul-if5 c = search needs
 
@@ -137,17 +121,14 @@ few g = let e = g .before .before in omega (arith, e .before .before .before .if
 sized : (g : tie.After-groups-of) → let w = whole g .word-at .result in w % 4294967296 ≡ 8 * (w / 4294967296)
 sized g = let e = g .before .before in e .before .before .if3 .left
 
--- src/lib.rt:211:22
 mul-if5-2 : tie.Need-mul-if5-2
 unfolding ceilDiv
 mul-if5-2 c = omega (arith, few c, c .groups-of .ensures)
 
--- src/lib.rt:211:14
 add-if5 : tie.Need-add-if5
 unfolding ceilDiv
 add-if5 c = omega (arith, few c, c .groups-of .ensures)
 
--- src/lib.rt:212:9
 returns-5 : tie.Need-returns-5
 unfolding pageLength ceilDiv
 returns-5 c =
@@ -156,12 +137,10 @@ returns-5 c =
     let p = page t in
     not-open p (λ o. c .if5 .taken (omega (arith, g .groups-of .ensures, count t, open-parts p o .long)))
 
--- src/lib.rt:214:9
 all-stand-requires : tie.Need-all-stand-requires
 unfolding ceilDiv
 all-stand-requires c κs = let g = c .before in (few g, omega (arith, g .groups-of .ensures), omega (arith, c .if5 .left, long (whole g)))
 
--- src/lib.rt:215:9
 returns-6 : tie.Need-returns-6
 returns-6 c =
     let b = c .before in
@@ -173,7 +152,6 @@ returns-6 c =
     let told = b .all-stand .ensures .1 (λ k h. d .stands k (subst (λ (m : ℕ). k < m) (g .groups-of .ensures) h)) in
     subst T (sym told ∙ not-true (b .all-stand .result) (c .if6 .taken)) tt)
 
--- src/lib.rt:189:1
 returns-7 : tie.Need-returns-7
 unfolding pageLength
 returns-7 c =

@@ -18,15 +18,6 @@ use Rattle.page.proofs.Numbers.{bounds64}
 use borrow.Author.Needs.{needs}
 use Rattle.page.proofs.summary_of.Statement.{statement}
 use Rattle.page.proofs.summary_of.Tie as tie
-use Rattle.page.proofs.summary_of.Reads as reads
-use Rattle.page.proofs.summary_of.Lts as lts
-use Rattle.format.proofs.env.flag.Reads as flag-reads
-use Rattle.limbs.proofs.word.either.Reads as either-reads
-use Rattle.page.proofs.binary64.Reads as binary64-reads
-use Rattle.page.proofs.bottom.Reads as bottom-reads
-use Rattle.page.proofs.no_settings.Reads as no-settings-reads
-use Rattle.page.proofs.position.Reads as position-reads
-use Rattle.scan.proofs.walk.scan.Reads as scan-reads
 
 -- the values, which the walk gives
 abbrev entry : tie.After-no-settings → tie.Start
@@ -46,54 +37,42 @@ gathered t =
     let k = walk t in
     rw (k .before .binary64 .ensures, k .no-settings .ensures, gives k (0 ∷ []) .are) at (t .scan .ensures)
 
--- src/lib.rt:114:9
 binary64-requires : tie.Need-binary64-requires
 binary64-requires c κs = search needs
 
--- src/lib.rt:115:9
 no-settings-requires : tie.Need-no-settings-requires
 no-settings-requires c κs = search needs
 
--- src/lib.rt:118:27
 slice-aggregate-scan : tie.Need-slice-aggregate-scan
 slice-aggregate-scan c = search needs
 
--- src/lib.rt:118:42
 slice-aggregate-scan-2 : tie.Need-slice-aggregate-scan-2
 slice-aggregate-scan-2 c = search needs
 
--- src/lib.rt:118:9
 scan-requires : tie.Need-scan-requires
 scan-requires c κs =
     let t = c .before .before in
     let g = gives t (0 ∷ []) in
     (rw (t .before .binary64 .ensures) bounds64, g .within, g .within, λ _. whole-straight 1 _)
 
--- src/lib.rt:120:17
 flag-requires : tie.Need-flag-requires
 flag-requires c κs = search needs
 
--- src/lib.rt:121:19
 either-requires : tie.Need-either-requires
 either-requires c κs = search needs
 
--- src/lib.rt:121:11
 flag-requires-2 : tie.Need-flag-requires-2
 flag-requires-2 c κs = search needs
 
--- src/lib.rt:120:17
 add-class : tie.Need-add-class
 add-class c = search needs
 
--- src/lib.rt:122:19
 either-requires-2 : tie.Need-either-requires-2
 either-requires-2 c κs = search needs
 
--- src/lib.rt:122:11
 flag-requires-3 : tie.Need-flag-requires-3
 flag-requires-3 c κs = search needs
 
--- src/lib.rt:120:17
 add-class-2 : tie.Need-add-class-2
 add-class-2 c = search needs
 
@@ -119,38 +98,31 @@ second t = two t .flag2 .ensures .0 ∙ ap (flag 2) (two t .before .either .ensu
 third : (t : tie.After-flag3) → let s = scanned t .scan .result in t .flag3 .result ≡ flag 4 (s .«positive_zero» || s .«negative_zero»)
 third t = t .flag3 .ensures .0 ∙ ap (flag 4) (t .before .either2 .ensures)
 
--- src/lib.rt:124:9
 returns : tie.Need-returns
 returns c =
     let t = c .before .before in
     without-term (group t) (scanned t .scan .result) (gathered (scanned t)) _ _ _ (one t .flag .ensures .0) (second t) (third t) (few t) (c .if1 .taken)
 
--- src/lib.rt:126:9
 position-requires : tie.Need-position-requires
 position-requires c κs =
     let t = c .before .before in
     omega (arith, top-most (group t) (scanned t .scan .result) (gathered (scanned t)))
 
--- src/lib.rt:127:24
 bottom-requires : tie.Need-bottom-requires
 bottom-requires c κs = search needs
 
--- src/lib.rt:127:9
 position-requires-2 : tie.Need-position-requires-2
 position-requires-2 c κs =
     let e = c .before .before in
     let t = e .before .before in
     omega (arith, bottom-most (group t) (scanned t .scan .result) (gathered (scanned t)) (c .bottom .result) (c .bottom .ensures))
 
--- src/lib.rt:129:24
 mul-extent : tie.Need-mul-extent
 mul-extent c = search needs
 
--- src/lib.rt:129:17
 add-extent : tie.Need-add-extent
 add-extent c = search needs
 
--- src/lib.rt:111:1
 returns-2 : tie.Need-returns-2
 returns-2 c =
     let e = c .before .before .before in
