@@ -140,7 +140,8 @@ returns-3 c =
     let g = t .groups-of in
     page-written l (a .page .now) (room-test t) (few t) _ _ (ap (λ (k : ℕ). 256 * (8 * length l + 12 * k + 16)) (g .ensures))
     (whole-laid l (a .page .now) (all-words l (λ k. omega (arith, r .before .before .shared-slice-known .given k))) (few t)
-    (g .result) (g .ensures) (room t) _ _ _ _ (v .write-values .ensures) (s .write-summaries .ensures) (q .before .before .before .put-word .ensures) (c .before .before .put-word2 .ensures))
+    (g .result) (g .ensures) (room t) _ _ _ _ (v .write-values .ensures) (s .write-summaries .ensures)
+    (q .before .before .before .put-word .ensures) (c .before .before .put-word2 .ensures))
 
 pub write-spec : {M : Type 1} → statement M
 write-spec =
