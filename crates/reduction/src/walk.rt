@@ -87,7 +87,7 @@ fn pass_singles(
 }
 
 // The same over squares: terms of two words, which reach three. The three loops over products are apart, so that none tests for another in each turn; their
-// elements stand side by side, since a step of its own takes a tenth off the speed of squares.
+// elements stand side by side, since a step of its own slows squares more than sums.
 fn pass_squares(f: Format, c: Settings, source: Source, words: &[u64], bytes: &[u8], w: u64) -> Pass
     requires { ⌜ FormatBounds (formatOf f) × Within source (now words) (now bytes) × Straight source ⌝ }
     ensures { λ r. ⌜ Passed (totals.sumTerms (formatOf f) (settingsOf c) env.square (elements source (now (words .entry)) (now (bytes .entry)))) w r ⌝ }

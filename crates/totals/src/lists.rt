@@ -83,8 +83,8 @@ fn total(
     }
 }
 
-// Of the lists of a walk. Its numbers are handed over one by one: of a record, which goes through memory, the loops know less, and a sum takes 3 to 13 %
-// longer by where it lies in the program.
+// Of the lists of a walk. Its numbers are handed over one by one: of a record, which goes through memory, the loops know less, and a sum takes up to 13 %
+// longer, by where it lies in the program.
 fn listed(
     f: Format,
     c: Settings,

@@ -64,8 +64,8 @@ pub struct Walk {
 // The summand of pence.
 pub const HUNDREDFOLD: u64 = 4;
 
-// The value at a place among the words or bytes of a source. A walk keeps count of the place beside the index: their product in each turn would take a
-// fifth off the speed of a sum.
+// The value at a place among the words or bytes of a source. A walk keeps count of the place beside the index: their product in each turn takes up to
+// a fifth off the speed of a sum.
 pub fn element(s: Source, words: &[u64], bytes: &[u8], at: usize) -> u64
     requires { ⌜ at < length (values s (now words) (now bytes)) ⌝ }
     ensures { λ r. ⌜ r ≡ getD (values s (now (words .entry)) (now (bytes .entry))) at 0 ⌝ }
