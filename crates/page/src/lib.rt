@@ -1,5 +1,4 @@
 // Career pages, as bytes: values, a summary of each group of 64 of them, a trailer. A page opens where it is the page of its own values.
-// Nothing calls `open` and `write` yet: the exported entries come with the request.
 use arithmetic::looked_term;
 use format::Format;
 use format::Named;
@@ -41,7 +40,8 @@ const ENDING: u64 = 3550895079897956416;
 
 const HALF: u64 = 4294967296;
 
-fn binary64() -> Format
+// The format of a page's values.
+pub fn binary64() -> Format
     ensures { λ r. ⌜ formatOf r ≡ formats.binary64 ⌝ }
 {
     Format {

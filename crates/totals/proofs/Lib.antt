@@ -7,5 +7,6 @@ mod Totalled
 mod Listed
 mod Columns
 mod TableWritten
+mod PageWritten
 mod RangeFigures
 mod RangeSettled

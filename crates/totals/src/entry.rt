@@ -1,5 +1,6 @@
 // The byte entries, for callers in other languages.
 use crate::dot_bytes;
+use crate::pages::page_sum;
 use crate::pence::pence_of_sum;
 use crate::range::range_total;
 use crate::sum_bytes;
@@ -8,10 +9,12 @@ use format::Format;
 use format::Named;
 use format::env::Settings;
 use limbs::word::magnitude;
+use page::write;
 use reduction::total::Answer;
 use values::put_word;
 ghost use mathlib.Core.Path.{_≡_};
 ghost use Rattle.totals_spec.specs.Bytes as bytes;
+ghost use Rattle.totals_spec.specs.Pages as pages;
 ghost use Rattle.totals_spec.specs.Words as words;
 ghost use Rattle.format.specs.Joined.{formatOf, settingsOf};
 ghost use Rattle.reduction.specs.Answered.{answerOf};
@@ -432,4 +435,47 @@ pub extern "C" fn totals_range(
     pair[0] = f64::to_bits(bounds.lower);
     pair[1] = f64::to_bits(bounds.upper);
     0
+}
+
+// The total of a span of a career page.
+#[no_mangle]
+pub extern "C" fn totals_page_sum(
+    page: &[u8],
+    start: usize,
+    end: usize,
+    rounding: u64,
+    tininess: u64,
+    nan_propagation: u64,
+    default_nan_negative: u64,
+    flush_to_zero: u64,
+    denormals_are_zero: u64,
+    saturate: u64,
+    precision: u64,
+    summand: u64,
+    answer: &mut [u8],
+) -> u64
+    ensures { λ r. ⌜ Enters (pages.pageEntry (settingsFrom rounding tininess «nan_propagation» «default_nan_negative» «flush_to_zero» «denormals_are_zero» saturate precision) summand (now (page .entry)) start end (now (answer .entry))) r (now (answer .exit)) ⌝ }
+{
+    if answer.len() < 24 {
+        return 2;
+    }
+    let c = settings(
+        rounding,
+        tininess,
+        nan_propagation,
+        default_nan_negative,
+        flush_to_zero,
+        denormals_are_zero,
+        saturate,
+        precision,
+    );
+    enter(page_sum(c, summand, page, start, end), answer)
+}
+
+// The career page of some values.
+#[no_mangle]
+pub extern "C" fn totals_page_write(values: &[u64], page: &mut [u8]) -> u64
+    ensures { λ r. ⌜ Enters (pages.pageWritten (now (values .entry)) (now (page .entry))) r (now (page .exit)) ⌝ }
+{
+    write(values, page)
 }

@@ -1,6 +1,7 @@
 // Exact totals of lists of binary floating-point numbers, rounded once. Every call answers: what cannot be totalled is refused, with a number.
 pub mod entry;
 mod lists;
+pub mod pages;
 pub mod pence;
 pub mod range;
 pub mod refusal;
