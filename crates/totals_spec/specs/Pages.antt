@@ -1,6 +1,5 @@
 -- Career pages (document 02, A.8), as bytes: the values, binary64, eight bytes each; right behind them a summary of each group of 64 values, of which the
 -- last may have fewer; at the end a trailer. Numbers lie little end first. What opens is what would be written: the page of the values that it holds.
--- No function of the archive writes or reads a page yet.
 use Prim.Native.Nat.{ℕ, zero, suc, _+_, _-_, _*_, _^_}
 use mathlib.Core.Bool.{Bool, true, false, not, _&&_, _||_, cond}
 use mathlib.Core.List.{List, [], _∷_, _++_, map}
