@@ -1,8 +1,8 @@
 #!/usr/bin/env python3
-"""One career of 480 months, made up, and what the program `total` prints for it.
+"""One career of 480 months, made up, what the program `total` prints for it, and its years.
 
-    career.py          writes career.txt and career.expected beside this file
-    career.py --check  says whether the two files are what it would write
+    career.py          writes career.txt, career.expected and pages.expected beside this file
+    career.py --check  says whether the three files are what it would write
 
 A line of career.txt is the amount paid in one month, in pounds, as the 16 hex
 digits of the nearest binary64 number. The amounts are monthly contributions
@@ -13,6 +13,10 @@ hundredth of a penny.
 career.expected has result, flags, passes and pence. They come from exact
 fractions: the sum of the 480 numbers, rounded once, and a hundred times that
 sum, not rounded before, to the nearest penny.
+
+pages.expected has the total of each year's twelve months and of all, as hex
+digits and in pounds: what the examples print that write the career as a page
+and ask it for spans.
 """
 
 import pathlib
@@ -80,6 +84,18 @@ def expected(months):
     return [hex_of(result), f'{flags:02x}', '1', str(pence(exact))]
 
 
+def line_of(name, months):
+    """A total: the exact sum of the months, rounded once."""
+    result = float(sum(map(Fraction, months)))
+    return f'{name} {hex_of(result)} {result:.2f}'
+
+
+def years(months):
+    for year in range(MONTHS // 12):
+        yield line_of(f'year {year + 1:02}', months[12 * year:12 * year + 12])
+    yield line_of('all', months)
+
+
 def running(months):
     total = 0.0
     for x in months:
@@ -93,7 +109,7 @@ def main():
     # What the example is for: three different totals, one of them right.
     assert len({hex_of(running(months)), hex_of(running(months[::-1])), answer[0]}) == 3
     same = True
-    for name, lines in (('career.txt', map(hex_of, months)), ('career.expected', answer)):
+    for name, lines in (('career.txt', map(hex_of, months)), ('career.expected', answer), ('pages.expected', years(months))):
         text = ''.join(line + '\n' for line in lines)
         if sys.argv[1:] == ['--check']:
             if (HERE / name).read_text() != text:
