@@ -4,6 +4,7 @@
 extern crate alloc;
 
 mod format;
+mod page;
 mod range;
 pub mod raw;
 mod record;
@@ -14,6 +15,7 @@ mod totals;
 mod value;
 
 pub use format::{Format, Kind};
+pub use page::Page;
 pub use range::{range, Amount};
 pub use record::{Flags, Record, Side};
 pub use refusal::{List, Refusal};

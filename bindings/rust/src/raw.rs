@@ -1,8 +1,9 @@
-//! The seven entries of `libtotals.a`, as they are: four over bytes, and [`pence`], [`table`] and
-//! [`range`] over words.
+//! The nine entries of `libtotals.a`, as they are: four over bytes, [`pence`], [`table`] and
+//! [`range`] over words, and [`page_sum`] and [`page_write`] for career pages.
 //!
 //! The numbers and the layout of the answer are those of the repository's `docs/SPECIFICATION.md`.
-//! For most callers [`Totals`](crate::Totals), and for ranges [`crate::range`], is the better way in.
+//! For most callers [`Totals`](crate::Totals), for ranges [`crate::range`] and for pages
+//! [`Page`](crate::Page) is the better way in.
 
 use alloc::vec::Vec;
 
@@ -141,6 +142,29 @@ mod entry {
             ceiling: u64,
             pair: *mut u64,
             pair_room: usize,
+        ) -> u64;
+        pub fn totals_page_sum(
+            page: *const u8,
+            page_len: usize,
+            start: usize,
+            end: usize,
+            rounding: u64,
+            tininess: u64,
+            nan_propagation: u64,
+            default_nan_negative: u64,
+            flush_to_zero: u64,
+            denormals_are_zero: u64,
+            saturate: u64,
+            precision: u64,
+            summand: u64,
+            answer: *mut u8,
+            answer_len: usize,
+        ) -> u64;
+        pub fn totals_page_write(
+            values: *const u64,
+            count: usize,
+            page: *mut u8,
+            page_room: usize,
         ) -> u64;
     }
 }
@@ -499,6 +523,97 @@ pub fn range(
             pair.as_mut_ptr(),
             pair.len(),
         )
+    }
+}
+
+/// The sum of a span of a career page: of the values from the index `start` up to the index `end`,
+/// itself left out. Summand and answer are those of [`sum`], and so is the record, that of these values
+/// as a list of their own.
+///
+/// Returns and writes as [`sum`] does. Its refusals are 2 where the answer has fewer than 24 bytes, 12
+/// where the page does not open, 13 where the span starts above its end or ends above the page's count,
+/// and 4, the first that holds in this order. Every call looks at the whole page;
+/// [`Page`](crate::Page) does so once.
+///
+/// Proved: the contract of `totals_page_sum` in `crates/totals/src/entry.rt`; `page-span`,
+/// `page-span-read`, `page-empty`, `page-entry-refused-exactly`, `page-entry-refused`,
+/// `page-entry-read-back` in `crates/totals_spec/proofs/Promises.antt`.
+///
+/// ```
+/// use fermuzhai::raw;
+///
+/// let mut page = [0; 52];
+/// let values = [1.5f64, 2.0, 0.25].map(f64::to_bits);
+/// assert_eq!(raw::page_write(&values, &mut page), Ok(52));
+/// let mut answer = [0; 24];
+/// assert_eq!(raw::page_sum(&page, 1, 3, [0; 8], 0, &mut answer), 0);
+/// assert_eq!(answer[..8], 2.25f64.to_le_bytes());
+/// assert_eq!(raw::page_sum(&page, 1, 4, [0; 8], 0, &mut answer), 13);
+/// assert_eq!(raw::page_sum(&page[1..], 1, 3, [0; 8], 0, &mut answer), 12);
+/// ```
+#[must_use = "the answer is written only where 0 is returned"]
+pub fn page_sum(
+    page: &[u8],
+    start: usize,
+    end: usize,
+    c: Settings,
+    summand: u64,
+    answer: &mut [u8],
+) -> u64 {
+    // SAFETY: each pointer comes with the length of the slice that it is taken from, and `answer`,
+    // being borrowed for writing, lies apart from `page`. Of the numbers nothing is asked.
+    unsafe {
+        entry::totals_page_sum(
+            page.as_ptr(),
+            page.len(),
+            start,
+            end,
+            c[0],
+            c[1],
+            c[2],
+            c[3],
+            c[4],
+            c[5],
+            c[6],
+            c[7],
+            summand,
+            answer.as_mut_ptr(),
+            answer.len(),
+        )
+    }
+}
+
+/// Writes the career page of some values, encodings of binary64, in front of `page`. Returns its
+/// length; what lies beyond stays as it was.
+///
+/// # Errors
+///
+/// The code of a refusal, and nothing is written: 2 where `page` is shorter than the page would be, for
+/// any number of values, else 6 where there are more than 1,048,576 of them.
+///
+/// Proved: the contract of `totals_page_write` in `crates/totals/src/entry.rt`; `page-opens`,
+/// `page-beyond`, `page-refused`, `page-refused-exactly`, `page-length` in
+/// `crates/totals_spec/proofs/Promises.antt`.
+///
+/// ```
+/// use fermuzhai::raw;
+///
+/// let mut page = [7; 17];
+/// assert_eq!(raw::page_write(&[], &mut page), Ok(16));
+/// assert_eq!(page, *b"\0\0\0\0\0\0\0\0\x40\0\0\0CPG1\x07");
+/// assert_eq!(raw::page_write(&[0], &mut page), Err(2));
+/// ```
+pub fn page_write(values: &[u64], page: &mut [u8]) -> Result<usize, u64> {
+    // SAFETY: each pointer comes with the length of the slice that it is taken from, and `page`, being
+    // borrowed for writing, lies apart from `values`.
+    let code = unsafe {
+        entry::totals_page_write(values.as_ptr(), values.len(), page.as_mut_ptr(), page.len())
+    };
+    // an accepted call answers 256 times the length
+    if code % 256 == 0 {
+        Ok((code / 256) as usize)
+    } else {
+        Err(code)
     }
 }
 

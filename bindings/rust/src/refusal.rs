@@ -23,12 +23,13 @@ impl Display for OfList {
     }
 }
 
-/// Why a total was not taken. Where several reasons hold, the first in this order is given, but that
-/// of a table 9 and 10 come before 7. The numbers and their conditions stand in
-/// `docs/SPECIFICATION.md` of the repository.
+/// Why a total was not taken, or a page not written. Where several reasons hold, the first in this
+/// order is given, but that of a table 9 and 10 come before 7, and of a page 12 and 13 before 4. The
+/// numbers and their conditions stand in `docs/SPECIFICATION.md` of the repository.
 ///
 /// Proved: `sum-refusal`, `dot-refusal`, `sum-pence-refused-exactly`, `table-refused-exactly`,
-/// `range-refused-exactly` in `crates/totals_spec/proofs/Promises.antt`.
+/// `range-refused-exactly`, `page-refused-exactly`, `page-span-refused-exactly` in
+/// `crates/totals_spec/proofs/Promises.antt`.
 ///
 /// ```
 /// use fermuzhai::{dot, Refusal};
@@ -46,8 +47,8 @@ pub enum Refusal {
         /// [`Refusal::from_code`].
         list: Option<List>,
     },
-    /// 2: an answer buffer under 24 bytes, or of a range a pair under two words; only through
-    /// [`raw`](crate::raw).
+    /// 2: a destination that is shorter than the page would be. Through [`raw`](crate::raw) also an
+    /// answer buffer under 24 bytes, or of a range a pair under two words.
     ShortBuffer,
     /// 3: the library has no such format, or the format names a bias outside −268,435,456 to
     /// 268,435,456.
@@ -65,7 +66,8 @@ pub enum Refusal {
     /// 5: the two lists of a dot have different lengths; or the three of a range, through
     /// [`raw`](crate::raw).
     DifferentLengths,
-    /// 6: over 1,048,576 elements (of a dot: pairs; of a table: cells; of a range: entries).
+    /// 6: over 1,048,576 elements (of a dot: pairs; of a table: cells; of a range: entries; of a page
+    /// that is written: values).
     TooManyElements,
     /// 7: an element is 2 to the power of the format's width, or more.
     StrayBit {
@@ -87,6 +89,11 @@ pub enum Refusal {
     /// ceiling is not finite or below zero, even where no entry is missing. Through
     /// [`raw`](crate::raw) also a tag above 2. It has no place.
     BadAmount,
+    /// 12: the bytes are not the page of the values that they hold, or the page counts more than
+    /// 1,048,576 of them.
+    NotAPage,
+    /// 13: a span of a page starts above its end, or ends above the page's count of values.
+    BadSpan,
     /// A code that this crate does not know: the archive is not the one that it was written for.
     Unknown {
         /// What the entry returned.
@@ -119,6 +126,8 @@ impl Refusal {
             9 => Self::BadShape,
             10 => Self::NoRoom,
             11 => Self::BadAmount,
+            12 => Self::NotAPage,
+            13 => Self::BadSpan,
             _ if code % 256 == 7 => Self::StrayBit {
                 place: (code / 256) as usize,
                 list: None,
@@ -139,7 +148,7 @@ impl Display for Refusal {
                 )
             }
             Self::ShortBuffer => out.write_str(
-                "the answer buffer has fewer than 24 bytes, or the pair fewer than two words",
+                "the destination is shorter than the page, the answer buffer has fewer than 24 bytes, or the pair fewer than two words",
             ),
             Self::NoSuchFormat => out.write_str(
                 "there is no such format, or the bias that it names is out of its range",
@@ -170,6 +179,8 @@ impl Display for Refusal {
             Self::BadAmount => out.write_str(
                 "a tag is above 2, a figure is not finite, a low is above its high, or the ceiling is not finite or below zero",
             ),
+            Self::NotAPage => out.write_str("the bytes are not a page: its trailer, areas or a summary are not what the values give, or it counts too many"),
+            Self::BadSpan => out.write_str("the span starts above its end, or ends above the number of values"),
             Self::Unknown { code } => {
                 write!(
                     out,
@@ -204,8 +215,10 @@ mod tests {
         assert_eq!(Refusal::from_code(9), Some(Refusal::BadShape));
         assert_eq!(Refusal::from_code(10), Some(Refusal::NoRoom));
         assert_eq!(Refusal::from_code(11), Some(Refusal::BadAmount));
+        assert_eq!(Refusal::from_code(12), Some(Refusal::NotAPage));
+        assert_eq!(Refusal::from_code(13), Some(Refusal::BadSpan));
         // a place belongs to a stray bit alone
-        for code in [12, 255, 256, 257, 8 + 256, 9 + 256, 11 + 256, u64::MAX] {
+        for code in [14, 255, 256, 257, 8 + 256, 9 + 256, 13 + 256, u64::MAX] {
             assert_eq!(Refusal::from_code(code), Some(Refusal::Unknown { code }));
         }
     }
@@ -225,7 +238,7 @@ mod tests {
             ),
             (
                 Refusal::ShortBuffer,
-                "the answer buffer has fewer than 24 bytes, or the pair fewer than two words",
+                "the destination is shorter than the page, the answer buffer has fewer than 24 bytes, or the pair fewer than two words",
             ),
             (
                 Refusal::NoSuchFormat,
@@ -261,6 +274,14 @@ mod tests {
             (
                 Refusal::BadAmount,
                 "a tag is above 2, a figure is not finite, a low is above its high, or the ceiling is not finite or below zero",
+            ),
+            (
+                Refusal::NotAPage,
+                "the bytes are not a page: its trailer, areas or a summary are not what the values give, or it counts too many",
+            ),
+            (
+                Refusal::BadSpan,
+                "the span starts above its end, or ends above the number of values",
             ),
         ] {
             assert_eq!(refusal.to_string(), words);

@@ -1,8 +1,9 @@
 use alloc::vec;
 use core::marker::PhantomData;
+use core::ops::RangeBounds;
 
 use crate::{
-    raw, Flags, Float, Format, List, Record, Refusal, Settings, Side, Summand, Table, Value,
+    raw, Flags, Float, Format, List, Page, Record, Refusal, Settings, Side, Summand, Table, Value,
 };
 
 /// The most rows, and the most columns, that [`Totals::table`] makes room for. No table with a cell
@@ -10,7 +11,7 @@ use crate::{
 const MOST_LINES: usize = 1 << 20;
 
 /// The four totals in one format and under one choice of settings; the sums of the rows and columns
-/// of a table; and the pence of a sum, in which settings play no part.
+/// of a table; those of a span of a page; and the pence of a sum, in which settings play no part.
 ///
 /// [`Totals::new`] is for the floats of Rust, [`Totals::of`] for encodings of any format.
 ///
@@ -49,6 +50,47 @@ impl<T: Float> Totals<T> {
 impl<T: Float> Default for Totals<T> {
     fn default() -> Self {
         Self::new()
+    }
+}
+
+/// A page holds binary64.
+impl Totals<f64> {
+    /// One of the three sums, of the values of a span of a page: what [`Totals::sum_of`] gives for
+    /// them as a list of their own. An empty span is +0, toward negative too.
+    ///
+    /// The values are read where they lie, those of the span alone: the page was looked at when it was
+    /// opened.
+    ///
+    /// # Errors
+    ///
+    /// [`Refusal::BadSpan`] where the span starts above its end, or ends above [`Page::len`]; else
+    /// [`Refusal::PrecisionOutOfRange`].
+    ///
+    /// Proved: the contract of `totals_sum` in `crates/totals/src/entry.rt`; `page-only`, `span-values`,
+    /// `page-span-read`, `page-span` (the total of a span is that of its values as a list) in
+    /// `crates/totals_spec/proofs/Promises.antt`.
+    ///
+    /// ```
+    /// use fermuzhai::{Page, Refusal, Rounding, Settings, Summand, Totals};
+    ///
+    /// let written = Page::write(&[3.0, -4.0, 4.0])?;
+    /// let page = Page::open(&written)?;
+    /// let down = Settings::new().with_rounding(Rounding::TowardNegative);
+    /// let totals = Totals::<f64>::new().with_settings(down);
+    /// assert_eq!(totals.page_sum(Summand::Square, &page, ..2)?.result, 25.0);
+    /// assert_eq!(totals.page_sum(Summand::Magnitude, &page, ..)?.result, 11.0);
+    /// assert!(totals.page_sum(Summand::Value, &page, 1..)?.result.is_sign_negative());
+    /// assert!(totals.page_sum(Summand::Value, &page, 1..1)?.result.is_sign_positive());
+    /// assert_eq!(totals.page_sum(Summand::Value, &page, 2..4), Err(Refusal::BadSpan));
+    /// # Ok::<(), Refusal>(())
+    /// ```
+    pub fn page_sum(
+        &self,
+        summand: Summand,
+        page: &Page<'_>,
+        span: impl RangeBounds<usize>,
+    ) -> Result<Record<f64>, Refusal> {
+        self.sum_bytes(summand, page.part(span)?)
     }
 }
 
