@@ -550,12 +550,27 @@ static inline uint64_t totals_call_(totals_format f, const totals_settings *c, u
                       TOTALS_ANSWER_BYTES);
 }
 
+/* What a call returned, as a record. Where it is a refusal, the answer is not read. */
+static inline totals_record totals_record_of_(uint64_t code, const uint8_t *answer)
+{
+    totals_record record = {0, 0, 0, 0, 0, 0};
+    if (code == TOTALS_ACCEPTED) {
+        record.result = totals_get_(answer);
+        record.flags = answer[8];
+        record.side = answer[10];
+        record.passes = totals_get_(answer + 16);
+    } else {
+        record.refusal = (unsigned)TOTALS_REFUSAL(code);
+        record.place = TOTALS_PLACE(code);
+    }
+    return record;
+}
+
 static inline totals_record totals_take_(totals_format f, const totals_settings *settings, uint64_t summand, int pairs,
                                          totals_list_ left, totals_list_ right)
 {
     static const totals_settings defaults = TOTALS_SETTINGS_INIT;
     const totals_settings *c = settings == NULL ? &defaults : settings;
-    totals_record record = {0, 0, 0, 0, 0, 0};
     uint8_t answer[TOTALS_ANSWER_BYTES], left_room[8 * TOTALS_ROOM_], right_room[8 * TOTALS_ROOM_];
     uint8_t *left_owned = NULL, *right_owned = NULL;
     uint64_t code;
@@ -581,16 +596,7 @@ static inline totals_record totals_take_(totals_format f, const totals_settings 
         TOTALS_FREE(left_owned);
         TOTALS_FREE(right_owned);
     }
-    if (code == TOTALS_ACCEPTED) {
-        record.result = totals_get_(answer);
-        record.flags = answer[8];
-        record.side = answer[10];
-        record.passes = totals_get_(answer + 16);
-    } else {
-        record.refusal = (unsigned)TOTALS_REFUSAL(code);
-        record.place = TOTALS_PLACE(code);
-    }
-    return record;
+    return totals_record_of_(code, answer);
 }
 
 static inline totals_pence_record totals_take_pence_(totals_format f, totals_list_ list)
@@ -645,7 +651,6 @@ static inline totals_record totals_take_table_(totals_format f, const totals_set
     const int is_copied = cells.size != 8;
     /* no more than there are totals: a room that is said to be endless is not lent */
     size_t of_rows = row_room < rows ? row_room : rows, of_columns = column_room < columns ? column_room : columns;
-    totals_record record = {0, 0, 0, 0, 0, 0};
     uint8_t answer[TOTALS_ANSWER_BYTES];
     uint64_t none = 0, cell_room[TOTALS_ROOM_], total_room[TOTALS_ROOM_], *cells_owned = NULL, *totals_owned = NULL;
     uint64_t *row_words = &none, *column_words = &none, code;
@@ -683,22 +688,13 @@ static inline totals_record totals_take_table_(totals_format f, const totals_set
     if (code == TOTALS_ACCEPTED && is_refused) {
         code = cells.count > TOTALS_MOST_ELEMENTS ? TOTALS_TOO_MANY_ELEMENTS : TOTALS_NO_LIST;
     }
-    if (code == TOTALS_ACCEPTED) {
-        if (is_copied) {
-            totals_give_floats_(row_words, of_rows, row_totals);
-            totals_give_floats_(column_words, of_columns, column_totals);
-        }
-        record.result = totals_get_(answer);
-        record.flags = answer[8];
-        record.side = answer[10];
-        record.passes = totals_get_(answer + 16);
-    } else {
-        record.refusal = (unsigned)TOTALS_REFUSAL(code);
-        record.place = TOTALS_PLACE(code);
+    if (code == TOTALS_ACCEPTED && is_copied) {
+        totals_give_floats_(row_words, of_rows, row_totals);
+        totals_give_floats_(column_words, of_columns, column_totals);
     }
     TOTALS_FREE(cells_owned);
     TOTALS_FREE(totals_owned);
-    return record;
+    return totals_record_of_(code, answer);
 }
 
 /* What is wrong with the lists of a range, as far as it can be told without reading them. */
