@@ -9,13 +9,16 @@
  *   totals_pence_double  totals_pence_float  totals_pence_words   the exact sum in whole pence
  *   totals_table_double  totals_table_float  totals_table_words   the sums of the rows and columns of a table
  *   totals_range_double  totals_range_words   the lower and the upper total of amounts known within a range
+ *   totals_page_write_double  totals_page_count  totals_page_sum_double   a career page: written, opened, a span of it summed
+ *   totals_page_length                      the bytes that a page takes
  *   totals_strerror                         a refusal in words
  *   totals_sum         totals_dot           the functions of the library, over bytes
  *   totals_sum_biased  totals_dot_biased    the same in a format that names its bias
  *   totals_pence       totals_table   totals_range   and over words
+ *   totals_page_sum    totals_page_write    and of a page
  *
- * The first eighteen count elements, and answer with a record. They are inline, plain C, and call the
- * last seven, which are proved. docs/LINKING.md has each with its special cases and an example.
+ * The first twenty-one count elements, but of a page its bytes, and answer with a record. They are inline,
+ * plain C, and call the last nine, which are proved. docs/LINKING.md has each with its special cases and an example.
  * What is claimed of the library stands in docs/PROMISES.md, the exact meaning of each number below
  * in docs/SPECIFICATION.md. No function keeps a state, and all may be called from several threads.
  */
@@ -166,34 +169,40 @@ enum {
     TOTALS_NO_COMPARISON = 3 /* there is nothing to compare: a NaN, or an infinity */
 };
 
-/* The most elements of a list, pairs of a dot, cells of a table, or entries of a range. */
+/* The most elements of a list, pairs of a dot, cells of a table, entries of a range, or values of a page. */
 #define TOTALS_MOST_ELEMENTS 1048576
 
 /*
  * Refusals: in a record, or what TOTALS_REFUSAL makes of the number that a call returned. The lowest that holds is given, but that of
- * a table 9 and 10 come before 7.
+ * a table 9 and 10 come before 7, and of a page 12 and 13 before 4.
  */
 enum {
     TOTALS_ACCEPTED = 0,
-    TOTALS_UNEVEN_LENGTH = 1,        /* a length that is not a multiple of 8 */
-    TOTALS_SHORT_BUFFER = 2,         /* an answer buffer under 24 bytes; range: a pair under two words */
+    TOTALS_UNEVEN_LENGTH = 1,        /* a length that is not a multiple of 8; a page may have such a length */
+    TOTALS_SHORT_BUFFER = 2,         /* an answer buffer under 24 bytes; range: a pair under two words; page: a destination shorter
+                                        than the page would be */
     TOTALS_NO_SUCH_FORMAT = 3,       /* kind above 3, exponent bits outside 2..28, width below these + 2 or above 64,
                                         or a named bias outside -268,435,456..268,435,456 */
     TOTALS_SETTING_OUT_OF_RANGE = 4, /* a setting or the summand out of its range */
     TOTALS_DIFFERENT_LENGTHS = 5,    /* dot, range: the lists differ in length */
-    TOTALS_TOO_MANY_ELEMENTS = 6,    /* over 1,048,576 elements (of a dot: pairs; of a table: cells; of a range: entries) */
+    TOTALS_TOO_MANY_ELEMENTS = 6,    /* over 1,048,576 elements (of a dot: pairs; of a table: cells; of a range: entries; of a page: values) */
     TOTALS_STRAY_BIT = 7,            /* an element is 2^width or more */
     TOTALS_NO_PENCE = 8,             /* pence: a NaN or an infinity in the list, or a figure of magnitude 2^63 or more */
     TOTALS_BAD_SHAPE = 9,            /* table: rows times columns, as whole numbers, is not the number of cells */
     TOTALS_NO_ROOM = 10,             /* table: a list of totals is shorter than there are rows, or columns */
     TOTALS_BAD_AMOUNT = 11,          /* range: a tag above 2, a used figure not finite, a low above its high, or a ceiling that is
                                         not finite or is below zero, even where no entry is missing */
+    TOTALS_NOT_A_PAGE = 12,          /* page: the bytes are not the page of the values in them */
+    TOTALS_BAD_SPAN = 13,            /* page: the span starts above its end, or ends above the number of values */
     TOTALS_NO_LIST = 254,            /* this and the next from the inline functions alone: NULL for a list that is not empty */
     TOTALS_NO_MEMORY = 255           /* a long list of float, or of the figures of a range, could not be copied */
 };
 
 #define TOTALS_REFUSAL(code) ((code) % 256)
-/* For TOTALS_STRAY_BIT, the index of the first such element; a dot looks into its right list only where the left has none. */
+/*
+ * For TOTALS_STRAY_BIT, the index of the first such element; a dot looks into its right list only where the left has none. For
+ * TOTALS_ACCEPTED, of totals_page_write alone, the length of the page.
+ */
 #define TOTALS_PLACE(code) ((code) / 256)
 
 /* An answer takes 24 bytes. */
@@ -336,9 +345,62 @@ uint64_t totals_range(const uint64_t *tags, size_t tag_count,
                       uint64_t *pair, size_t pair_room);
 
 /*
+ * Career pages: a list of binary64 values in bytes that can be kept, with a summary of each 64 of them. All numbers lie little end first:
+ *
+ *   the values      eight bytes each
+ *   the summaries   twelve bytes for each group of 64 values, of which the last may have fewer: the positions of the highest and of the
+ *                   lowest set bit of the values that are finite and not zero, as signed numbers of four bytes, both 0 where there is
+ *                   no such value (a bit worth 2^k has position k); a byte that is the sum of 1 where a value is a NaN, 2 where one is
+ *                   an infinity, 4 where one is a zero; and three zero bytes
+ *   the trailer     four bytes each: where the summaries begin, the number of values, 64, and the letters CPG1
+ *
+ * Bytes open where they are the page of the values in them, to the last bit; what totals_page_write writes opens. Each call that takes
+ * a page looks at all of it, whatever is asked of it.
+ *
+ * The total of a span, the values from the index start up to the index end, itself left out, is what totals_sum gives for these values as
+ * a list of their own. An empty span has +0, toward negative too.
+ *
+ *   page, page_len          the page, at any address
+ *   start, end              indices of values, not of bytes
+ *   rounding to precision   the eight settings, as in totals_sum
+ *   answer                  at least 24 bytes, apart from the page
+ *
+ * No pointer may be NULL, not even with length 0.
+ *
+ * Returns 0 and writes bytes 0 to 23 of the answer, as totals_sum does. Or writes nothing and returns the first of these that holds:
+ *
+ *   TOTALS_SHORT_BUFFER           of the answer
+ *   TOTALS_NOT_A_PAGE             of no bytes too; a page without values has a trailer
+ *   TOTALS_BAD_SPAN
+ *   TOTALS_SETTING_OUT_OF_RANGE
+ */
+uint64_t totals_page_sum(const uint8_t *page, size_t page_len, size_t start, size_t end,
+                         uint64_t rounding, uint64_t tininess, uint64_t nan_propagation, uint64_t default_nan_negative,
+                         uint64_t flush_to_zero, uint64_t denormals_are_zero, uint64_t saturate, uint64_t precision,
+                         uint64_t summand,
+                         uint8_t *answer, size_t answer_len);
+
+/*
+ * Writes the page of some values.
+ *
+ *   values, count    encodings of binary64, one to a word, and the number of them
+ *   page, page_len   the destination, at any address, and its bytes; apart from the values
+ *
+ * No pointer may be NULL, not even with count 0.
+ *
+ * Returns 256 times the length of the page, which TOTALS_PLACE takes from it, and writes so many bytes; later bytes stay as they were.
+ * Or writes nothing at all and returns the first of these that holds:
+ *
+ *   TOTALS_SHORT_BUFFER        the page would be longer, also where there are too many values
+ *   TOTALS_TOO_MANY_ELEMENTS
+ */
+uint64_t totals_page_write(const uint64_t *values, size_t count,
+                           uint8_t *page, size_t page_len);
+
+/*
  * Records: what the inline functions answer. Where refusal is TOTALS_ACCEPTED, result, flags, passes and side hold the total, or
- * figure its pence, or lower and upper the two that it lies between. Else refusal says why there is none, and every other field is 0
- * but for the place of a TOTALS_STRAY_BIT. Later versions add fields at the end.
+ * figure its pence, or lower and upper the two that it lies between, or length and count those of a page. Else refusal says why there
+ * is none, and every other field is 0 but for the place of a TOTALS_STRAY_BIT. Later versions add fields at the end.
  */
 typedef struct totals_record {
     uint64_t result; /* an encoding of the format */
@@ -383,6 +445,12 @@ typedef struct totals_range_record {
     unsigned refusal;
 } totals_range_record;
 
+typedef struct totals_page_record {
+    size_t length; /* of the page, in bytes */
+    size_t count;  /* of its values */
+    unsigned refusal;
+} totals_page_record;
+
 /*
  * A refusal in words. Takes the refusal of a record, or all that a function of the library returned.
  * Never NULL; of a number that it does not know it says so.
@@ -392,7 +460,8 @@ static inline const char *totals_strerror(uint64_t refusal)
     switch (TOTALS_REFUSAL(refusal)) {
     case TOTALS_ACCEPTED: return "accepted";
     case TOTALS_UNEVEN_LENGTH: return "the length in bytes is not a multiple of 8";
-    case TOTALS_SHORT_BUFFER: return "the answer buffer has fewer than 24 bytes, or the pair fewer than two words";
+    case TOTALS_SHORT_BUFFER:
+        return "the answer buffer has fewer than 24 bytes, the pair fewer than two words, or the destination fewer than the page";
     case TOTALS_NO_SUCH_FORMAT: return "there is no such format, or the bias that it names is out of its range";
     case TOTALS_SETTING_OUT_OF_RANGE: return "a setting or the summand is out of its range";
     case TOTALS_DIFFERENT_LENGTHS: return "the lists differ in length";
@@ -403,7 +472,9 @@ static inline const char *totals_strerror(uint64_t refusal)
     case TOTALS_NO_ROOM: return "there is no room for the total of each row and column";
     case TOTALS_BAD_AMOUNT:
         return "a tag is above 2, a figure is not finite, a low is above its high, or the ceiling is not finite or below zero";
-    case TOTALS_NO_LIST: return "the list is NULL, and its length is not 0";
+    case TOTALS_NOT_A_PAGE: return "the bytes are not the page of the values in them";
+    case TOTALS_BAD_SPAN: return "the span starts above its end, or ends above the number of values";
+    case TOTALS_NO_LIST: return "the list or the page is NULL, and its length is not 0";
     case TOTALS_NO_MEMORY: return "there is no memory for a copy of the list";
     default: return "a refusal that this header does not know";
     }
@@ -730,6 +801,20 @@ static inline totals_range_record totals_take_range_(uint64_t code, const uint64
     return record;
 }
 
+/* The bytes of a page behind its `count` values; of more than a page can have too, and never more than a size_t holds. */
+static inline size_t totals_behind_values_(size_t count)
+{
+    const size_t group = 64, summary = 12, trailer = 16;
+    return summary * (count / group + (count % group != 0)) + trailer;
+}
+
+/* The number of values of a page that opens, as its trailer has it. */
+static inline size_t totals_counted_(const uint8_t *page, size_t size)
+{
+    const uint8_t *count = page + size - 12;
+    return count[0] | (size_t)count[1] << 8 | (size_t)count[2] << 16 | (size_t)count[3] << 24;
+}
+
 static inline totals_double_record totals_as_double_(totals_record record)
 {
     totals_double_record of;
@@ -921,6 +1006,83 @@ static inline totals_range_record totals_range_words(const uint64_t *tags, size_
     const uint64_t code = totals_unlent_(totals_list_of_(tags, tag_count, sizeof *tags), totals_list_of_(first, first_count, sizeof *first),
                                          totals_list_of_(second, second_count, sizeof *second));
     return totals_take_range_(code, tags, first, second, tag_count, ceiling);
+}
+
+/*
+ * The length of the page of `count` values, in bytes; 0 where there are more than TOTALS_MOST_ELEMENTS, which no page has. The page of no
+ * values is not empty.
+ */
+static inline size_t totals_page_length(size_t count)
+{
+    return count > TOTALS_MOST_ELEMENTS ? 0 : 8 * count + totals_behind_values_(count);
+}
+
+/*
+ * Writes the page of `count` values to `page`, which has room for `size` bytes, as totals_page_write does; length says how many were
+ * written. A pointer may be NULL where its count or size is 0.
+ */
+static inline totals_page_record totals_page_write_double(const double *values, size_t count, uint8_t *page, size_t size)
+{
+    const totals_list_ list = totals_list_of_(values, count, sizeof *values);
+    const int is_missing = totals_is_missing_(list) || (page == NULL && size != 0);
+    const size_t length = totals_page_length(count);
+    totals_page_record record = {0, 0, 0};
+    uint8_t none = 0;
+    uint64_t code;
+
+    if (count <= TOTALS_MOST_ELEMENTS && !is_missing) {
+        /* no more than the page: a room that is said to be endless is not lent */
+        code = totals_page_write(totals_words_(list, NULL, NULL), count, page == NULL ? &none : page, size < length ? size : length);
+    } else {
+        code = size / 8 < count || size - 8 * count < totals_behind_values_(count) ? TOTALS_SHORT_BUFFER
+               : count > TOTALS_MOST_ELEMENTS                                      ? TOTALS_TOO_MANY_ELEMENTS
+                                                                                   : TOTALS_NO_LIST;
+    }
+    record.refusal = (unsigned)TOTALS_REFUSAL(code);
+    if (record.refusal == TOTALS_ACCEPTED) {
+        record.length = (size_t)TOTALS_PLACE(code);
+        record.count = count;
+    }
+    return record;
+}
+
+/*
+ * The total of the values from the index start up to the index end, itself left out, of the page that the `size` bytes are, as
+ * totals_page_sum has it. The page may be NULL where its size is 0, and is then none; settings may be NULL for TOTALS_SETTINGS_INIT.
+ */
+static inline totals_double_record totals_page_sum_double(const uint8_t *page, size_t size, size_t start, size_t end,
+                                                          const totals_settings *settings, uint64_t summand)
+{
+    static const totals_settings defaults = TOTALS_SETTINGS_INIT;
+    static const uint8_t none = 0;
+    const totals_settings *c = settings == NULL ? &defaults : settings;
+    uint8_t answer[TOTALS_ANSWER_BYTES];
+    uint64_t code;
+
+    if (page == NULL && size != 0) {
+        code = TOTALS_NO_LIST;
+    } else if (size > totals_page_length(TOTALS_MOST_ELEMENTS)) {
+        /* longer than any page, and perhaps than any memory */
+        code = TOTALS_NOT_A_PAGE;
+    } else {
+        code = totals_page_sum(page == NULL ? &none : page, size, start, end, c->rounding, c->tininess, c->nan_propagation,
+                               c->default_nan_negative, c->flush_to_zero, c->denormals_are_zero, c->saturate, c->precision, summand, answer,
+                               TOTALS_ANSWER_BYTES);
+    }
+    return totals_as_double_(totals_record_of_(code, answer));
+}
+
+/* The number of values of the page that the `size` bytes are, or TOTALS_NOT_A_PAGE where they are none. */
+static inline totals_page_record totals_page_count(const uint8_t *page, size_t size)
+{
+    totals_page_record record = {0, 0, 0};
+    /* every page that opens has an empty span */
+    record.refusal = totals_page_sum_double(page, size, 0, 0, NULL, TOTALS_VALUE).refusal;
+    if (record.refusal == TOTALS_ACCEPTED) {
+        record.length = size;
+        record.count = totals_counted_(page, size);
+    }
+    return record;
 }
 
 #ifdef __cplusplus
