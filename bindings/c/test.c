@@ -1572,6 +1572,435 @@ static void ranges_refused(void)
     free(halves);
 }
 
+/* The most values of the pages below, but for the longest, and the bytes that lie behind a page. */
+#define VALUES 130
+#define BEHIND 40
+#define PAGE_ROOM (8 * VALUES + 12 * 3 + 16 + BEHIND)
+
+static void put(uint8_t *at, size_t size, uint64_t x)
+{
+    size_t i;
+    for (i = 0; i < size; i++) {
+        at[i] = (uint8_t)(x >> 8 * i);
+    }
+}
+
+/* The summary of a group. A finite value is a whole number, of at most 53 digits, times 2^(exponent - 1075). */
+static void summarize(const uint64_t *values, size_t count, uint8_t *summary)
+{
+    int high = -2000, low = 2000;
+    unsigned sorts = 0;
+    size_t i;
+    for (i = 0; i < count; i++) {
+        const int exponent = (int)(values[i] >> 52 & 0x7ff);
+        const uint64_t fraction = values[i] & UINT64_C(0xfffffffffffff);
+        const uint64_t digits = exponent == 0 ? fraction : fraction | UINT64_C(1) << 52;
+        int k;
+        if (exponent == 0x7ff) {
+            sorts |= fraction != 0 ? 1 : 2;
+            continue;
+        }
+        sorts |= digits == 0 ? 4 : 0;
+        for (k = 0; k < 53; k++) {
+            const int position = k + (exponent == 0 ? 1 : exponent) - 1075;
+            if (digits >> k & 1) {
+                high = position > high ? position : high;
+                low = position < low ? position : low;
+            }
+        }
+    }
+    put(summary, 4, low > high ? 0 : (uint64_t)(int64_t)high);
+    put(summary + 4, 4, low > high ? 0 : (uint64_t)(int64_t)low);
+    put(summary + 8, 4, sorts);
+}
+
+/* The page of some values, put together as it is described, and its length. */
+static size_t page_by_hand(const uint64_t *values, size_t count, uint8_t *page)
+{
+    uint8_t *at = page;
+    size_t i;
+    for (i = 0; i < count; i++, at += 8) {
+        put(at, 8, values[i]);
+    }
+    for (i = 0; i < count; i += 64, at += 12) {
+        summarize(values + i, count - i < 64 ? count - i : 64, at);
+    }
+    put(at, 4, 8 * count);
+    put(at + 4, 4, count);
+    put(at + 8, 4, 64);
+    memcpy(at + 12, "CPG1", 4);
+    return (size_t)(at + 16 - page);
+}
+
+/* Values of each sort; in a group of 64 those of some sorts alone. */
+static void draw_values(uint64_t *values, size_t count)
+{
+    uint64_t first = 0, sorts = 1;
+    size_t i;
+    for (i = 0; i < count; i++) {
+        const uint64_t sign = drawn_below(2) << 63, zeros = drawn_below(53);
+        const uint64_t fraction = drawn_below(UINT64_C(1) << 52) >> zeros << zeros, exponent = 1 + drawn_below(2046);
+        if (i % 64 == 0) {
+            first = drawn_below(6);
+            sorts = 1 + drawn_below(6);
+        }
+        switch ((first + drawn_below(sorts)) % 6) {
+        case 0: values[i] = sign; break;
+        case 1: values[i] = sign + INFINITE; break;
+        case 2: values[i] = sign + INFINITE + 1 + (fraction >> 1); break;
+        case 3: values[i] = sign + fraction; break;
+        case 4: values[i] = sign + (exponent << 52); break;
+        default: values[i] = sign + (exponent << 52) + fraction;
+        }
+    }
+}
+
+static int are_untouched(const uint8_t *bytes, size_t from, size_t to)
+{
+    for (; from < to; from++) {
+        if (bytes[from] != UNTOUCHED) {
+            return 0;
+        }
+    }
+    return 1;
+}
+
+static int page_is(totals_page_record record, size_t length, size_t count, unsigned refusal)
+{
+    return record.length == length && record.count == count && record.refusal == refusal;
+}
+
+/* Opened by no call, whatever is asked. */
+static int is_no_page(const uint8_t *page, size_t size)
+{
+    const totals_double_record record = totals_page_sum_double(page, size, 0, 0, NULL, TOTALS_VALUE);
+    clear();
+    return page_is(totals_page_count(page, size), 0, 0, TOTALS_NOT_A_PAGE) && REFUSED(record, TOTALS_NOT_A_PAGE, 0)
+           && totals_page_sum(page, size, 1, 0, 9, 0, 0, 0, 0, 0, 0, 0, 3, answer, ROOM) == TOTALS_NOT_A_PAGE && untouched_from(0);
+}
+
+/* Written through the entry and from double: exact, one byte short, and with bytes behind, at eight addresses. It then opens. */
+static int is_written(const uint64_t *values, size_t count)
+{
+    static uint8_t by_hand[PAGE_ROOM], room[8 + PAGE_ROOM];
+    double doubles[VALUES + 1];
+    const size_t length = page_by_hand(values, count, by_hand), sizes[3] = {length - 1, length, length + BEHIND};
+    int holds_so = totals_page_length(count) == length;
+    size_t shift, k;
+
+    memcpy(doubles, values, 8 * count);
+    for (shift = 0; shift < 8; shift++) {
+        for (k = 0; k < 6; k++) {
+            const size_t size = sizes[k / 2], written = size < length ? 0 : length;
+            const unsigned refusal = size < length ? TOTALS_SHORT_BUFFER : TOTALS_ACCEPTED;
+            uint8_t *page = room + shift;
+            memset(room, UNTOUCHED, sizeof room);
+            if (k % 2 == 0) {
+                holds_so &= totals_page_write(values, count, page, size) == 256 * written + refusal;
+            } else {
+                holds_so &= page_is(totals_page_write_double(doubles, count, page, size), written, size < length ? 0 : count, refusal);
+            }
+            holds_so &= memcmp(page, by_hand, written) == 0;
+            holds_so &= are_untouched(room, 0, shift) && are_untouched(room, shift + written, sizeof room);
+            holds_so &= written == 0 || page_is(totals_page_count(page, length), length, count, TOTALS_ACCEPTED);
+        }
+    }
+    return holds_so && memcmp(doubles, values, 8 * count) == 0;
+}
+
+static void pages_written(void)
+{
+    static const size_t counts[10] = {0, 1, 2, 63, 64, 65, 127, 128, 129, VALUES};
+    static const uint8_t none[16] = {0, 0, 0, 0, 0, 0, 0, 0, 64, 0, 0, 0, 'C', 'P', 'G', '1'};
+    static const uint8_t three[36] = {0, 0, 0, 0, 0, 0, 8, 64, 1, 0, 0, 0, 0, 0, 0, 0, 0, 0,   0,   0,
+                                      8, 0, 0, 0, 1, 0, 0, 0,  64, 0, 0, 0, 'C', 'P', 'G', '1'};
+    const double number_three = 3;
+    uint64_t values[VALUES + 1];
+    uint8_t page[PAGE_ROOM];
+    size_t i, round, size;
+
+    /* what stands for the description is tried too */
+    values[0] = 0x4008000000000000;
+    CHECK(page_by_hand(values, 0, page) == 16 && memcmp(page, none, 16) == 0);
+    CHECK(page_by_hand(values, 1, page) == 36 && memcmp(page, three, 36) == 0);
+    CHECK(page_is(totals_page_write_double(NULL, 0, page, 16), 16, 0, TOTALS_ACCEPTED) && memcmp(page, none, 16) == 0);
+    CHECK(page_is(totals_page_write_double(&number_three, 1, page, 36), 36, 1, TOTALS_ACCEPTED) && memcmp(page, three, 36) == 0);
+    for (i = 0; i < 10; i++) {
+        for (round = 0; round < 20; round++) {
+            draw_values(values, counts[i]);
+            CHECK(is_written(values, counts[i]));
+        }
+        memset(page, UNTOUCHED, sizeof page);
+        for (size = 0; size < totals_page_length(counts[i]); size++) {
+            CHECK(totals_page_write(values, counts[i], page, size) == TOTALS_SHORT_BUFFER);
+        }
+        CHECK(are_untouched(page, 0, sizeof page));
+    }
+}
+
+/* Every byte behind the values, changed to each of the others, is refused; with a byte of a value changed the page opens where it is that of the new values. */
+static void pages_damaged(void)
+{
+    static const size_t counts[6] = {0, 1, 63, 64, 65, 128};
+    static uint8_t page[PAGE_ROOM], by_hand[PAGE_ROOM];
+    uint64_t values[VALUES];
+    size_t i, at, opened = 0, closed = 0;
+    unsigned change;
+
+    for (i = 0; i < 6; i++) {
+        const size_t count = counts[i];
+        size_t length;
+        draw_values(values, count);
+        length = page_by_hand(values, count, page);
+        for (at = 8 * count; at < length; at++) {
+            for (change = 1; change < 256; change++) {
+                page[at] ^= (uint8_t)change;
+                CHECK(is_no_page(page, length));
+                page[at] ^= (uint8_t)change;
+            }
+        }
+        for (at = 0; at < 8 * count; at++) {
+            const uint64_t before = values[at / 8];
+            const uint8_t byte = page[at];
+            change = 1 + (unsigned)drawn_below(255);
+            page[at] ^= (uint8_t)change;
+            values[at / 8] ^= (uint64_t)change << 8 * (at % 8);
+            page_by_hand(values, count, by_hand);
+            if (memcmp(page, by_hand, length) == 0) {
+                CHECK(page_is(totals_page_count(page, length), length, count, TOTALS_ACCEPTED));
+                opened++;
+            } else {
+                CHECK(is_no_page(page, length));
+                closed++;
+            }
+            page[at] = byte;
+            values[at / 8] = before;
+        }
+        CHECK(page_is(totals_page_count(page, length), length, count, TOTALS_ACCEPTED));
+    }
+    CHECK(opened > 20 && closed > 20);
+}
+
+/* The span through the entry and as a double, beside a record. */
+static int span_is(const uint8_t *page, size_t size, size_t start, size_t end, const totals_settings *c, uint64_t summand, totals_record wanted)
+{
+    const totals_double_record record = totals_page_sum_double(page, size, start, end, c, summand);
+    clear();
+    return totals_page_sum(page, size, start, end, c->rounding, c->tininess, c->nan_propagation, c->default_nan_negative, c->flush_to_zero,
+                           c->denormals_are_zero, c->saturate, c->precision, summand, answer, ROOM) == 0
+           && holds(wanted.result, wanted.flags, wanted.passes, wanted.side) && record.refusal == TOTALS_ACCEPTED && record.place == 0
+           && record.bits == wanted.result && bits_of(record.result) == wanted.result && record.flags == wanted.flags
+           && record.passes == wanted.passes && record.side == wanted.side && wanted.refusal == TOTALS_ACCEPTED;
+}
+
+/* Each span of a page of two groups, at an odd address. */
+static void spans_of_pages(void)
+{
+    const totals_format f = {TOTALS_BINARY64, TOTALS_OWN_BIAS};
+    const size_t count = 70;
+    static uint8_t room[1 + PAGE_ROOM];
+    uint64_t values[VALUES];
+    size_t start, end, round, length, k = 0;
+
+    for (round = 0; round < 4; round++) {
+        draw_values(values, count);
+        length = page_by_hand(values, count, room + 1);
+        for (start = 0; start <= count; start++) {
+            for (end = start; end <= count; end++, k++) {
+                const totals_settings c = {k % 8, k / 2 % 2, k / 8 % 4, k % 2, k / 4 % 2, k / 3 % 2, k / 5 % 2, k % 3};
+                const totals_record own = totals_sum_words(f, k % 3, values + start, end - start, &c);
+                CHECK(span_is(room + 1, length, start, end, &c, k % 3, own));
+            }
+        }
+    }
+    /* whole numbers, whose sums are known */
+    for (k = 0; k < count; k++) {
+        values[k] = bits_of((double)(int64_t)drawn_below(UINT64_C(1) << 40) - power(39));
+    }
+    length = page_by_hand(values, count, room + 1);
+    for (start = 0; start <= count; start++) {
+        double total = 0;
+        for (end = start; end <= count; end++) {
+            const totals_record known = {bits_of(total), start < end, 0, 0, 0, TOTALS_EQUAL};
+            CHECK(span_is(room + 1, length, start, end, &plain, TOTALS_VALUE, known));
+            total += end < count ? number(values[end]) : 0;
+        }
+    }
+}
+
+static void bad_spans(void)
+{
+    const size_t far[6] = {71, 128, (size_t)1 << 32, (size_t)1 << 61, SIZE_MAX - 7, SIZE_MAX};
+    static uint8_t page[PAGE_ROOM];
+    const totals_record zero = {0, 0, 0, 0, 0, TOTALS_EQUAL};
+    totals_settings down = TOTALS_SETTINGS_INIT;
+    uint64_t values[VALUES];
+    size_t start, end, length, i;
+
+    down.rounding = TOTALS_TOWARD_NEGATIVE;
+    draw_values(values, 70);
+    length = page_by_hand(values, 70, page);
+    for (end = 0; end <= 70; end++) {
+        CHECK(span_is(page, length, end, end, &plain, TOTALS_VALUE, zero) && span_is(page, length, end, end, &down, TOTALS_SQUARE, zero));
+        for (start = end + 1; start <= 72; start++) {
+            CHECK(REFUSED(totals_page_sum_double(page, length, start, end, NULL, TOTALS_VALUE), TOTALS_BAD_SPAN, 0));
+        }
+        for (i = 0; i < 6; i++) {
+            CHECK(REFUSED(totals_page_sum_double(page, length, end, far[i], NULL, TOTALS_VALUE), TOTALS_BAD_SPAN, 0));
+            CHECK(REFUSED(totals_page_sum_double(page, length, far[i], end, NULL, TOTALS_VALUE), TOTALS_BAD_SPAN, 0));
+            CHECK(REFUSED(totals_page_sum_double(page, length, far[i], far[i], NULL, TOTALS_VALUE), TOTALS_BAD_SPAN, 0));
+        }
+    }
+    length = page_by_hand(values, 0, page);
+    CHECK(span_is(page, length, 0, 0, &down, TOTALS_MAGNITUDE, zero));
+    CHECK(REFUSED(totals_page_sum_double(page, length, 0, 1, NULL, TOTALS_VALUE), TOTALS_BAD_SPAN, 0));
+}
+
+/* Every choice of conditions: the first in the order 2, 12, 13, 4 is returned, and nothing is written. */
+static void spans_refused(void)
+{
+    static const unsigned order[4] = {TOTALS_SHORT_BUFFER, TOTALS_NOT_A_PAGE, TOTALS_BAD_SPAN, TOTALS_SETTING_OUT_OF_RANGE};
+    static uint8_t page[PAGE_ROOM];
+    uint64_t values[2] = {ONE, ONE};
+    const size_t length = page_by_hand(values, 2, page);
+    unsigned holding, way, i;
+
+    for (holding = 1; holding < 16; holding++) {
+        for (way = 0; way < 12; way++) {
+            totals_settings c = TOTALS_SETTINGS_INIT;
+            const uint64_t summand = HOLDS(3) && way % 3 == 0 ? 3 : TOTALS_VALUE;
+            const size_t start = HOLDS(2) && way % 2 == 0 ? 2 : 0, end = HOLDS(2) ? (way % 2 == 0 ? 1 : 3) : 2;
+            const size_t room = HOLDS(0) ? 2 * (size_t)way + 1 : 24;
+            unsigned wanted = 0;
+            uint64_t code;
+            c.rounding = HOLDS(3) && way % 3 == 1 ? 9 : 0;
+            c.precision = HOLDS(3) && way % 3 == 2 ? 54 : 0;
+            for (i = 4; i-- > 0;) {
+                wanted = HOLDS(i) ? order[i] : wanted;
+            }
+            page[length - 1] = HOLDS(1) ? '0' : '1';
+            clear();
+            code = totals_page_sum(page, length, start, end, c.rounding, 0, 0, 0, 0, 0, 0, c.precision, summand, answer, room);
+            CHECK(code == wanted && untouched_from(0));
+            if (!HOLDS(0)) {
+                CHECK(REFUSED(totals_page_sum_double(page, length, start, end, &c, summand), wanted, 0));
+            }
+        }
+    }
+}
+
+/* Bytes that are no page: drawn ones, with the end of a trailer and with counts of every size; a page cut off on either side, or with a byte more. */
+static void no_pages(void)
+{
+    static const uint64_t counts[12] = {1, 2, 8, 23, 64, 1048576, 1048577, 0x1fffffff, 0x20000001, 0x7fffffff, 0x80000001, 0xffffffff};
+    static uint8_t bytes[5000], page[PAGE_ROOM + 1];
+    uint64_t values[VALUES];
+    size_t size, length, i, k;
+
+    for (i = 0; i < 400; i++) {
+        size = i <= 200 ? i : (size_t)drawn_below(sizeof bytes);
+        for (k = 0; k < size; k++) {
+            bytes[k] = (uint8_t)drawn_below(256);
+        }
+        CHECK(is_no_page(bytes, size));
+        if (size >= 16) {
+            put(bytes + size - 8, 4, 64);
+            memcpy(bytes + size - 4, "CPG1", 4);
+            CHECK(is_no_page(bytes, size));
+            for (k = 0; k < 12; k++) {
+                put(bytes + size - 16, 4, 8 * counts[k]);
+                put(bytes + size - 12, 4, counts[k]);
+                CHECK(is_no_page(bytes, size));
+            }
+        }
+    }
+    draw_values(values, 65);
+    length = page_by_hand(values, 65, page);
+    CHECK(page_is(totals_page_count(page, length), length, 65, TOTALS_ACCEPTED));
+    for (i = 1; i <= length; i++) {
+        CHECK(is_no_page(page, length - i) && is_no_page(page + i, length - i));
+    }
+    page[length] = '1';
+    CHECK(is_no_page(page, length + 1));
+    memcpy(page + length, page + length - 16, 16);
+    CHECK(is_no_page(page, length + 16));
+}
+
+/* As many values as a page has, and one more. */
+static void longest_pages(void)
+{
+    const size_t most = TOTALS_MOST_ELEMENTS, length = 8585232, beyond = 8585252;
+    uint64_t *values = (uint64_t *)malloc(8 * (most + 1));
+    double *doubles = (double *)malloc(8 * (most + 1));
+    uint8_t *page = (uint8_t *)malloc(beyond + 1), *by_hand = (uint8_t *)malloc(beyond);
+    size_t i;
+
+    for (i = 0; i <= most; i++) {
+        values[i] = bits_of((double)i);
+    }
+    memcpy(doubles, values, 8 * (most + 1));
+    CHECK(totals_page_length(most) == length && page_by_hand(values, most, by_hand) == length);
+    memset(page, UNTOUCHED, beyond + 1);
+    CHECK(page_is(totals_page_write_double(doubles, most, page, length - 1), 0, 0, TOTALS_SHORT_BUFFER) && are_untouched(page, 0, beyond + 1));
+    CHECK(page_is(totals_page_write_double(doubles, most, page, beyond), length, most, TOTALS_ACCEPTED));
+    CHECK(memcmp(page, by_hand, length) == 0 && are_untouched(page, length, beyond + 1));
+    CHECK(page_is(totals_page_count(page, length), length, most, TOTALS_ACCEPTED));
+    CHECK(totals_page_sum_double(page, length, 0, most, NULL, TOTALS_VALUE).result == (double)(most - 1) * (double)(most / 2));
+    CHECK(totals_page_sum_double(page, length, most - 1, most, NULL, TOTALS_VALUE).result == (double)(most - 1));
+    CHECK(REFUSED(totals_page_sum_double(page, length, most, most + 1, NULL, TOTALS_VALUE), TOTALS_BAD_SPAN, 0));
+    page[length - 17] ^= 1;
+    CHECK(is_no_page(page, length));
+
+    /* one more: 2 comes before 6, and its page does not open */
+    memset(page, UNTOUCHED, beyond + 1);
+    CHECK(totals_page_write(values, most + 1, page, beyond - 1) == TOTALS_SHORT_BUFFER);
+    CHECK(totals_page_write(values, most + 1, page, beyond) == TOTALS_TOO_MANY_ELEMENTS);
+    CHECK(page_is(totals_page_write_double(doubles, most + 1, page, beyond - 1), 0, 0, TOTALS_SHORT_BUFFER));
+    CHECK(page_is(totals_page_write_double(doubles, most + 1, page, beyond), 0, 0, TOTALS_TOO_MANY_ELEMENTS));
+    CHECK(are_untouched(page, 0, beyond + 1));
+    CHECK(totals_page_length(most + 1) == 0 && page_by_hand(values, most + 1, page) == beyond && is_no_page(page, beyond));
+    clear();
+    CHECK(totals_page_sum(page, beyond, 0, 0, TOTALS_DEFAULTS, TOTALS_VALUE, answer, ROOM) == TOTALS_NOT_A_PAGE && untouched_from(0));
+    free(values);
+    free(doubles);
+    free(page);
+    free(by_hand);
+}
+
+/* NULL, counts and sizes that nothing has, and no memory: a page needs none. */
+static void pages_without_pointers(void)
+{
+    const size_t most = TOTALS_MOST_ELEMENTS;
+    const double one = 1;
+    uint8_t page[37];
+
+    CHECK(totals_page_length(0) == 16 && totals_page_length(1) == 36 && totals_page_length(64) == 540 && totals_page_length(65) == 560);
+    CHECK(totals_page_length(SIZE_MAX) == 0 && totals_page_length(SIZE_MAX / 8) == 0);
+    memset(page, UNTOUCHED, sizeof page);
+    CHECK(page_is(totals_page_write_double(NULL, 0, NULL, 0), 0, 0, TOTALS_SHORT_BUFFER));
+    CHECK(page_is(totals_page_write_double(&one, 1, NULL, 0), 0, 0, TOTALS_SHORT_BUFFER));
+    /* NULL comes after 2 and 6 */
+    CHECK(page_is(totals_page_write_double(&one, 1, NULL, 35), 0, 0, TOTALS_SHORT_BUFFER));
+    CHECK(page_is(totals_page_write_double(&one, 1, NULL, 36), 0, 0, TOTALS_NO_LIST));
+    CHECK(page_is(totals_page_write_double(NULL, 1, page, 35), 0, 0, TOTALS_SHORT_BUFFER));
+    CHECK(page_is(totals_page_write_double(NULL, 1, page, 36), 0, 0, TOTALS_NO_LIST));
+    CHECK(page_is(totals_page_write_double(NULL, most + 1, NULL, SIZE_MAX), 0, 0, TOTALS_TOO_MANY_ELEMENTS));
+    CHECK(page_is(totals_page_write_double(&one, SIZE_MAX / 8, page, SIZE_MAX), 0, 0, TOTALS_SHORT_BUFFER));
+    CHECK(page_is(totals_page_write_double(&one, SIZE_MAX / 16, page, SIZE_MAX), 0, 0, TOTALS_TOO_MANY_ELEMENTS));
+    CHECK(page_is(totals_page_write_double(&one, SIZE_MAX, page, SIZE_MAX), 0, 0, TOTALS_SHORT_BUFFER));
+    CHECK(are_untouched(page, 0, sizeof page));
+    /* a room that is said to be larger than any is not written beyond the page */
+    has_memory = 0;
+    CHECK(page_is(totals_page_write_double(&one, 1, page, SIZE_MAX), 36, 1, TOTALS_ACCEPTED) && page[36] == UNTOUCHED);
+    CHECK(totals_page_sum_double(page, 36, 0, 1, NULL, TOTALS_VALUE).result == 1 && owned == 0);
+    has_memory = 1;
+    CHECK(is_no_page(page, 0) && page_is(totals_page_count(NULL, 0), 0, 0, TOTALS_NOT_A_PAGE));
+    CHECK(page_is(totals_page_count(NULL, 36), 0, 0, TOTALS_NO_LIST) && page_is(totals_page_count(page, SIZE_MAX), 0, 0, TOTALS_NOT_A_PAGE));
+    CHECK(REFUSED(totals_page_sum_double(NULL, 0, 0, 0, NULL, TOTALS_VALUE), TOTALS_NOT_A_PAGE, 0));
+    CHECK(REFUSED(totals_page_sum_double(NULL, 1, 1, 0, NULL, 3), TOTALS_NO_LIST, 0));
+    CHECK(REFUSED(totals_page_sum_double(page, SIZE_MAX, 1, 0, NULL, 3), TOTALS_NOT_A_PAGE, 0));
+}
+
 /* The raw entry writes nothing where it refuses, and the inline functions lend it a buffer of their own: no list is touched. */
 static void lists_are_only_read(void)
 {
@@ -1587,16 +2016,17 @@ static void lists_are_only_read(void)
 /* Every refusal has words of its own. */
 static void refusals_in_words(void)
 {
-    const unsigned known[14] = {0, 1, 2, 3, 4, 5, 6, 7, TOTALS_NO_PENCE, TOTALS_BAD_SHAPE, TOTALS_NO_ROOM, TOTALS_BAD_AMOUNT, TOTALS_NO_LIST,
-                                TOTALS_NO_MEMORY};
+    const unsigned known[16] = {0, 1, 2, 3, 4, 5, 6, 7, TOTALS_NO_PENCE, TOTALS_BAD_SHAPE, TOTALS_NO_ROOM, TOTALS_BAD_AMOUNT, TOTALS_NOT_A_PAGE,
+                                TOTALS_BAD_SPAN, TOTALS_NO_LIST, TOTALS_NO_MEMORY};
     size_t i, k;
-    for (i = 0; i < 14; i++) {
+    for (i = 0; i < 16; i++) {
         CHECK(strcmp(totals_strerror(known[i]), totals_strerror(100)) != 0);
         for (k = 0; k < i; k++) {
             CHECK(strcmp(totals_strerror(known[i]), totals_strerror(known[k])) != 0);
         }
     }
     CHECK(strcmp(totals_strerror(7 + 256 * 3), totals_strerror(TOTALS_STRAY_BIT)) == 0);
+    CHECK(strcmp(totals_strerror(256 * 36), totals_strerror(TOTALS_ACCEPTED)) == 0);
     CHECK(strcmp(totals_strerror(UINT64_MAX - 1), totals_strerror(TOTALS_NO_LIST)) == 0);
     CHECK(strlen(totals_strerror(100)) > 0);
 }
@@ -1638,6 +2068,14 @@ int main(void)
     neighbours_of_exact_sums();
     ranges_in_every_order();
     ranges_refused();
+    pages_written();
+    pages_damaged();
+    spans_of_pages();
+    bad_spans();
+    spans_refused();
+    no_pages();
+    longest_pages();
+    pages_without_pointers();
     lists_are_only_read();
     refusals_in_words();
     version();
