@@ -2035,7 +2035,7 @@ static void version(void)
 {
     char text[32];
     sprintf(text, "%d.%d.%d", TOTALS_VERSION_MAJOR, TOTALS_VERSION_MINOR, TOTALS_VERSION_PATCH);
-    CHECK(strcmp(text, TOTALS_VERSION) == 0 && TOTALS_VERSION_NUMBER == 500);
+    CHECK(strcmp(text, TOTALS_VERSION) == 0 && TOTALS_VERSION_NUMBER == 600);
 }
 
 int main(void)

@@ -32,9 +32,9 @@
 
 /* The version of this header and of the archive that it was written for. */
 #define TOTALS_VERSION_MAJOR 0
-#define TOTALS_VERSION_MINOR 5
+#define TOTALS_VERSION_MINOR 6
 #define TOTALS_VERSION_PATCH 0
-#define TOTALS_VERSION "0.5.0"
+#define TOTALS_VERSION "0.6.0"
 #define TOTALS_VERSION_NUMBER (TOTALS_VERSION_MAJOR * 10000 + TOTALS_VERSION_MINOR * 100 + TOTALS_VERSION_PATCH)
 
 #ifdef __cplusplus
