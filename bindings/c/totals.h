@@ -192,7 +192,7 @@ enum {
     TOTALS_NO_ROOM = 10,             /* table: a list of totals is shorter than there are rows, or columns */
     TOTALS_BAD_AMOUNT = 11,          /* range: a tag above 2, a used figure not finite, a low above its high, or a ceiling that is
                                         not finite or is below zero, even where no entry is missing */
-    TOTALS_NOT_A_PAGE = 12,          /* page: the bytes are not the page of the values in them */
+    TOTALS_NOT_A_PAGE = 12,          /* page: the bytes are not the page of the values in them, or have over 1,048,576 of these */
     TOTALS_BAD_SPAN = 13,            /* page: the span starts above its end, or ends above the number of values */
     TOTALS_NO_LIST = 254,            /* this and the next from the inline functions alone: NULL for a list that is not empty */
     TOTALS_NO_MEMORY = 255           /* a long list of float, or of the figures of a range, could not be copied */
@@ -354,8 +354,8 @@ uint64_t totals_range(const uint64_t *tags, size_t tag_count,
  *                   an infinity, 4 where one is a zero; and three zero bytes
  *   the trailer     four bytes each: where the summaries begin, the number of values, 64, and the letters CPG1
  *
- * Bytes open where they are the page of the values in them, to the last bit; what totals_page_write writes opens. Each call that takes
- * a page looks at all of it, whatever is asked of it.
+ * Bytes open where they are the page of the values in them, to the last bit, and these are at most TOTALS_MOST_ELEMENTS. What
+ * totals_page_write writes opens. Every call looks at the whole page, whatever span is asked for.
  *
  * The total of a span, the values from the index start up to the index end, itself left out, is what totals_sum gives for these values as
  * a list of their own. An empty span has +0, toward negative too.
@@ -472,7 +472,7 @@ static inline const char *totals_strerror(uint64_t refusal)
     case TOTALS_NO_ROOM: return "there is no room for the total of each row and column";
     case TOTALS_BAD_AMOUNT:
         return "a tag is above 2, a figure is not finite, a low is above its high, or the ceiling is not finite or below zero";
-    case TOTALS_NOT_A_PAGE: return "the bytes are not the page of the values in them";
+    case TOTALS_NOT_A_PAGE: return "the bytes are not the page of the values in them, or have more than 1,048,576 of these";
     case TOTALS_BAD_SPAN: return "the span starts above its end, or ends above the number of values";
     case TOTALS_NO_LIST: return "the list or the page is NULL, and its length is not 0";
     case TOTALS_NO_MEMORY: return "there is no memory for a copy of the list";
