@@ -92,6 +92,26 @@ column  0      r
       181      six second figures
       283      what an accepted call leaves in the place of the first figures: six lows
       385      and of the second ones: six highs
+
+Behind the ranges stand the rows of spans of career pages, first those with pages of up to 208 bytes and then longer ones, each part with its number first.
+Such a row has 530 or 2,306 bytes, with the settings, the summand, the length of the buffer and the record that is expected where a sum's row has them; and
+else:
+
+column  0      g
+        2      length of the page in bytes, three digits
+        6      the place of the page in its buffer, 0 to 7
+       79      start, end, 16 digits each
+      113      the page, two digits for each byte
+
+At last come the rows of pages that are written, again in two parts. Such a row has 791 or 4,279 bytes:
+
+column  0      w
+        2      number of values, two digits
+        5      length of the destination in bytes, three digits
+        9      the place of the destination in its buffer, 0 to 7
+       11      the first byte of the buffer before the call, two digits; each of the others is one more than the byte before it, modulo 256
+       14      what the entry returns, six digits
+       21      the values, 16 digits each, and a space; then the destination after the call, two digits for each byte
 """
 
 import os
@@ -1195,6 +1215,9 @@ def texts(made):
     rows = ranges()
     stdin += '%04x\n' % len(rows) + ''.join(r.row() for r in rows)
     stdout += dots('amounts known within a range') + ' %d of %d agree\n' % (len(rows), len(rows))
+    for name, rows, most, _ in page_parts():
+        stdin += '%04x\n' % len(rows) + ''.join(r.row(most) for r in rows)
+        stdout += dots(name) + ' %d of %d agree\n' % (len(rows), len(rows))
     return stdin, stdout
 
 
@@ -1226,8 +1249,9 @@ def write(binary):
     made = sections()
     accepted = [(name, i + 1, case) for name, cases in made for i, case in enumerate(cases) if case.refusal == 0]
     totals = [(name, i + 1, case) for name, rows in table_parts() for i, t in enumerate(rows) if t.refusal == 0 for case in t.parts()]
-    answers = asked(binary, [case for _, _, case in accepted + totals])
-    for (name, i, case), answer in zip(accepted + totals, answers):
+    of_spans = [(name, i + 1, s.total) for name, rows, _, _ in page_parts()[:2] for i, s in enumerate(rows) if s.refusal == 0]
+    answers = asked(binary, [case for _, _, case in accepted + totals + of_spans])
+    for (name, i, case), answer in zip(accepted + totals + of_spans, answers):
         if differs(case, answer):
             sys.exit('%s, row %d: %s\n  oracle %s, model %x %d %d' % (name, i, case.line(), answer, case.result, case.flags, case.passes))
         result, flags, _ = answer.split()
@@ -1236,7 +1260,7 @@ def write(binary):
         with open(os.path.join(HERE, file), 'w') as out:
             out.write(text)
     print(len(accepted), 'accepted rows with the answers of the oracle,', sum(len(cases) for _, cases in made) - len(accepted),
-          'refused ones;', len(totals), 'totals of tables')
+          'refused ones;', len(totals), 'totals of tables;', len(of_spans), 'of spans of pages')
 
 
 def check():
@@ -1255,10 +1279,12 @@ def check():
                 wrong += 1
                 print('%s, row %d (line %d):\n  listed %s\n  model  %s' % (name, i + 1, at + 2 + i, row[32:78], case.answer()))
         at += 1 + n
+    again = lambda read, most: lambda row: read(row).row(most)
     for name, other in (('pence of one encoding', pence_again), ('pence of one encoding, a bias named', pence_again),
                         ('pence of lists', lambda row: list_of(row, False).row()), ('pence of lists, a bias named', lambda row: list_of(row, True).row()),
                         ('tables', lambda row: table_of(row, False).row()), ('tables, a bias named', lambda row: table_of(row, True).row()),
-                        ('amounts known within a range', lambda row: range_of(row).row())):
+                        ('amounts known within a range', lambda row: range_of(row).row()),
+                        *((name, again(read, most)) for name, _, most, read in page_parts())):
         n = int(lines[at], 16)
         for i, row in enumerate(lines[at + 1:at + 1 + n]):
             rows += 1
@@ -1307,6 +1333,7 @@ def cover():
     cover_biased_pence(biased_pence_lists())
     cover_tables(tables() + biased_tables())
     cover_ranges(ranges())
+    cover_pages(spans() + long_spans(), written_pages() + long_written())
 
 
 def cover_plain(every):
@@ -2390,6 +2417,472 @@ def cover_ranges(every):
            [(2,), (5,), (11,), (2, 5), (2, 11), (5, 11), (2, 5, 11)])
     fewest('number of entries, 0 to 6', accepted, lambda r: (len(r.tags),), range(7))
     fewest('length of the pair, 0 to 4', every, lambda r: (r.lent,), range(5))
+
+
+# ---- career pages
+
+# the most bytes of a page in a row, and the most values in a row of a page that is written
+PAGE, LONG_PAGE = 208, 1096
+LIST, LONG_LIST = 22, 129
+PATTERN = 0xa5
+
+
+class Span:
+    """A span of a page, which lies at a place of its buffer, the length of the buffer that is lent for the answer, and what it answers."""
+
+    def __init__(self, page, start, end, c={}, summand=VALUE, room=32, place=0):
+        self.page, self.start, self.end, self.c, self.summand, self.room, self.place = page, start, end, {**PLAIN, **c}, summand, room, place
+        self.holds = page_conditions(page, start, end, self.c, summand, room)
+        self.returned, self.refusal = (next((n for n in order if n in self.holds), 0) for order in (PAGE_ORDER, PAGE_ORDER[1:]))
+        self.values = page_values(page)
+        assert self.values is None or page == page_bytes(self.values)
+        # the total is that of a plain sum
+        self.total = Case(DOUBLE, self.c, [] if self.refusal else self.values[start:end], summand=summand)
+
+    def row(self, most):
+        t = Record(0, 0) if self.refusal else self.total
+        assert len(self.page) <= most and self.place <= 7
+        text = 'g %03x %x - %s %02x %x -- -- %02x %016x %02x %06x %s %x 0 %03x %x' % (
+            len(self.page), self.place, ''.join('%x' % self.c[name] for name in SETTINGS[:7]), self.c['precision'], self.summand, self.room,
+            t.result, t.flags, t.passes, signed(t.edge, 8), self.refusal, self.returned, t.leans)
+        assert len(text) == HEAD - 1
+        return '%s %016x %016x %s\n' % (text, self.start, self.end, self.page.hex().ljust(2 * most, '-'))
+
+
+def span_of(row):
+    """The span of a row, with the model's answer."""
+    number = lambda at, digits: int(row[at:at + digits], 16)
+    c = {name: number(10 + i, 1) for i, name in enumerate(SETTINGS[:7])}
+    c['precision'] = number(18, 2)
+    at = HEAD + 2 * 17
+    return Span(bytes.fromhex(row[at:at + 2 * number(2, 3)]), number(HEAD, 16), number(HEAD + 17, 16), c, number(21, 1), number(29, 2), number(6, 1))
+
+
+class Written:
+    """Values, the length of the destination, its place in a buffer, the buffer's first byte, what the writing answers, and the destination after it."""
+
+    def __init__(self, values, room, place=0, first=PATTERN):
+        self.values, self.room, self.place, self.first = values, room, place, first
+        self.returned, page = page_written(values, room)
+        self.after = page + bytes((first + place + i) % 256 for i in range(len(page), room))
+
+    def row(self, most):
+        assert len(self.values) <= (LONG_LIST if most == LONG_PAGE else LIST) and self.room <= most and self.place <= 7
+        text = 'w %02x %03x %x %02x %06x %s %s' % (
+            len(self.values), self.room, self.place, self.first, self.returned, ''.join('%016x' % b for b in self.values), self.after.hex())
+        return text.ljust(22 + 16 * (LONG_LIST if most == LONG_PAGE else LIST) + 2 * most, '-') + '\n'
+
+
+def written_of(row):
+    """The values of a row, with the model's answer."""
+    number = lambda at, digits: int(row[at:at + digits], 16)
+    return Written([number(21 + 16 * i, 16) for i in range(number(2, 2))], number(5, 3), number(9, 1), number(11, 2))
+
+
+# numbers of every kind
+KINDS = 0, 1, 2, SMALL, NORMAL, UNIT, UNIT + 1, 0x4008000000000000, MOST, INFINITE, NOT_A_NUMBER, SIGNALING, MINUS - 1
+TWO_VALUES = [power(DOUBLE, 1000), MINUS + 1]
+FIVE_VALUES = [UNIT, MINUS + HUNDRED, power(DOUBLE, -53), 0, THOUSAND]
+
+
+def page_examples():
+    """Worked out by hand: pages in bytes; and values, a span, its result, flags and last edge, or its refusal."""
+    trailer_of = lambda n: '%02x000000%02x0000004000000043504731' % (8 * n, n)
+    for values, text in (
+            ([], ''),
+            ([0x4008000000000000], '0000000000000840 01000000 00000000 00000000'),
+            # 3/2, +0 and a NaN; an infinity; the greatest double and the least one below zero; -0 and an infinity; 2^52 and 96
+            ([0x3ff8000000000000, 0, NOT_A_NUMBER], '000000000000f83f 0000000000000000 000000000000f87f 00000000 ffffffff 05000000'),
+            ([MINUS + INFINITE], '000000000000f0ff 00000000 00000000 02000000'),
+            ([MOST, MINUS + 1], 'ffffffffffffef7f 0100000000000080 ff030000 cefbffff 00000000'),
+            ([MINUS, INFINITE], '0000000000000080 000000000000f07f 00000000 00000000 06000000'),
+            ([0x4330000000000000, 0x4058000000000000], '0000000000003043 0000000000005840 34000000 05000000 00000000')):
+        assert page_bytes(values) == bytes.fromhex(text + trailer_of(len(values))), values
+    rows = [
+        ([], 0, 0, {}, VALUE, (0, 0, 0)),
+        ([], 0, 0, {'rounding': DOWN}, SQUARE, (0, 0, 0)),
+        ([0x4008000000000000], 0, 1, {}, VALUE, (0x4008000000000000, 0, 1 - 702)),
+        ([power(DOUBLE, 1000), UNIT], 1, 2, {}, VALUE, (UNIT, 0, -702)),
+        ([power(DOUBLE, 1000), UNIT], 0, 1, {}, VALUE, (power(DOUBLE, 1000), 0, 1000 - 702)),
+        ([UNIT, UNIT], 0, 3, {'rounding': 9}, VALUE, 13),
+        ([UNIT, UNIT], 0, 2, {'rounding': 9}, VALUE, 4),
+        ([UNIT, UNIT], 0, 2, {}, 3, 4),
+        ([UNIT, UNIT], 2, 1, {}, VALUE, 13),
+        # an empty span is +0, whatever lies beside it
+        ([NOT_A_NUMBER], 0, 0, {}, VALUE, (0, 0, 0)),
+        ([SIGNALING, MINUS], 1, 1, {'rounding': DOWN}, VALUE, (0, 0, 0)),
+        ([MINUS], 1, 1, {'rounding': DOWN}, VALUE, (0, 0, 0)),
+        ([MINUS], 0, 1, {}, VALUE, (MINUS, 0, 0)),
+        ([0, MINUS], 0, 2, {'rounding': DOWN}, VALUE, (MINUS, 0, 0)),
+        ([0, MINUS], 0, 2, {}, VALUE, (0, 0, 0)),
+        ([0, MINUS], 1, 2, {}, VALUE, (MINUS, 0, 0)),
+        ([UNIT, MINUS + UNIT, NOT_A_NUMBER], 0, 2, {'rounding': DOWN}, VALUE, (MINUS, 0, -702)),
+        ([UNIT, MINUS + UNIT, NOT_A_NUMBER], 0, 3, {}, VALUE, (NOT_A_NUMBER, 0, 0)),
+        ([UNIT, MINUS + UNIT, SIGNALING + 4], 1, 3, {}, VALUE, (NOT_A_NUMBER + 5, INVALID, 0)),
+        ([UNIT, power(DOUBLE, -53), power(DOUBLE, -1000)], 0, 3, {}, VALUE, (UNIT + 1, INEXACT + RAISED, -1403)),
+        ([UNIT, power(DOUBLE, -53), power(DOUBLE, -1000)], 0, 2, {}, VALUE, (UNIT, INEXACT, -702)),
+        ([MOST, MOST, MINUS + MOST], 0, 2, {}, VALUE, (INFINITE, OVERFLOW + INEXACT + RAISED, 1023 - 702)),
+        ([MOST, MOST, MINUS + MOST], 0, 2, {'saturate': 1}, VALUE, (MOST, OVERFLOW + INEXACT, 1023 - 702)),
+        ([MOST, MOST, MINUS + MOST], 0, 3, {}, VALUE, (MOST, 0, 1023 - 702)),
+        ([INFINITE, MINUS + INFINITE, UNIT], 0, 3, {}, VALUE, (NOT_A_NUMBER, INVALID, 0)),
+        ([INFINITE, MINUS + INFINITE, UNIT], 1, 3, {}, VALUE, (MINUS + INFINITE, 0, 0)),
+        ([INFINITE, MINUS + INFINITE, UNIT], 0, 2, {}, MAGNITUDE, (INFINITE, 0, 0)),
+        ([INFINITE, MINUS + INFINITE, UNIT], 2, 3, {}, VALUE, (UNIT, 0, -702)),
+        ([MINUS + 0x4008000000000000, UNIT], 0, 2, {}, SQUARE, (0x4024000000000000, 0, 3 - 702)),
+        ([MINUS + 0x4008000000000000, UNIT], 0, 2, {}, MAGNITUDE, (0x4010000000000000, 0, 1 - 702)),
+        # a setting acts on the total and not on the page: its summary has the subnormal number
+        ([1, UNIT], 0, 1, {'daz': 1}, VALUE, (0, SUBNORMAL, 0)),
+        ([1, UNIT], 0, 1, {'flush': 1}, VALUE, (0, UNDERFLOW + INEXACT + TINY + SUBNORMAL, -1074 - 702)),
+        ([UNIT + 1, UNIT], 0, 1, {'precision': 10}, VALUE, (UNIT, INEXACT, -702)),
+    ]
+    made = []
+    for i, (values, start, end, c, summand, wanted) in enumerate(rows):
+        s = Span(page_bytes(values), start, end, c, summand, 24 + i % 9, i % 8)
+        t = s.total
+        assert s.refusal == wanted if isinstance(wanted, int) else (s.refusal, t.result, t.flags, t.edge) == (0, *wanted), (values, start, end, s.refusal)
+        made.append(s)
+    return made
+
+
+def value_lists():
+    """Lists of few values: each kind of number alone and of either sign, classes side by side, the highest and the lowest bit in one value or in two, at
+    each end and amid others."""
+    lists = [[]] + [[sign + b] for b in KINDS for sign in (0, MINUS)]
+    lists += [[MINUS * (i % 2) + a, MINUS * (i // 2 % 2) + b] for i, (a, b) in enumerate(product((0, UNIT, INFINITE, NOT_A_NUMBER), repeat=2))]
+    high, low, both = power(DOUBLE, 100), power(DOUBLE, -90, 1), 0x3ff0000000000001
+    lists += [list(order) for order in permutations((high, low, UNIT))]
+    lists += [[UNIT, both, UNIT], [high, 0, NOT_A_NUMBER, low, INFINITE], [1, high, MINUS], [SIGNALING, MINUS + SMALL, NORMAL], [MINUS] * 5, [NOT_A_NUMBER] * 2]
+    return lists + [[UNIT] * 22, list(KINDS), TWO_VALUES, FIVE_VALUES]
+
+
+def page_spans():
+    """The lists, whole; and every span of pages of 1, 2 and 5 values."""
+    made = [Span(page_bytes(values), 0, len(values), {'rounding': i % 8}, i % 3, place=i % 8) for i, values in enumerate(value_lists())]
+    for values in ([THOUSAND], TWO_VALUES, FIVE_VALUES):
+        made += [Span(page_bytes(values), start, end, place=end) for end in range(len(values) + 1) for start in range(end + 1)]
+    return made
+
+
+def changed(page, at, mask):
+    return page[:at] + bytes([page[at] ^ mask]) + page[at + 1:]
+
+
+def page_of_parts(values, summaries, trailer=None):
+    """A page with these summaries, each of three numbers, and this trailer, of three numbers and letters."""
+    laid = b''.join(SUMMARY.pack(high, low, kind, bytes(3)) for high, low, kind in summaries)
+    n = len(values)
+    return page_bytes(values)[:8 * n] + laid + TRAILER.pack(*trailer or (8 * n, n, GROUP, LETTERS))
+
+
+def damaged_bytes():
+    """Every byte of the summary and of the trailer of a page of two values changed, in two ways; every byte of the values, of which some give a page again."""
+    page = page_bytes(TWO_VALUES)
+    made = [Span(changed(page, at, mask), 0, 2, place=at % 8) for at in range(16, len(page)) for mask in (1 << at % 8, 0x80 if at % 8 != 7 else 0xff)]
+    assert all(s.holds == {12} for s in made)
+    made += [Span(changed(page, at, mask), 0, 2) for at in range(16) for mask in (1, 0x80)]
+    assert {tuple(s.holds) for s in made} == {(), (12,)}
+    return made
+
+
+def damaged_summaries():
+    """Summaries that a mistake would give."""
+    three = 0x4008000000000000
+    rows = [
+        # no bit is set, or both are those of 1; the two exchanged; one of them from the other
+        ([three], (0, 0, 0)), ([HUNDRED], (2, 6, 0)), ([HUNDRED], (6, 6, 0)), ([HUNDRED], (2, 2, 0)), ([MINUS + HUNDRED], (6, 2, 8)),
+        # the unit of the last place for the lowest set bit; the field for the position; the place for the exponent
+        ([UNIT], (0, -52, 0)), ([UNIT], (1023, 1023, 0)), ([UNIT], (1, 1, 0)), ([three], (1, -51, 0)), ([three], (2, 1, 0)),
+        # subnormal numbers with the least exponent, or as zeros, or as nothing
+        ([1], (-1022, -1074, 0)), ([1], (-1023, -1074, 0)), ([1], (0, 0, 4)), ([1], (0, 0, 0)), ([1, UNIT], (0, 0, 0)), ([1, UNIT], (0, 0, 4)),
+        ([SMALL], (-1022, -1074, 0)),
+        # infinities and NaNs as numbers
+        ([INFINITE], (1024, 1024, 2)), ([INFINITE], (1024, 972, 2)), ([NOT_A_NUMBER], (1024, 1023, 1)), ([INFINITE, UNIT], (1024, 0, 2)),
+        ([SIGNALING, UNIT], (0, -1074, 1)),
+        # zeros as numbers
+        ([0], (-1023, -1074, 4)), ([0], (-1074, -1074, 4)), ([0, UNIT], (0, -1074, 4)), ([MINUS], (-1, -1, 4)), ([0, HUNDRED], (6, 0, 4)),
+        # of the first value alone, of the last alone, and of all but one
+        ([UNIT, HUNDRED], (0, 0, 0)), ([UNIT, HUNDRED], (6, 2, 0)), ([HUNDRED, UNIT], (6, 2, 0)), ([HUNDRED, UNIT], (0, 0, 0)),
+        ([UNIT, THOUSAND, three], (9, 3, 0)), ([UNIT, 0], (0, 0, 0)), ([0, UNIT], (0, 0, 0)), ([UNIT, INFINITE], (0, 0, 0)), ([NOT_A_NUMBER, UNIT], (0, 0, 0)),
+        ([NOT_A_NUMBER, 0, INFINITE], (0, 0, 4)),
+        # classes by one sign alone, by the quiet or by the signaling NaNs alone, counted, exchanged, more
+        ([MINUS], (0, 0, 0)), ([MINUS + INFINITE], (0, 0, 0)), ([MINUS + NOT_A_NUMBER], (0, 0, 0)), ([SIGNALING], (0, 0, 0)), ([SIGNALING], (0, 0, 3)),
+        ([0, 0], (0, 0, 8)), ([NOT_A_NUMBER] * 2, (0, 0, 2)), ([INFINITE] * 2, (0, 0, 4)), ([0], (0, 0, 2)), ([0], (0, 0, 1)), ([INFINITE], (0, 0, 1)),
+        ([INFINITE], (0, 0, 3)), ([NOT_A_NUMBER], (0, 0, 4)), ([0], (0, 0, 12)), ([0], (0, 0, 132)), ([0, MINUS], (0, 0, 12)), ([UNIT], (0, 0, 4)),
+        ([UNIT], (0, 0, 8)), ([UNIT], (0, 0, 128)),
+        # the sign of a negative position lost, or stretched no further than two bytes
+        ([power(DOUBLE, -53)], (53, 53, 0)), ([power(DOUBLE, -53)], (65483, 65483, 0)), ([power(DOUBLE, -53)], (-53, 0, 0)), ([MOST, 1], (1023, 1074, 0)),
+    ]
+    made = []
+    for i, (values, summary) in enumerate(rows):
+        made.append(Span(page_of_parts(values, [summary]), 0, len(values), place=i % 8))
+        assert made[-1].holds == {12}, (values, summary)
+    return made
+
+
+def damaged_areas():
+    """Trailers that do not tell what lies before them, areas of another length, and pages that hold others."""
+    page = page_bytes(TWO_VALUES)
+    values, summary, trailer = page[:16], page[16:28], page[28:]
+    told = lambda *numbers: values + summary + TRAILER.pack(*numbers)
+    pages = [told(16, 2, group, LETTERS) for group in (0, 1, 2, 63, 65, 128, 64 << 8, 64 << 24, 2 ** 32 - 64, 2 ** 32 - 1)]
+    pages += [told(16, 2, 64, letters) for letters in (b'CPG0', b'CPG2', b'CPG3', b'CPGA', b'cpg1', b'GPC1', b'1GPC', b'CPG\0', bytes(4), b'PG1C', b'CPG\xb1')]
+    pages += [told(offset, 2, 64, LETTERS) for offset in (0, 2, 8, 12, 15, 17, 24, 28, 44, 16 << 8, 16 << 24, 2 ** 32 - 28, 2 ** 31 + 16, 2 ** 32 - 1)]
+    counts = 0, 1, 3, 4, 65, 1048576, 1048577, 2 ** 28, 2 ** 29, 2 ** 29 + 2, 2 ** 31 + 2, 3 * 2 ** 30 + 2, 2 ** 32 - 1
+    pages += [told(8 * n % 2 ** 32, n, 64, LETTERS) for n in counts]
+    pages += [told(16, n, 64, LETTERS) for n in (0, 1, 3, 16, 2 << 8, 2 << 24, 2 ** 29 + 2, 2 ** 31 + 2)]
+    # big end first, in the trailer, in the summary and in the values
+    turned = lambda part, n: b''.join(part[i:i + n][::-1] for i in range(0, len(part), n))
+    pages += [values + summary + turned(trailer[:12], 4) + LETTERS, values + turned(summary, 4) + trailer, turned(values, 8) + summary + trailer]
+    # the areas in another order, and the fields of the trailer
+    pages += [trailer + values + summary, summary + values + trailer, values + trailer + summary]
+    pages += [values + summary + LETTERS + trailer[:12], values + summary + trailer[4:8] + trailer[:4] + trailer[8:]]
+    # bytes more and less
+    for more in (b'\0', bytes(4), bytes(8), bytes(12), summary, trailer):
+        pages += [more + page, values + more + summary + trailer, values + summary + more + trailer, page + more]
+    pages += [page[1:], page[:-1], page[8:], page[:8] + summary + trailer, values + trailer, values + summary[:4] + trailer, values + summary[:11] + trailer]
+    pages += [trailer, summary + trailer]
+    pages += [page + page, page_bytes([]) + page, page + page_bytes([]), bytes(7) + page_bytes([]), page_bytes([0]) + page_bytes([])]
+    # a longer trailer, of two values and of none
+    longer_trailer = lambda n, letters: struct.pack('<QQI4s', 8 * n, n, 64, letters)
+    pages += [values + summary + longer_trailer(2, b'CPG2'), longer_trailer(0, b'CPG2'), values + summary + longer_trailer(2, LETTERS)]
+    # a page of no values with the summary of an empty group
+    pages += [bytes(12) + page_bytes([]), bytes(8) + page_bytes([]), bytes(12) + TRAILER.pack(12, 0, 64, LETTERS)]
+    made = [Span(p, 0, i % 2, place=i % 8) for i, p in enumerate(pages)]
+    assert all(s.holds == {12} for s in made), [s.page.hex() for s in made if s.holds != {12}]
+    return made
+
+
+def garbage(draw):
+    """Bytes of many lengths that are no page: drawn, alike, with the end of a trailer, with a trailer whose count is drawn."""
+    made = []
+    for i, n in enumerate([*range(34), 36, 43, 44, 47, 48, 52, 60, 63, 64, 65, 71, 72, 80, 87, 96, 104, 127, 128, 129, 136, 150, 152, 175, 184, 192, 199, 200]):
+        some = bytes(draw.bits(8) for _ in range(n))
+        count = draw.choice([0, 1, 2, n // 8, max(n - 28, 0) // 8, draw.bits(29)])
+        page = (some, bytes(n), bytes([draw.choice([255, 0x43, 0x40, 1])]) * n, (some + trailer_end())[-n:] if n else b'',
+                (some + TRAILER.pack(8 * count % 2 ** 32, count, GROUP, LETTERS))[-n:] if n else b'')[i % 5]
+        if page_values(page) is None:
+            made.append(Span(page, draw.below(3), draw.choice([0, 1, 2, n // 8, 2 ** 64 - 1]), place=draw.below(8)))
+    assert all(12 in s.holds for s in made)
+    return made
+
+
+def trailer_end():
+    return TRAILER.pack(0, 0, GROUP, LETTERS)[8:]
+
+
+def bad_spans():
+    """Spans that start above their end or end above the count, by one and by far, such that eight times a bound is a small number modulo 2^64 or 2^32; and
+    the good ones beside them."""
+    made = []
+    for values in ([], TWO_VALUES, FIVE_VALUES):
+        n, page = len(values), page_bytes(values)
+        good = (0, 0), (n, n), (0, n)
+        bad = [(1, 0), (n, n + 1), (n + 1, n), (n + 1, n + 1), (0, n + 1), (n + 1, 0), (n, 0) if n else (2, 1), (n, n - 1) if n else (3, 0)]
+        bad += [(0, len(page) // 8 + 1), (2 ** 64 - n - 1, n), (2 ** 64 - 1, n), (0, MANY), (MANY, 0), (MANY, MANY)]
+        bad += [(0, 2 ** 61), (2 ** 61, 2 ** 61), (2 ** 61, 2 ** 61 + n), (2 ** 61, 0), (0, 2 ** 61 + n)]
+        bad += [(2 ** 63, 2 ** 63 + 1), (2 ** 63, 2 ** 63), (2 ** 63 - 1, 2 ** 63), (2 ** 32, 2 ** 32 + n), (0, 2 ** 32), (2 ** 32, 0), (0, 2 ** 29 + n)]
+        these = [Span(page, start, end, place=(i + 2) % 8) for i, (start, end) in enumerate((*good, *bad))]
+        assert all((s.refusal == 13) == (i >= len(good)) for i, s in enumerate(these))
+        made += these
+    # the count is the trailer's, and not that of the words that lie there: 13 beside summaries and trailer, within the bytes
+    made += [Span(page_bytes(FIVE_VALUES), start, end) for start, end in ((5, 6), (4, 7), (5, 8), (0, 8), (7, 7), (8, 8))]
+    return made
+
+
+BAD_SETTINGS = [{name: most} for name, most in zip(SETTINGS, RANGES)] + [{'precision': 54}, {'precision': 255}, {'rounding': 9}, {'rounding': 15}, {'nan': 7}]
+
+
+def spoiled_span(numbers, turn):
+    """A span of which exactly the conditions of these numbers hold."""
+    values = (TWO_VALUES, FIVE_VALUES, [THOUSAND], [])[turn % 4]
+    page, n = page_bytes(values), len(values)
+    if 12 in numbers:
+        page = changed(page, len(page) - 1 - turn % 16, 1 << turn % 8)
+    start, end = ((1, 0), (n + 2, 1), (2 ** 64 - 1, 3))[turn % 3] if 13 in numbers else (0, n * (turn % 2))
+    if 13 in numbers and 12 not in numbers and turn % 2:
+        start, end = ((0, n + 1), (n, 2 ** 64 - 1))[turn // 2 % 2]
+    c, summand = (BAD_SETTINGS[turn % len(BAD_SETTINGS)], turn % 3) if 4 in numbers else ({'rounding': turn % 8}, turn % 3)
+    if 4 in numbers and turn % 4 == 3:
+        c, summand = {}, (3, 4, 15)[turn % 3]
+    s = Span(page, start, end, c, summand, (23, 0, 8, 16, 22)[turn % 5] if 2 in numbers else 24 + turn % 9, turn % 8)
+    assert s.holds == set(numbers), (numbers, s.holds)
+    return s
+
+
+def page_refusals():
+    """Each of 2, 12, 13 and 4 alone, and each two, three and all four at once; each bad setting; answers of each length; an end above the count of a page
+    that does not open."""
+    some = [more for n in range(1, 5) for more in combinations(PAGE_ORDER, n)]
+    made = [spoiled_span(set(numbers), turn) for i, numbers in enumerate(some) for turn in range(i, i + 4)]
+    page = page_bytes(FIVE_VALUES)
+    made += [Span(page, i % 6, 5, c) for i, c in enumerate(BAD_SETTINGS)] + [Span(page, i % 6, 5, {}, summand) for i, summand in enumerate((3, 4, 8, 15))]
+    made += [Span(page, 0, 5, room=room, place=room % 8) for room in range(33)]
+    return made + [Span(changed(page, 44, 4), 0, end, c) for end, c in ((6, {}), (2 ** 64 - 1, {}), (6, {'rounding': 8}))]
+
+
+def beside(draw, values, most=LIST):
+    """A page with these values amid others, and the span of them."""
+    spare = most - len(values)
+    front, back = draw.below(min(spare, 4) + 1), draw.below(min(spare, 8) // 2 + 1)
+    others = [any_value(draw, DOUBLE, draw.choice([0, 1023, 2046])) for _ in range(front + back)]
+    return page_bytes(others[:front] + values + others[front:]), front, front + len(values)
+
+
+def page_settings(draw):
+    """Each rounding with each summand; each tininess, flush, denormals-are-zero and saturation at the ends of the format; NaNs with payloads by each rule."""
+    made = []
+    for mode, summand, maker in product(range(8), range(3), (near_tie, cancelling)):
+        c, left, _, _ = maker(draw, DOUBLE)
+        made.append(Span(*beside(draw, left), {**c, 'rounding': mode}, summand, place=len(made) % 8))
+    for i, (tininess, flush, daz, saturate) in enumerate(product(range(2), repeat=4)):
+        c = {'rounding': draw.below(8), 'tininess': tininess, 'flush': flush, 'daz': daz, 'saturate': saturate}
+        for pool in ([1, 2, SMALL, MINUS + SMALL, NORMAL, MINUS + 1, 0], [MOST, MOST, MINUS + 1, power(DOUBLE, 970), SMALL]):
+            made.append(Span(*beside(draw, [draw.choice(pool) for _ in range(4)]), c, i % 3))
+    nan = lambda: MINUS * draw.bits(1) + INFINITE + (draw.bits(1) << 51) + draw.between(1, 7)
+    for rule, turn in product(range(4), range(4)):
+        values = [draw.choice([UNIT, nan(), nan(), INFINITE, 1, 0]) for _ in range(5)] + [nan()] * (turn < 3)
+        made.append(Span(*beside(draw, values), {'nan': rule, 'negative': turn % 2}, turn % 3))
+    return made
+
+
+def drawn_spans(draw, count):
+    made = []
+    for _ in range(count):
+        near = draw.choice([0, 1, 2046, 1023, draw.bits(11)])
+        values = [any_value(draw, DOUBLE, near) for _ in range(draw.between(1, LIST))]
+        if draw.chance(60):
+            values = [b if is_finite(b) else MINUS * draw.bits(1) for b in values]
+        end = draw.between(0, len(values))
+        made.append(Span(page_bytes(values), draw.between(0, end), end, settings(draw, DOUBLE), draw.below(3), draw.choice([24, 31, 32]), draw.below(8)))
+    return made
+
+
+def spans():
+    draw = Draw(800)
+    made = page_examples() + page_spans() + damaged_bytes() + damaged_summaries() + damaged_areas() + garbage(draw) + bad_spans() + page_refusals()
+    return made + page_settings(draw) + drawn_spans(draw, 40)
+
+
+def long_values(draw, n):
+    """Values of which each group has a highest and a lowest bit of its own, and its own classes."""
+    values = []
+    for g in range(-(-n // GROUP)):
+        base = 300 - 250 * g
+        values += [power(DOUBLE, base - draw.below(60), draw.bits(1), draw.bits(20) << 32) for _ in range(min(GROUP, n - GROUP * g))]
+        for b in ((0, MINUS), (), (MINUS,))[g]:
+            values[draw.between(GROUP * g, len(values) - 1)] = b
+    return values
+
+
+def long_pages(draw):
+    """Good pages of a group less one, a group, and one more, of two groups likewise, with spans within a group and over their borders; bad spans."""
+    made = []
+    for n in (63, 64, 65, 127, 128, 129):
+        values = long_values(draw, n)
+        page = page_bytes(values)
+        some = [(0, n), (n - 1, n), (n, n), (62, min(66, n)), (draw.below(n), n)] + [(60, 125)] * (n > 125)
+        made += [Span(page, start, end, settings(draw, DOUBLE), i % 3, place=(n + i) % 8) for i, (start, end) in enumerate(some)]
+        made += [Span(page, 0, n + 1), Span(page, n, n - 1)]
+    # classes in one group alone, in the first value and in the last
+    for at, b in ((0, NOT_A_NUMBER), (63, MINUS + INFINITE), (64, SIGNALING), (127, 0), (128, INFINITE), (128, NOT_A_NUMBER), (128, 1), (64, MOST)):
+        values = [UNIT] * 129
+        values[at] = b
+        made.append(Span(page_bytes(values), max(at - 1, 0), at + 1))
+    return made
+
+
+def long_damage(draw):
+    """A summary of a group changed, exchanged with another's, made of other groups, or left out."""
+    values = long_values(draw, 129)
+    page, own = page_bytes(values), [page_summary(group) for group in in_groups(values)]
+    made = [Span(changed(page, 8 * 129 + 12 * g + i, 1 << (g + i) % 8), 0, 64, place=i % 8) for g, i in product(range(3), (0, 3, 4, 7, 8, 9, 11))]
+    first, second, third = own
+    pages = [page_of_parts(values, summaries) for summaries in (
+        [second, first, third], [first, third, second], [third, first, second], [first] * 3, [page_summary(values)] * 3, [first, second, (0, 0, 0)],
+        [first, second], [first, second, third, third])]
+    # groups of 63, of 65, of 32, and a short one in front
+    for n, size in ((129, 63), (129, 65), (129, 43), (65, 63), (65, 33), (128, 65), (64, 63), (64, 32), (65, 65), (128, 128)):
+        pages.append(page_of_parts(values[:n], [page_summary(values[i:min(i + size, n)]) for i in range(0, n, size)]))
+    pages += [page_of_parts(values[:65], [page_summary(values[:1]), page_summary(values[1:65])]), page_of_parts(values[:65], [page_summary(values[:64])])]
+    # another number of a group in the trailer; a value of the last group changed; the trailer's of a page with one value less
+    pages.append(page_of_parts(values, [page_summary(values)], (8 * 129, 129, 129, LETTERS)))
+    pages += [changed(page, 8 * 128 + 7, 0x40), changed(page, 8 * 64 + 7, 0x40), changed(page, 8 * 63 + 7, 0x40)]
+    pages += [page_of_parts(values[:128], own[:2], (8 * 127, 127, GROUP, LETTERS)), page_of_parts(values[:64], own[:1], (8 * 65, 65, GROUP, LETTERS))]
+    made += [Span(p, 0, i % 3, place=i % 8) for i, p in enumerate(pages)]
+    assert all(s.holds == {12} for s in made), [i for i, s in enumerate(made) if s.holds != {12}]
+    return made
+
+
+def long_spans():
+    draw = Draw(801)
+    return long_pages(draw) + long_damage(draw)
+
+
+def written_pages():
+    """The lists in a destination of just their length; and pages of 0, 1, 2, 5 and 22 values in shorter and longer ones: without room for the summaries, for
+    the trailer, for one byte."""
+    made = [Written(values, len(page_bytes(values)), i % 8, (PATTERN + 5 * i) % 256) for i, values in enumerate(value_lists())]
+    for values in ([], [THOUSAND], TWO_VALUES, FIVE_VALUES, [INFINITE, 0] * 11):
+        n, m = len(values), len(page_bytes(values))
+        rooms = {0, 8 * n, 8 * n + 12, 8 * n + 16, m - 16, m - 12, m - 8, m - 1, m, m + 1, m + 3, m + 4, m + 7, m + 8, m + 12, m + 16, PAGE}
+        made += [Written(values, room, (n + room) % 8, room * 7 % 256) for room in sorted(rooms) if 0 <= room <= PAGE]
+    draw = Draw(802)
+    for _ in range(12):
+        values = [any_value(draw, DOUBLE, draw.choice([0, 1, 1023, 2046])) for _ in range(draw.between(2, LIST))]
+        made.append(Written(values, draw.between(len(page_bytes(values)), PAGE), draw.below(8), draw.bits(8)))
+    return made
+
+
+def long_written():
+    """Pages of a group less one, a group, and one more, of two groups likewise."""
+    draw = Draw(803)
+    made = []
+    for n in (63, 64, 65, 127, 128, 129):
+        values = long_values(draw, n)
+        m = len(page_bytes(values))
+        made += [Written(values, room, draw.below(8), draw.bits(8)) for room in (m, m - 1, m + draw.between(1, 12), m - 12)]
+    for at, b in ((0, NOT_A_NUMBER), (63, 0), (64, INFINITE), (128, 1)):
+        values = [MINUS + UNIT] * 129
+        values[at] = b
+        made.append(Written(values, LONG_PAGE))
+    return made
+
+
+def cover_pages(every, written):
+    accepted = [s for s in every if s.refusal == 0]
+    print('%5d  spans of pages, %d of them accepted' % (len(every), len(accepted)))
+    each = lambda rows, of: [(r, kind) for r in rows for kind in of(r)]
+    second = lambda pair: (pair[1],)
+    fewest('values of a page, 0, 1, 2, 5, 63 to 65, 127 to 129', accepted, lambda s: (len(s.values),), (0, 1, 2, 5, 63, 64, 65, 127, 128, 129))
+    fewest('empty spans, whole pages, spans from the first value, to the last, and amid others', accepted,
+           lambda s: (s.start == s.end or (s.start == 0, s.end == len(s.values)),), (True, (True, True), (True, False), (False, True), (False, False)))
+    fewest('spans within a group, and over a border', [s for s in accepted if s.start < s.end],
+           lambda s: (s.start // GROUP != (s.end - 1) // GROUP,), (False, True))
+    fewest('rounding and summand', accepted, lambda s: (s.c['rounding'], s.summand), range(8), range(3))
+    switches = lambda s: tuple(s.c[name] for name in ('tininess', 'flush', 'daz', 'saturate'))
+    fewest('tininess, flush, denormals are zero, saturation', accepted, switches, *[range(2)] * 4)
+    fewest('spans with a NaN, by rule', [s for s in accepted if s.total.has_nan()], lambda s: (s.c['nan'],), range(4))
+    fewest('passes, 0 to 3', accepted, lambda s: (s.total.passes,), range(4))
+    fewest('side', accepted, lambda s: (s.total.leans,), range(4))
+    fewest('classes of a group', each([s for s in every if s.values], lambda s: {page_summary(g)[2] for g in in_groups(s.values)}), second, range(8))
+    fewest('refusals alone and several at once', [s for s in every if s.holds], lambda s: (tuple(sorted(s.holds)),),
+           [tuple(sorted(some)) for n in range(1, 5) for some in combinations(PAGE_ORDER, n)])
+    fewest('13 by a start above the end, by an end above the count, by both', [s for s in every if s.holds == {13}],
+           lambda s: ((s.start > s.end) + 2 * (s.end > len(s.values)),), (1, 2, 3))
+    fewest('length of the answer, 0 to 32', every, lambda s: (s.room,), range(33))
+    fewest('place of a page, 0 to 7', accepted, lambda s: (s.place,), range(8))
+    taken = [w for w in written if w.returned != 2]
+    print('%5d  pages to be written, %d of them accepted' % (len(written), len(taken)))
+    fewest('values, 0, 1, 2, 5, 22, 63 to 65, 127 to 129, by destination: short, exact, longer', written,
+           lambda w: (len(w.values), min(max(w.room - len(page_bytes(w.values)), -1), 1)), (0, 1, 2, 5, 22, 63, 64, 65, 127, 128, 129), (-1, 0, 1))
+    fewest('classes of a group', each(taken, lambda w: {page_summary(g)[2] for g in in_groups(w.values)}), second, range(8))
+    fewest('place of a destination, 0 to 7', taken, lambda w: (w.place,), range(8))
+
+
+def page_parts():
+    """The parts of pages, each with its name, its rows, the most bytes of a page in them, and what reads one."""
+    return [('spans of pages', spans(), PAGE, span_of), ('spans of longer pages', long_spans(), LONG_PAGE, span_of),
+            ('pages written', written_pages(), PAGE, written_of), ('longer pages written', long_written(), LONG_PAGE, written_of)]
 
 
 def main():

@@ -1,12 +1,14 @@
-"""What document 01 says of a total, and document 02 of which way its result leans, of a named bias, of a list's pence, of a table and of amounts known
-within a range, in whole numbers of any length.
+"""What document 01 says of a total, and document 02 of which way its result leans, of a named bias, of a list's pence, of a table, of amounts known
+within a range and of career pages, in whole numbers of any length.
 
 Written from the text of document 01, and from the Rust's where document 01
 names a function of it (the choice among NaNs, overflow, the largest number).
 A sum is added up exactly, as a whole number times a power of two, and rounded
 once. The chain of passes is walked beside that, for the passes and the last
 edge alone; the result does not depend on the walk. A range's totals are found
-among the doubles by their size, with fractions and no rounding at all.
+among the doubles by their size, with fractions and no rounding at all. A
+page's summaries are those of Python's floats, as fractions; a page is read
+field by field, and held to the page that is written of its values.
 """
 
 import math
@@ -510,3 +512,72 @@ def range_ends(tags, firsts, seconds, ceiling):
 def range_pair(lows, highs):
     exact = lambda figures: sum((Fraction(double(b)) for b in figures), Fraction(0))
     return greatest_not_above(exact(lows)), least_not_below(exact(highs))
+
+
+# ---- career pages
+
+GROUP = 64
+MOST_VALUES = 1048576
+LETTERS = b'CPG1'
+TRAILER = struct.Struct('<III4s')
+SUMMARY = struct.Struct('<iiB3s')
+# the numbers of a page's refusals, in the order in which they are given
+PAGE_ORDER = (2, 12, 13, 4)
+
+
+def set_bits(x):
+    """The positions of the highest and of the lowest set bit of a float that is finite and not zero."""
+    over, under = abs(x).as_integer_ratio()
+    # the fraction is in its lowest terms, and one of the two is odd
+    return over.bit_length() - under.bit_length(), (over & -over).bit_length() - under.bit_length()
+
+
+def page_summary(values):
+    """The three numbers of a group of values."""
+    floats = [double(b) for b in values]
+    spans = [set_bits(x) for x in floats if math.isfinite(x) and x != 0]
+    high, low = (max(h for h, _ in spans), min(l for _, l in spans)) if spans else (0, 0)
+    return high, low, any(map(math.isnan, floats)) + 2 * any(map(math.isinf, floats)) + 4 * (0 in floats)
+
+
+def in_groups(values):
+    return [values[i:i + GROUP] for i in range(0, len(values), GROUP)]
+
+
+def page_bytes(values):
+    """The page that is written of some values."""
+    summaries = b''.join(SUMMARY.pack(*page_summary(group), bytes(3)) for group in in_groups(values))
+    return b''.join(b.to_bytes(8, 'little') for b in values) + summaries + TRAILER.pack(8 * len(values), len(values), GROUP, LETTERS)
+
+
+def page_values(page):
+    """The values of a page, or None where it does not open."""
+    if len(page) < TRAILER.size:
+        return None
+    offset, count, group, letters = TRAILER.unpack(page[-TRAILER.size:])
+    if (group, letters) != (GROUP, LETTERS) or count > MOST_VALUES or offset != 8 * count:
+        return None
+    area = page[offset:-TRAILER.size]
+    if offset > len(page) or len(area) != SUMMARY.size * -(-count // GROUP):
+        return None
+    values = [int.from_bytes(page[8 * i:8 * i + 8], 'little') for i in range(count)]
+    if list(SUMMARY.iter_unpack(area)) != [(*page_summary(part), bytes(3)) for part in in_groups(values)]:
+        return None
+    return values
+
+
+def page_conditions(page, start, end, c, summand, room):
+    """The numbers whose conditions hold. A page that does not open has no count that an end could be above."""
+    holds = conditions(IEEE, 11, 64, None, c, summand, [], None, (0, 0), room)
+    values = page_values(page)
+    if values is None:
+        holds.add(12)
+    if start > end or values is not None and end > len(values):
+        holds.add(13)
+    return holds
+
+
+def page_written(values, room):
+    """What the writing answers, and the bytes that it lays."""
+    page = page_bytes(values)
+    return (2, b'') if len(page) > room else (256 * len(page), page)

@@ -1,10 +1,11 @@
 // Replays the cases of standard input: works each one out, compares the answer with the one that its row holds, and prints how many agree. Totals are
-// worked out over words, over bytes and through a byte entry, the pence of a list, the totals of a table and those of ranges by the function and through its
-// entry.
+// worked out over words, over bytes and through a byte entry, the pence of a list, the totals of a table, of ranges and of a page's span by the function and
+// through its entry, and pages are written through theirs.
 // cases.py makes the list, and says how it is laid out; README.md says where the answers come from.
 mod counts;
 mod figures;
 mod lists;
+mod pages;
 mod ranges;
 mod row;
 mod tables;
@@ -15,6 +16,7 @@ use figures::figures;
 use hex::number;
 use lists::lists;
 use lists::misnamed;
+use pages::pages;
 use ranges::ranges;
 use row::BIASED;
 use row::LONG;
@@ -145,7 +147,7 @@ fn sections(n: u64) -> Agreed
     all
 }
 
-// The number of the rows of pence, of tables or of ranges that follow.
+// The number of the rows of pence, of tables, of ranges or of pages that follow.
 fn next_count() -> u64
     ensures { λ r. ⌜ r < 65536 ⌝ }
 {
@@ -186,6 +188,12 @@ fn report_ranges(name: &[u8]) {
     report_of(name, ranges(n), n);
 }
 
+// The same of the rows of pages, of spans or written.
+fn report_pages(name: &[u8], written: bool, long: bool) {
+    let n = next_count();
+    report_of(name, pages(n, written, long), n);
+}
+
 fn main() {
     let mut head = [0u8; 3];
     io::read_full(0, &mut head);
@@ -214,4 +222,20 @@ fn main() {
         8,
     );
     report_ranges(b"amounts known within a range ............... ");
+    report_pages(
+        b"spans of pages ............................. ",
+        false,
+        false,
+    );
+    report_pages(
+        b"spans of longer pages ...................... ",
+        false,
+        true,
+    );
+    report_pages(
+        b"pages written .............................. ",
+        true,
+        false,
+    );
+    report_pages(b"longer pages written ....................... ", true, true);
 }
