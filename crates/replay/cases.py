@@ -2658,16 +2658,12 @@ def garbage(draw):
     for i, n in enumerate([*range(34), 36, 43, 44, 47, 48, 52, 60, 63, 64, 65, 71, 72, 80, 87, 96, 104, 127, 128, 129, 136, 150, 152, 175, 184, 192, 199, 200]):
         some = bytes(draw.bits(8) for _ in range(n))
         count = draw.choice([0, 1, 2, n // 8, max(n - 28, 0) // 8, draw.bits(29)])
-        page = (some, bytes(n), bytes([draw.choice([255, 0x43, 0x40, 1])]) * n, (some + trailer_end())[-n:] if n else b'',
+        page = (some, bytes(n), bytes([draw.choice([255, 0x43, 0x40, 1])]) * n, (some + page_bytes([])[8:])[-n:] if n else b'',
                 (some + TRAILER.pack(8 * count % 2 ** 32, count, GROUP, LETTERS))[-n:] if n else b'')[i % 5]
         if page_values(page) is None:
             made.append(Span(page, draw.below(3), draw.choice([0, 1, 2, n // 8, 2 ** 64 - 1]), place=draw.below(8)))
     assert all(12 in s.holds for s in made)
     return made
-
-
-def trailer_end():
-    return TRAILER.pack(0, 0, GROUP, LETTERS)[8:]
 
 
 def bad_spans():
