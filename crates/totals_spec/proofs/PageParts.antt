@@ -15,10 +15,11 @@ use Rattle.totals_spec.specs.Format.{binary64, bias, depth, origin}
 use Rattle.totals_spec.specs.Limit.{bottomOf, ceilDiv}
 use Rattle.totals_spec.specs.Terms.{Term, terms, topOf}
 use Rattle.totals_spec.specs.Table.{filled}
-use Rattle.totals_spec.specs.Pages.{groupSize, trailerLength, countMost, positionBytes, extent, classOf, pageItems, summary, groups, valueBytes}
-use Rattle.totals_spec.specs.Pages.{summariesFrom, summaries, trailer, pageOf, pageLength, countIn, pageValues, opens, spanOf}
+use Rattle.totals_spec.specs.Pages.{groupSize, shortMost, longMost, positionBytes, extent, classOf, pageItems, summary, groups, valueBytes}
+use Rattle.totals_spec.specs.Pages.{summariesFrom, summaries, shortTrailer, longTrailer, trailer, trailerLength}
+use Rattle.totals_spec.specs.Pages.{pageOf, pageLength, lastBytes, countIn, pageValues, opens, spanOf}
 use Rattle.totals_spec.proofs.Fields.{two-numbers}
-use Rattle.totals_spec.proofs.Pages.{same-refl, page-size, page-summary, trailer-in, page-only}
+use Rattle.totals_spec.proofs.Pages.{same-refl, page-size, page-summary, trailer-in, page-only, open-trails}
 use Rattle.totals_spec.proofs.ReadBack.{bytes-back}
 use Rattle.totals_spec.proofs.Values.{from-length}
 
@@ -141,9 +142,9 @@ abbrev pub Stands : (n : ℕ) → List ℕ → ℕ → Type 0
 Stands n page g = take 12 (drop (8 * n + 12 * g) page) ≡ summary (take groupSize (drop (groupSize * g) (valuesFrom n page)))
 
 pub record Parts (n : ℕ) (page : List ℕ) : Type 0 where
-  pub few : n ≤ countMost
+  pub few : n ≤ longMost
   pub long : length page ≡ pageLength n
-  pub trails : drop (length page - trailerLength) page ≡ trailer n
+  pub trails : lastBytes (trailerLength n) page ≡ trailer n
   pub stands : (g : ℕ) → g < groups n → Stands n page g
 
 -- one group more
@@ -179,15 +180,15 @@ module _ (page : List ℕ) where
 
   pub parts-open : AllBytes page → Parts n page → opens page ≡ true
   unfolding opens
-  parts-open f p = rw (le-leb n countMost (p .few)) (ap (sameList page) same ∙ same-refl page)
+  parts-open f p = rw (le-leb n longMost (p .few)) (ap (sameList page) same ∙ same-refl page)
     where
-      front : 8 * n + 12 * groups n + 16 ≡ length page
+      front : 8 * n + 12 * groups n + trailerLength n ≡ length page
       front = unfold pageLength in sym (p .long)
 
       rest : drop (12 * groups n) (drop (8 * n) page) ≡ trailer n
       rest = drop-drop (12 * groups n) (8 * n) page ∙ ap (λ (j : ℕ). drop j page) place ∙ p .trails
         where
-          place : 8 * n + 12 * groups n ≡ length page - trailerLength
+          place : 8 * n + 12 * groups n ≡ length page - trailerLength n
           place = omega (arith, front)
 
       same : pageOf (valuesFrom n page) ≡ page
@@ -201,7 +202,7 @@ module _ (page : List ℕ) where
       record {
         few = omega (arith, few, from-length n page);
         long = ap length e ∙ page-size l ∙ ap pageLength (from-length n page);
-        trails = ap (λ (x : List ℕ). drop (length x - trailerLength) x) e ∙ trailer-in l ∙ ap trailer (from-length n page);
+        trails = open-trails page o;
         stands = λ g h.
             ap (λ (x : List ℕ). take 12 (drop (8 * n + 12 * g) x)) e
             ∙ ap (λ (k : ℕ). take 12 (drop (8 * k + 12 * g) (pageOf l))) (sym (from-length n page))
@@ -297,13 +298,17 @@ page-value l i h = value-at l (summaries l ++ trailer (length l)) i h
 pub page-trailer : (l : List ℕ) → drop (8 * length l + 12 * groups (length l)) (pageOf l) ≡ trailer (length l)
 page-trailer l = ap (λ (k : ℕ). drop k (pageOf l)) place ∙ trailer-in l
   where
-    place : 8 * length l + 12 * groups (length l) ≡ length (pageOf l) - trailerLength
+    place : 8 * length l + 12 * groups (length l) ≡ length (pageOf l) - trailerLength (length l)
     place = unfold pageLength in omega (arith, page-size l)
 
--- 826757187 is the number of the four letters
-pub trailer-words : (n : ℕ) → n ≤ countMost → trailer n ≡ toBytes 8 (8 * n + 4294967296 * n) ++ toBytes 8 (64 + 4294967296 * 826757187)
-unfolding trailer
-trailer-words n h = sym (ap (λ (s : List ℕ). s ++ toBytes 8 (64 + 4294967296 * 826757187)) (two-numbers 4 4 (8 * n) n (omega arith)))
+-- 826757187 and 843534403 are the numbers of the four letters
+pub short-words : (n : ℕ) → n ≤ shortMost → shortTrailer n ≡ toBytes 8 (8 * n + 4294967296 * n) ++ toBytes 8 (64 + 4294967296 * 826757187)
+unfolding shortTrailer
+short-words n h = sym (ap (λ (s : List ℕ). s ++ toBytes 8 (64 + 4294967296 * 826757187)) (two-numbers 4 4 (8 * n) n (omega arith)))
+
+pub long-words : (n : ℕ) → longTrailer n ≡ toBytes 8 (8 * n) ++ (toBytes 8 n ++ toBytes 8 (64 + 4294967296 * 843534403))
+unfolding longTrailer
+long-words n = refl
 
 -- ---- a summary's numbers
 

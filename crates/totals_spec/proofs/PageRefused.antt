@@ -15,7 +15,7 @@ use Rattle.totals_spec.specs.Settings.{Settings, validSettings}
 use Rattle.totals_spec.specs.Totals.{Answer, refused, refuseIf, answered, sumRefusal, sumAnswer}
 use Rattle.totals_spec.specs.Bytes.{Entry, short, written, entered}
 use Rattle.totals_spec.specs.Table.{filled}
-use Rattle.totals_spec.specs.Pages.{pageOf, pageLength, pageMost, countIn, pageValues, opens, spanOf, pageRefusal, pageAnswer, pageEntry}
+use Rattle.totals_spec.specs.Pages.{pageOf, pageLength, longMost, countIn, pageValues, opens, spanOf, pageRefusal, pageAnswer, pageEntry}
 use Rattle.totals_spec.specs.Pages.{writeRefusal, pageWritten}
 use Rattle.totals_spec.specs.Conditions.{BadSettings, BadSummand, NoPage, BadSpan, NoPageRoom, pageConditions, pageNumbers, writeConditions}
 use Rattle.totals_spec.specs.Promises.{ReadsBack, Page-opens, Page-beyond, Page-refused-exactly, Page-refused, Page-empty}
@@ -40,7 +40,7 @@ left b n size page old = cond b (record { code = 256 * size; buffer = filled pag
 
 write-small : (n room : ℕ) → writeRefusal n room < 256
 unfolding writeRefusal
-write-small n room = go (ltb room (pageLength n)) (ltb pageMost n)
+write-small n room = go (ltb room (pageLength n)) (ltb longMost n)
   where
     go : (a b : Bool) → refuseIf a 2 (refuseIf b 6 0) < 256
     go true b = omega arith
@@ -67,11 +67,11 @@ module _ (l old : List ℕ) where
 
   write-tests : Tests (writeConditions l old) number
   unfolding writeRefusal
-  write-tests = test (ltb (length old) (pageLength (length l))) room-found (test (ltb pageMost (length l)) (many-found l) last)
+  write-tests = test (ltb (length old) (pageLength (length l))) room-found (test (ltb longMost (length l)) (many-found l) last)
 
-  write-accepted : length l ≤ pageMost → length (pageOf l) ≤ length old → number ≡ 0
+  write-accepted : length l ≤ longMost → length (pageOf l) ≤ length old → number ≡ 0
   unfolding writeRefusal
-  write-accepted few room = rw (le-ltb (length old) (pageLength (length l)) (omega (arith, room, page-size l)), le-ltb pageMost (length l) few)
+  write-accepted few room = rw (le-ltb (length old) (pageLength (length l)) (omega (arith, room, page-size l)), le-ltb longMost (length l) few)
 
 pub page-refused-exactly : Page-refused-exactly
 page-refused-exactly l old n = rw (write-code l old) (exactly (write-tests l old) n)

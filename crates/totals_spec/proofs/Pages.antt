@@ -1,4 +1,4 @@
--- Career pages (document 02, A.8): the length of a page, its count, its values and its summaries; what opens; what a span is.
+-- Career pages (document 02, A.8 and A.9): the length of a page, its count, its values and its summaries; what opens; what a span is.
 use mathlib.Core.Path.{_≡_, refl, sym, ap, ap₂, _∙_, subst}
 use mathlib.Core.Bool.{Bool, true, false, not, _&&_, _||_, cond}
 use mathlib.Core.List.{List, [], _∷_, _++_, append-assoc}
@@ -6,10 +6,10 @@ use Prim.Native.Nat.{ℕ, zero, suc, _+_, _-_, _*_, _/_, _%_, _^_, _≤_, _<_}
 use native.Mathlib.Nat.{le-trans}
 use native.Mathlib.Omega.{arith}
 use lib.Dec.{T, leb, ltb, eqb, eqb→eq, leb→le}
-use lib.ListN.{length, take, drop, length-append, length-take, length-drop}
+use lib.ListN.{length, take, drop, getD, length-append, length-take, length-drop}
 use lib.IntN.{pos, negsuc, subℕ}
 use lib.Seq.{length-take-le, take-at, drop-at, getD-take, getD-drop, drop-drop, drop-append-add}
-use borrow.Author.Tests.{eq-eqb, ltb-true, ltb-false, le-leb, le-ltb, lt-leb, lt-ltb}
+use borrow.Author.Tests.{eq-eqb, ltb-true, ltb-false, leb-true, leb-false, le-leb, le-ltb, lt-leb, lt-ltb}
 use Rattle.totals_spec.specs.Basics.{any, sameList}
 use Rattle.totals_spec.specs.Format.{binary64, validFormat, bias, depth, origin}
 use Rattle.totals_spec.specs.Settings.{Settings, validSettings, noSettings, value}
@@ -17,12 +17,14 @@ use Rattle.totals_spec.specs.Terms.{Term, Item, isNanItem, isInfinite, i
 use Rattle.totals_spec.specs.Limit.{lowOf, bottomOf, ceilDiv}
 use Rattle.totals_spec.specs.Totals.{stray, limit, refuseIf, sumTerms, sumRefusal, sumAnswer}
 use Rattle.totals_spec.specs.Bytes.{fromBytes, toBytes, valuesFrom}
-use Rattle.totals_spec.specs.Pages.{groupSize, trailerLength, countMost, positionBytes, extent, classOf, pageItems}
+use Rattle.totals_spec.specs.Pages.{groupSize, shortLetters, longLetters, shortMost, longMost, positionBytes, extent, classOf, pageItems}
 use Rattle.totals_spec.specs.Pages.{summary, groups, valueBytes, summariesFrom}
-use Rattle.totals_spec.specs.Pages.{summaries, trailer, pageOf, pageLength, countIn, pageValues, opens, spanOf, pageRefusal, pageAnswer}
+use Rattle.totals_spec.specs.Pages.{summaries, shortTrailer, longTrailer, trailer, trailerLength, pageOf, pageLength}
+use Rattle.totals_spec.specs.Pages.{lastBytes, countIn, pageValues, opens, spanOf, pageRefusal, pageAnswer}
 use Rattle.totals_spec.specs.Conditions.{AllWords}
 use Rattle.totals_spec.specs.Promises.{signedOf, Summarizes, Page-length, Page-summary, Page-summarizes, Page-only}
 use Rattle.totals_spec.specs.Promises.{Span-values, Page-span, Page-span-read}
+use Rattle.totals_spec.specs.Promises.{earlierPage, earlierCount, earlierOpens, Page-as-before, Page-longer, Page-range, Page-earlier, Page-both}
 use Rattle.totals_spec.proofs.Bits.{T-of}
 use Rattle.totals_spec.proofs.Fields.{flag-less}
 use Rattle.totals_spec.proofs.Tops.{single-sum-top}
@@ -65,9 +67,19 @@ words-read (x ∷ l) r = (read-less 8 x, words-read l r)
 
 -- ---- lengths
 
-trailer-length : (n : ℕ) → length (trailer n) ≡ trailerLength
-unfolding trailer
-trailer-length n = refl
+-- what is true of the trailer in either range
+pub by-range : (P : List ℕ → ℕ → Type 0) (n : ℕ) → (n ≤ shortMost → P (shortTrailer n) 16) → (shortMost < n → P (longTrailer n) 24)
+    → P (trailer n) (trailerLength n)
+unfolding trailer trailerLength
+by-range P n short long = go (leb n shortMost) (leb-true n shortMost) (leb-false n shortMost)
+  where
+    go : (b : Bool) → (b ≡ true → n ≤ shortMost) → (b ≡ false → shortMost < n) → P (cond b (shortTrailer n) (longTrailer n)) (cond b 16 24)
+    go true few many = short (few refl)
+    go false few many = long (many refl)
+
+pub trailer-length : (n : ℕ) → length (trailer n) ≡ trailerLength n
+unfolding shortTrailer longTrailer
+trailer-length n = by-range (λ t k. length t ≡ k) n (λ _. refl) (λ _. refl)
 
 extent-length : (ts : List Term) → length (extent ts) ≡ 8
 unfolding extent
@@ -102,8 +114,11 @@ page-size l =
     )
 
 pub page-length : Page-length
-unfolding pageLength ceilDiv
-page-length l = page-size l
+unfolding pageLength ceilDiv trailerLength
+page-length l =
+    let n = length l in
+    let size = page-size l in
+    ((λ h. rw (le-leb n shortMost h) at size), λ h. rw (lt-leb n shortMost h) at size)
 
 -- ---- summaries
 
@@ -222,31 +237,57 @@ page-summarizes l = rw (class-bytes (pageItems l)) (go (sumTerms binary64 noSett
 
 -- ---- the count and the values
 
-pub trailer-in : (l : List ℕ) → drop (length (pageOf l) - trailerLength) (pageOf l) ≡ trailer (length l)
+pub last-last : (j k : ℕ) (page : List ℕ) → j ≤ k → lastBytes j (lastBytes k page) ≡ lastBytes j page
+last-last j k page h = drop-drop _ (length page - k) page ∙ ap (λ (i : ℕ). drop i page) place
+  where
+    place : length page - k + (length (lastBytes k page) - j) ≡ length page - j
+    place = omega (arith, h, length-drop (length page - k) page)
+
+last-at : (v s t : List ℕ) (k : ℕ) → length t ≡ k → lastBytes k (v ++ (s ++ t)) ≡ t
+last-at v s t k e =
+    rw (← append-assoc v s t) (drop-at (v ++ s) t (length ((v ++ s) ++ t) - k) (omega (arith, length-append (v ++ s) t, e)))
+
+-- of a page that ends in a trailer
+pub short-letters : (n : ℕ) (page : List ℕ) → lastBytes 16 page ≡ shortTrailer n → lastBytes 4 page ≡ shortLetters
+unfolding shortTrailer
+short-letters n page e = sym (last-last 4 16 page (omega arith)) ∙ ap (lastBytes 4) e
+
+pub long-letters : (n : ℕ) (page : List ℕ) → lastBytes 24 page ≡ longTrailer n → lastBytes 4 page ≡ longLetters
+unfolding longTrailer
+long-letters n page e = sym (last-last 4 24 page (omega arith)) ∙ ap (lastBytes 4) e
+
+pub count-short : (page : List ℕ) → lastBytes 4 page ≡ shortLetters → countIn page ≡ earlierCount page
+unfolding countIn
+count-short page e = rw e
+
+pub trailer-count : (n : ℕ) (page : List ℕ) → n ≤ longMost → lastBytes (trailerLength n) page ≡ trailer n → countIn page ≡ n
+unfolding countIn
+trailer-count n page most = by-range (λ t k. lastBytes k page ≡ t → countIn page ≡ n) n
+    (λ few e. unfold shortTrailer in count-short page (short-letters n page e)
+    ∙ ap (λ (s : List ℕ). fromBytes (take 4 (drop 4 s))) e ∙ bytes-back 4 n (omega (arith, few)))
+    (λ many e. unfold longTrailer in rw (long-letters n page e)
+    (ap (λ (s : List ℕ). fromBytes (take 8 (drop 8 s))) e ∙ bytes-back 8 n (omega (arith, most))))
+
+pub trailer-in : (l : List ℕ) → lastBytes (trailerLength (length l)) (pageOf l) ≡ trailer (length l)
 unfolding pageOf
-trailer-in l =
-    let front = valueBytes l ++ summaries l in
-    let t = trailer (length l) in
-    rw (← append-assoc (valueBytes l) (summaries l) t)
-    (drop-at front t (length (front ++ t) - trailerLength) (omega (arith, length-append front t, trailer-length (length l))))
+trailer-in l = last-at (valueBytes l) (summaries l) (trailer (length l)) (trailerLength (length l)) (trailer-length (length l))
 
-pub count-in : (l : List ℕ) → length l ≤ countMost → countIn (pageOf l) ≡ length l
-unfolding countIn trailer
-count-in l h = ap (λ (s : List ℕ). fromBytes (take 4 (drop 4 s))) (trailer-in l) ∙ bytes-back 4 (length l) (omega arith)
+pub count-in : (l : List ℕ) → length l ≤ longMost → countIn (pageOf l) ≡ length l
+count-in l h = trailer-count (length l) (pageOf l) h (trailer-in l)
 
-pub page-values : (l : List ℕ) → AllWords l → length l ≤ countMost → pageValues (pageOf l) ≡ l
+pub page-values : (l : List ℕ) → AllWords l → length l ≤ longMost → pageValues (pageOf l) ≡ l
 unfolding pageOf
 page-values l w h = rw (count-in l h) (values-back l (summaries l ++ trailer (length l)) w)
 
 -- ---- what opens
 
-pub is-open : (l : List ℕ) → AllWords l → length l ≤ countMost → opens (pageOf l) ≡ true
+pub is-open : (l : List ℕ) → AllWords l → length l ≤ longMost → opens (pageOf l) ≡ true
 unfolding opens
-is-open l w h = rw (page-values l w h, count-in l h, le-leb (length l) countMost h) (same-refl (pageOf l))
+is-open l w h = rw (page-values l w h, count-in l h, le-leb (length l) longMost h) (same-refl (pageOf l))
 
 pub page-only : Page-only
 unfolding opens
-page-only page o = (e, words, rw (from-length n page) (leb→le n countMost (and-left (leb n countMost) (sameList page (pageOf l)) (T-of o))))
+page-only page o = (e, words, rw (from-length n page) (leb→le n longMost (and-left (leb n longMost) (sameList page (pageOf l)) (T-of o))))
   where
     n : ℕ
     n = countIn page
@@ -255,13 +296,84 @@ page-only page o = (e, words, rw (from-length n page) (leb→le n countMost (and
     l = valuesFrom n page
 
     e : page ≡ pageOf l
-    e = same-eq page (pageOf l) (and-right (leb n countMost) (sameList page (pageOf l)) (T-of o))
+    e = same-eq page (pageOf l) (and-right (leb n longMost) (sameList page (pageOf l)) (T-of o))
 
     again : valuesFrom (length l) (pageOf l) ≡ l
     again = ap₂ valuesFrom (from-length n page) (sym e)
 
     words : AllWords l
     words = subst AllWords again (unfold pageOf in words-read l (summaries l ++ trailer (length l)))
+
+pub open-trails : (page : List ℕ) → opens page ≡ true → lastBytes (trailerLength (countIn page)) page ≡ trailer (countIn page)
+open-trails page o =
+    let n = from-length (countIn page) page in
+    ap₂ (λ (k : ℕ) (x : List ℕ). lastBytes (trailerLength k) x) (sym n) (page-only page o .0) ∙ trailer-in (pageValues page) ∙ ap trailer n
+
+-- ---- the two ranges
+
+pub page-as-before : Page-as-before
+unfolding pageOf trailer shortTrailer
+page-as-before l h = rw (le-leb (length l) shortMost h)
+
+pub page-longer : Page-longer
+unfolding pageOf trailer longTrailer
+page-longer l h = rw (lt-leb (length l) shortMost h)
+
+-- no page ends in both
+two-letters : shortLetters ≡ longLetters → ⊥
+two-letters e = omega (arith, ap (λ (l : List ℕ). getD l 3 0) e)
+
+pub page-range : Page-range
+page-range page o = by-range (λ t k. lastBytes k page ≡ t → Range) n short long (open-trails page o)
+  where
+    n : ℕ
+    n = countIn page
+
+    Range : Type 0
+    Range = (lastBytes 4 page ≡ shortLetters → n ≤ shortMost) × (lastBytes 4 page ≡ longLetters → (shortMost < n) × (n ≤ longMost))
+
+    short : n ≤ shortMost → lastBytes 16 page ≡ shortTrailer n → Range
+    short few e = ((λ _. few), λ h. absurd (two-letters (sym (short-letters n page e) ∙ h)))
+
+    long : shortMost < n → lastBytes 24 page ≡ longTrailer n → Range
+    long many e = ((λ h. absurd (two-letters (sym h ∙ long-letters n page e))), λ _. (many, rw (from-length n page) at (page-only page o .2)))
+
+-- what the earlier reader opens is an earlier page of its values
+earlier-only : (page : List ℕ) → earlierOpens page ≡ true → (page ≡ earlierPage (valuesFrom (earlierCount page) page)) × (earlierCount page ≤ shortMost)
+unfolding earlierOpens
+earlier-only page o = (same-eq page (earlierPage l) (and-right few (sameList page (earlierPage l)) (T-of o)), leb→le n shortMost (and-left few _ (T-of o)))
+  where
+    n : ℕ
+    n = earlierCount page
+
+    l : List ℕ
+    l = valuesFrom n page
+
+    few : Bool
+    few = leb n shortMost
+
+earlier-letters : (page : List ℕ) → earlierOpens page ≡ true → lastBytes 4 page ≡ shortLetters
+earlier-letters page o =
+    let l = valuesFrom (earlierCount page) page in
+    short-letters (length l) page (unfold shortTrailer in
+    ap (lastBytes 16) (earlier-only page o .0) ∙ last-at (valueBytes l) (summaries l) (shortTrailer (length l)) 16 refl)
+
+pub page-earlier : Page-earlier
+page-earlier page e = go (earlierOpens page) refl
+  where
+    go : (b : Bool) → earlierOpens page ≡ b → b ≡ false
+    go true o = absurd (two-letters (sym (earlier-letters page o) ∙ e))
+    go false o = refl
+
+pub page-both : Page-both
+unfolding opens
+page-both page o =
+    let n = earlierCount page in
+    let l = valuesFrom n page in
+    let (e, few) = earlier-only page o in
+    let same : pageOf l ≡ page = page-as-before l (rw (from-length n page) few) ∙ sym e in
+    let count = count-short page (earlier-letters page o) in
+    (rw (count, le-leb n longMost (omega (arith, few)), same) (same-refl page), ap (λ (k : ℕ). valuesFrom k page) count)
 
 -- ---- spans
 

@@ -26,6 +26,7 @@ use Rattle.totals_spec.specs.Promises.{Pages-agree, Page-opens, Page-bey
 use Rattle.totals_spec.specs.Promises.{Page-summarizes, Span-values, Page-span, Page-span-read, Page-empty, Page-span-refused-exactly}
 use Rattle.totals_spec.specs.Promises.{Page-span-numbers, Page-span-refused}
 use Rattle.totals_spec.specs.Promises.{Page-entry-refused-exactly, Page-entry-refused, Page-entry-read-back}
+use Rattle.totals_spec.specs.Promises.{Page-as-before, Page-longer, Page-range, Page-earlier, Page-both}
 use Rattle.totals_spec.proofs.Bits.{low-divides, low-set, size-none, size-one-less}
 use Rattle.totals_spec.proofs.Good.{good-terms, good-pairs}
 use Rattle.totals_spec.proofs.Valid.{digits-le}
@@ -373,6 +374,23 @@ page-entry-refused = refused-pages.page-entry-refused
 
 pub page-entry-read-back : Page-entry-read-back
 page-entry-read-back = refused-pages.page-entry-read-back
+
+-- ==== document 02, A.9: longer pages (Pages)
+
+pub page-as-before : Page-as-before
+page-as-before = pages.page-as-before
+
+pub page-longer : Page-longer
+page-longer = pages.page-longer
+
+pub page-range : Page-range
+page-range = pages.page-range
+
+pub page-earlier : Page-earlier
+page-earlier = pages.page-earlier
+
+pub page-both : Page-both
+page-both = pages.page-both
 
 -- ==== document 02, A.7: a named bias (Own)
 

@@ -345,7 +345,7 @@ tableExamples =
     -- 10: by the list of rows, and by that of columns; and of more rows than 6 allows cells, since they have none
     && tableStays 10 0 (7 ∷ []) (7 ∷ 7 ∷ 7 ∷ []) (tableAnswer binary16 (withRounding 0) 2 3 sixCells (7 ∷ []) (7 ∷ 7 ∷ 7 ∷ []))
     && tableStays 10 0 (7 ∷ 7 ∷ 7 ∷ []) (7 ∷ 7 ∷ []) (tableAnswer binary16 (withRounding 0) 2 3 sixCells (7 ∷ 7 ∷ 7 ∷ []) (7 ∷ 7 ∷ []))
-    && tableStays 10 0 (7 ∷ []) [] (tableAnswer binary16 (withRounding 0) 1048577 0 [] (7 ∷ []) [])
+    && tableStays 10 0 (7 ∷ []) [] (tableAnswer binary16 (withRounding 0) 268435457 0 [] (7 ∷ []) [])
     -- 7, with the place among all cells
     && tableStays 7 2 (7 ∷ 7 ∷ []) (7 ∷ 7 ∷ [])
     (tableAnswer binary16 (withRounding 0) 2 2 (0x3c00 ∷ 0 ∷ 0x10000 ∷ 0x20000 ∷ []) (7 ∷ 7 ∷ []) (7 ∷ 7 ∷ []))

@@ -132,7 +132,7 @@ BadCeiling z = NoFigure z ⊎ Below (figureWorth z) nothing
 abbrev pub NoPair : List ℕ → Type 0
 NoPair old = length old < 2
 
--- ---- 12: bytes that are not the page of any values, or of more than 1,048,576; 13: a span that starts above its end, or ends above the count
+-- ---- 12: bytes that are not the page of any values, or of more than 268,435,456; 13: a span that starts above its end, or ends above the count
 
 -- every value is a binary64 encoding
 abbrev pub AllWords : List ℕ → Type 0
@@ -140,7 +140,7 @@ AllWords [] = Unit {0}
 AllWords (x ∷ l) = (x < 2 ^ 64) × AllWords l
 
 abbrev pub NoPage : List ℕ → Type 0
-NoPage page = ¬ ((l : List ℕ) × AllWords l × (length l ≤ 1048576) × (page ≡ pageOf l))
+NoPage page = ¬ ((l : List ℕ) × AllWords l × (length l ≤ 268435456) × (page ≡ pageOf l))
 
 abbrev pub BadSpan : List ℕ → (start end : ℕ) → Type 0
 BadSpan page start end = (end < start) ⊎ (length (pageValues page) < end)

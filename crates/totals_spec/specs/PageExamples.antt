@@ -1,5 +1,5 @@
--- Examples of pages (document 02, A.8), as tests that the checker computes.
-use Prim.Native.Nat.{ℕ, _*_}
+-- Examples of pages (document 02, A.8 and A.9), as tests that the checker computes. A page that opens with a long trailer is too long to compute.
+use Prim.Native.Nat.{ℕ, _*_, _^_}
 use mathlib.Core.Bool.{Bool, not, _&&_}
 use mathlib.Core.List.{List, [], _∷_, _++_}
 use lib.Count.{trailingZeros}
@@ -21,8 +21,8 @@ use Rattle.totals_spec.specs.Limit.{lowBit, bottomOf, ceilDiv}
 use Rattle.totals_spec.specs.Totals.{Answer, special, sumRounded, reported, finiteTotal, withoutNan, accepted, sumRefusal, sumAccepted, sumAnswer}
 use Rattle.totals_spec.specs.Bytes.{written, entered}
 use Rattle.totals_spec.specs.Careers.{sameInt, refusedAs, enteredAs}
-use Rattle.totals_spec.specs.Pages.{extent, classOf, summary, summaries, trailer, pageOf, pageLength, countIn, opens}
-use Rattle.totals_spec.specs.Pages.{pageRefusal, pageAnswer, pageEntry, writeRefusal, pageWritten}
+use Rattle.totals_spec.specs.Pages.{extent, classOf, summary, summaries, shortTrailer, longTrailer, trailer, trailerLength, pageOf, pageLength}
+use Rattle.totals_spec.specs.Pages.{countIn, opens, pageRefusal, pageAnswer, pageEntry, writeRefusal, pageWritten}
 
 -- ---- pages, byte for byte
 
@@ -51,6 +51,10 @@ writtenPages =
     -- 64 zeros and 1: two groups
     && sameList (drop 520 (pageOf (replicate 64 0 ++ (0x3ff0000000000000 ∷ []))))
     (replicate 8 0 ++ (4 ∷ replicate 15 0 ++ (8 ∷ 2 ∷ 0 ∷ 0 ∷ 65 ∷ 0 ∷ 0 ∷ 0 ∷ 64 ∷ 0 ∷ 0 ∷ 0 ∷ 67 ∷ 80 ∷ 71 ∷ 49 ∷ [])))
+    -- the lengths on both sides of 1,048,576 values, and of 268,435,456
+    && eqb (pageLength 1048576) 8585232
+    && eqb (pageLength 1048577) 8585260
+    && eqb (pageLength 268435456) 2197815320
 
 -- ---- opening: the page of 3.0 opens; with one byte changed, cut off or added it does not
 
@@ -73,6 +77,11 @@ openedPages =
     && not (opens (set threePage 35 50))
     -- a count of 2^29
     && not (opens (0 ∷ 0 ∷ 0 ∷ 0 ∷ 0 ∷ 0 ∷ 0 ∷ 32 ∷ 64 ∷ 0 ∷ 0 ∷ 0 ∷ 67 ∷ 80 ∷ 71 ∷ 49 ∷ []))
+    -- the long trailer of one value, of none, and of 2^61, which are 0 bytes modulo 2^64; a short trailer in its length
+    && not (opens (take 20 threePage ++ longTrailer 1))
+    && not (opens (longTrailer 0))
+    && not (opens (longTrailer (2 ^ 61)))
+    && not (opens (take 20 threePage ++ (0 ∷ 0 ∷ 0 ∷ 0 ∷ 0 ∷ 0 ∷ 0 ∷ 0 ∷ shortTrailer 1)))
 
 -- ---- spans of 2^1000, 1
 
@@ -119,7 +128,8 @@ pageExamples = writtenPages && openedPages && spans && writes
 pub pages-agree : Holds pageExamples
 unfolding
     pageExamples threePage writtenPages openedPages twoPage spans writes
-    extent classOf summary summaries trailer pageOf pageLength countIn opens pageRefusal pageAnswer pageEntry writeRefusal pageWritten
+    extent classOf summary summaries shortTrailer longTrailer trailer trailerLength pageOf pageLength countIn opens
+    pageRefusal pageAnswer pageEntry writeRefusal pageWritten
     lowBit bottomOf ceilDiv trailingZeros written entered binary64 withRounding
     difference raised validFormat bias lift exponentRange depth origin fall grid rise validSettings precisionOf
     decode isSubnormal operand single product item plusSum minusSum topOf

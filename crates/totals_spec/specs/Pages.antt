@@ -1,5 +1,6 @@
--- Career pages (document 02, A.8), as bytes: the values, binary64, eight bytes each; right behind them a summary of each group of 64 values, of which the
--- last may have fewer; at the end a trailer. Numbers lie little end first. What opens is what would be written: the page of the values that it holds.
+-- Career pages (document 02, A.8 and A.9), as bytes: the values, binary64, eight bytes each; right behind them a summary of each group of 64 values, of which
+-- the last may have fewer; at the end a trailer, short or long by the number of values. Numbers lie little end first. What opens is what would be written:
+-- the page of the values that it holds.
 use Prim.Native.Nat.{ℕ, zero, suc, _+_, _-_, _*_, _^_}
 use mathlib.Core.Bool.{Bool, true, false, not, _&&_, _||_, cond}
 use mathlib.Core.List.{List, [], _∷_, _++_, map}
@@ -20,19 +21,19 @@ use Rattle.totals_spec.specs.Table.{filled}
 abbrev pub groupSize : ℕ
 groupSize = 64
 
--- CPG1
-abbrev pub letters : List ℕ
-letters = 67 ∷ 80 ∷ 71 ∷ 49 ∷ []
+-- CPG1 and CPG2
+abbrev pub shortLetters : List ℕ
+shortLetters = 67 ∷ 80 ∷ 71 ∷ 49 ∷ []
 
-abbrev pub trailerLength : ℕ
-trailerLength = 16
+abbrev pub longLetters : List ℕ
+longLetters = 67 ∷ 80 ∷ 71 ∷ 50 ∷ []
 
--- the most values that a trailer may count, and the most that are written
-abbrev pub countMost : ℕ
-countMost = 1048576
+-- the most values of a page with a short trailer, and with a long one, which has more
+abbrev pub shortMost : ℕ
+shortMost = 1048576
 
-abbrev pub pageMost : ℕ
-pageMost = limit
+abbrev pub longMost : ℕ
+longMost = limit
 
 -- ---- the summary of a group: three numbers of four bytes
 
@@ -75,27 +76,40 @@ unfoldable pub summaries : List ℕ → List ℕ
 summaries l = summariesFrom (groups (length l)) l
 
 -- where the summaries begin, how many values there are, the size of a group, and the letters
+unfoldable pub shortTrailer : ℕ → List ℕ
+shortTrailer n = toBytes 4 (8 * n) ++ (toBytes 4 n ++ (toBytes 4 groupSize ++ shortLetters))
+
+unfoldable pub longTrailer : ℕ → List ℕ
+longTrailer n = toBytes 8 (8 * n) ++ (toBytes 8 n ++ (toBytes 4 groupSize ++ longLetters))
+
 unfoldable pub trailer : ℕ → List ℕ
-trailer n = toBytes 4 (8 * n) ++ (toBytes 4 n ++ (toBytes 4 groupSize ++ letters))
+trailer n = cond (leb n shortMost) (shortTrailer n) (longTrailer n)
+
+unfoldable pub trailerLength : ℕ → ℕ
+trailerLength n = cond (leb n shortMost) 16 24
 
 -- THE PAGE of some values
 unfoldable pub pageOf : List ℕ → List ℕ
 pageOf l = valueBytes l ++ (summaries l ++ trailer (length l))
 
 unfoldable pub pageLength : ℕ → ℕ
-pageLength n = 8 * n + 12 * groups n + trailerLength
+pageLength n = 8 * n + 12 * groups n + trailerLength n
 
 -- ---- opening
 
--- the number of values, as the trailer has it
+abbrev pub lastBytes : ℕ → List ℕ → List ℕ
+lastBytes k page = drop (length page - k) page
+
+-- the number of values, as the trailer has it that the last letters name
 unfoldable pub countIn : List ℕ → ℕ
-countIn page = fromBytes (take 4 (drop 4 (drop (length page - trailerLength) page)))
+countIn page =
+    cond (sameList (lastBytes 4 page) longLetters) (fromBytes (take 8 (drop 8 (lastBytes 24 page)))) (fromBytes (take 4 (drop 4 (lastBytes 16 page))))
 
 abbrev pub pageValues : List ℕ → List ℕ
 pageValues page = valuesFrom (countIn page) page
 
 unfoldable pub opens : List ℕ → Bool
-opens page = leb (countIn page) countMost && sameList page (pageOf (pageValues page))
+opens page = leb (countIn page) longMost && sameList page (pageOf (pageValues page))
 
 -- ---- the total of a span: the values from the index `start` up to the index `end`, itself left out
 
@@ -124,7 +138,7 @@ pageEntry c u page start end old =
 unfoldable pub writeRefusal : (count room : ℕ) → ℕ
 writeRefusal n room =
     refuseIf (ltb room (pageLength n)) 2
-    (refuseIf (ltb pageMost n) 6 0)
+    (refuseIf (ltb longMost n) 6 0)
 
 -- THE WRITER of a page, and its entry: `old` is the destination before the call. An accepted call gives 256 times the page's length and leaves what lies
 -- beyond it; any other gives its refusal and leaves everything

@@ -2,15 +2,15 @@
 -- The contracts of the code say that its answers are what the definitions give.
 use mathlib.Core.Path.{_≡_}
 use mathlib.Core.Logic.{_≢_, _↔_, _⊎_}
-use mathlib.Core.Bool.{Bool, true, false, _||_, cond}
-use mathlib.Core.List.{List, [], _∷_, map}
+use mathlib.Core.Bool.{Bool, true, false, _&&_, _||_, cond}
+use mathlib.Core.List.{List, [], _∷_, _++_, map}
 use mathlib.Core.Option.{none, some}
 use Prim.Native.Nat.{ℕ, _+_, _*_, _-_, _/_, _%_, _^_, _≤_, _<_, max}
 use lib.ListN.{length, replicate, take, drop, getD}
 use lib.IntN.{ℤ, pos, subℕ}
-use lib.Dec.{T as Holds, ltb, eqb}
+use lib.Dec.{T as Holds, leb, ltb, eqb}
 use lib.Ieee.{size}
-use Rattle.totals_spec.specs.Basics.{any, flag}
+use Rattle.totals_spec.specs.Basics.{any, flag, sameList}
 use Rattle.totals_spec.specs.Format.{Format, Kind, ieee, noInf, fnuz, finiteOnly, kindOf, biasOf, binary64, validFormat, digits, origin, grid}
 use Rattle.totals_spec.specs.Settings.{Settings, withRounding, validSettings, noSettings, value, summandOf}
 use Rattle.totals_spec.specs.Decode.{Unpacked, zeroOf, finite, infinity, nan, decode, isNumber, isNan, isSubnormal}
@@ -20,7 +20,7 @@ use Rattle.totals_spec.specs.Chain.{Outcome, zeroSum, exactly, nearly, b
 use Rattle.totals_spec.specs.Round.{round}
 use Rattle.totals_spec.specs.Totals.{limit, Answer, refused, sumRounded, reported, onGrid, towardsNegative, zeroSign, finiteTotal, isSquare, pairs}
 use Rattle.totals_spec.specs.Totals.{sumRefusal, sumTerms, sumAnswer, dotRefusal, dotTerms, dotAnswer}
-use Rattle.totals_spec.specs.Bytes.{fromBytes, valuesIn, uneven, sumEntry, dotEntry}
+use Rattle.totals_spec.specs.Bytes.{fromBytes, toBytes, valuesFrom, valuesIn, uneven, sumEntry, dotEntry}
 use Rattle.totals_spec.specs.Rearranged.{AsOften, samePair, holdsNan}
 use Rattle.totals_spec.specs.Limit.{lowBit, bottomOf, mostPasses}
 use Rattle.totals_spec.specs.Side.{sideOf}
@@ -33,7 +33,8 @@ use Rattle.totals_spec.specs.Pence.{penceAnswer, sumFigure, sumPence}
 use Rattle.totals_spec.specs.Table.{columnOf, tableRefusal, tableAnswer}
 use Rattle.totals_spec.specs.Ranges.{entries, triples, lowOf, highOf, plusZero, refusedRange, rangeRefusal, rangeAnswer}
 use Rattle.totals_spec.specs.Allowed.{Encloses, Ordered, sameTriple}
-use Rattle.totals_spec.specs.Pages.{classOf, pageItems, summary, pageOf, pageValues, opens, spanOf, pageAnswer, pageEntry, pageWritten}
+use Rattle.totals_spec.specs.Pages.{classOf, pageItems, summary, valueBytes, summaries, pageOf, lastBytes, countIn, pageValues, opens}
+use Rattle.totals_spec.specs.Pages.{spanOf, pageAnswer, pageEntry, pageWritten}
 use Rattle.totals_spec.specs.Words.{formatBy, penceEntry, tableEntry, rangeEntry}
 use Rattle.totals_spec.specs.Hundredfold.{chainPence}
 use Rattle.totals_spec.specs.Careers.{careers, margins, allAgree, sideExamples, refusals, entryExample}
@@ -81,10 +82,10 @@ Examples-agree = Holds refusals × Holds entryExample × Holds penceExamples × 
 
 -- as many zeros as the limit allows are summed, and one more gets 6
 abbrev pub Zeros-accepted : Type 0
-Zeros-accepted = (n : ℕ) → n ≤ 1048576 → (sumAnswer binary64 (withRounding 0) 0 (replicate n 0)) .refusal ≡ 0
+Zeros-accepted = (n : ℕ) → n ≤ 268435456 → (sumAnswer binary64 (withRounding 0) 0 (replicate n 0)) .refusal ≡ 0
 
 abbrev pub Zeros-refused : Type 0
-Zeros-refused = (n : ℕ) → 1048576 < n → sumAnswer binary64 (withRounding 0) 0 (replicate n 0) ≡ refused 6 0
+Zeros-refused = (n : ℕ) → 268435456 < n → sumAnswer binary64 (withRounding 0) 0 (replicate n 0) ≡ refused 6 0
 
 -- ==== PROMISE 1: refusals
 
@@ -437,12 +438,12 @@ Range-order = (ts xs ys ts′ xs′ ys′ : List ℕ) (z : ℕ) → length ts′
     → AsOften sameTriple (triples ts xs ys) (triples ts′ xs′ ys′) → rangeRefusal ts xs ys z ≡ 0
     → (rangeRefusal ts′ xs′ ys′ z ≡ 0) × (rangeAnswer ts xs ys z ≡ rangeAnswer ts′ xs′ ys′ z)
 
--- ==== career pages (document 02, A.8)
+-- ==== career pages (document 02, A.8), of either trailer
 
--- a written page: with room and at most 1,048,576 values the writer accepts, answers the page's length and leaves the page in front of the destination; it
+-- a written page: with room and at most 268,435,456 values the writer accepts, answers the page's length and leaves the page in front of the destination; it
 -- opens, and holds what was written
 abbrev pub Page-opens : Type 0
-Page-opens = (l old : List ℕ) → AllWords l → length l ≤ 1048576 → length (pageOf l) ≤ length old
+Page-opens = (l old : List ℕ) → AllWords l → length l ≤ 268435456 → length (pageOf l) ≤ length old
     → let w = pageWritten l old in
     (w .code ≡ 256 * length (pageOf l)) × (take (length (pageOf l)) (w .buffer) ≡ pageOf l)
     × (opens (pageOf l) ≡ true) × (pageValues (pageOf l) ≡ l)
@@ -460,9 +461,11 @@ Page-refused-exactly = (l old : List ℕ) (n : ℕ) → (pageWritten l old) .cod
 abbrev pub Page-refused : Type 0
 Page-refused = (l old : List ℕ) → let w = pageWritten l old in w .code % 256 ≢ 0 → (w .code / 256 ≡ 0) × (w .buffer ≡ old)
 
--- 8 bytes a value, 12 a group of 64 values or fewer, and 16
+-- 8 bytes a value, 12 a group of 64 values or fewer, and 16 up to 1,048,576 values, 24 above
 abbrev pub Page-length : Type 0
-Page-length = (l : List ℕ) → length (pageOf l) ≡ 8 * length l + 12 * ((length l + 63) / 64) + 16
+Page-length = (l : List ℕ) → let n = length l in
+    (n ≤ 1048576 → length (pageOf l) ≡ 8 * n + 12 * ((n + 63) / 64) + 16)
+    × (1048576 < n → length (pageOf l) ≡ 8 * n + 12 * ((n + 63) / 64) + 24)
 
 -- the summary of each group stands behind all the values and the summaries of the groups before it
 abbrev pub Page-summary : Type 0
@@ -485,10 +488,10 @@ pub record Summarizes (ts : List Term) (class : ℕ) (s : List ℕ) : Type 0 whe
 abbrev pub Page-summarizes : Type 0
 Page-summarizes = (l : List ℕ) → Summarizes (sumTerms binary64 noSettings value l) (classOf (pageItems l)) (summary l)
 
--- a page that opens is the page of its values, at most 1,048,576 of them
+-- a page that opens is the page of its values, at most 268,435,456 of them
 abbrev pub Page-only : Type 0
 Page-only = (page : List ℕ) → opens page ≡ true
-    → (page ≡ pageOf (pageValues page)) × AllWords (pageValues page) × (length (pageValues page) ≤ 1048576)
+    → (page ≡ pageOf (pageValues page)) × AllWords (pageValues page) × (length (pageValues page) ≤ 268435456)
 
 -- a span has the values from `start` on, `end` less `start` of them
 abbrev pub Span-values : Type 0
@@ -497,7 +500,7 @@ Span-values = (start end : ℕ) (l : List ℕ) → start ≤ end → end ≤ len
 
 -- the total of a span, of a written page and of every page that opens, is that of the same values as a list of their own
 abbrev pub Page-span : Type 0
-Page-span = (c : Settings) (u : ℕ) (l : List ℕ) (start end : ℕ) → AllWords l → length l ≤ 1048576 → start ≤ end → end ≤ length l
+Page-span = (c : Settings) (u : ℕ) (l : List ℕ) (start end : ℕ) → AllWords l → length l ≤ 268435456 → start ≤ end → end ≤ length l
     → pageAnswer c u (pageOf l) start end ≡ sumAnswer binary64 c u (spanOf start end l)
 
 abbrev pub Page-span-read : Type 0
@@ -535,6 +538,46 @@ Page-entry-refused = (c : Settings) (u : ℕ) (page : List ℕ) (start end : ℕ
 abbrev pub Page-entry-read-back : Type 0
 Page-entry-read-back = (c : Settings) (u : ℕ) (page : List ℕ) (start end : ℕ) (old : List ℕ) → (pageEntry c u page start end old) .code ≡ 0
     → ReadsBack (sumAnswer binary64 c u (spanOf start end (pageValues page))) old ((pageEntry c u page start end old) .buffer)
+
+-- ==== longer pages (document 02, A.9)
+
+abbrev pub cpg1 : List ℕ
+cpg1 = 67 ∷ 80 ∷ 71 ∷ 49 ∷ []
+
+abbrev pub cpg2 : List ℕ
+cpg2 = 67 ∷ 80 ∷ 71 ∷ 50 ∷ []
+
+-- the page as it was before, and the reader that knows it alone
+abbrev pub earlierPage : List ℕ → List ℕ
+earlierPage l = valueBytes l ++ (summaries l ++ (toBytes 4 (8 * length l) ++ (toBytes 4 (length l) ++ (toBytes 4 64 ++ cpg1))))
+
+abbrev pub earlierCount : List ℕ → ℕ
+earlierCount page = fromBytes (take 4 (drop 4 (drop (length page - 16) page)))
+
+unfoldable pub earlierOpens : List ℕ → Bool
+earlierOpens page = leb (earlierCount page) 1048576 && sameList page (earlierPage (valuesFrom (earlierCount page) page))
+
+-- up to 1,048,576 values a page is written as before
+abbrev pub Page-as-before : Type 0
+Page-as-before = (l : List ℕ) → length l ≤ 1048576 → pageOf l ≡ earlierPage l
+
+-- a longer one has a trailer of 24 bytes
+abbrev pub Page-longer : Type 0
+Page-longer = (l : List ℕ) → 1048576 < length l
+    → pageOf l ≡ valueBytes l ++ (summaries l ++ (toBytes 8 (8 * length l) ++ (toBytes 8 (length l) ++ (toBytes 4 64 ++ cpg2))))
+
+-- a count outside the range of its own trailer opens nothing
+abbrev pub Page-range : Type 0
+Page-range = (page : List ℕ) → opens page ≡ true
+    → (lastBytes 4 page ≡ cpg1 → countIn page ≤ 1048576) × (lastBytes 4 page ≡ cpg2 → (1048576 < countIn page) × (countIn page ≤ 268435456))
+
+-- the earlier reader opens nothing that ends in CPG2
+abbrev pub Page-earlier : Type 0
+Page-earlier = (page : List ℕ) → lastBytes 4 page ≡ cpg2 → earlierOpens page ≡ false
+
+-- what it opens still opens, and holds the same values
+abbrev pub Page-both : Type 0
+Page-both = (page : List ℕ) → earlierOpens page ≡ true → (opens page ≡ true) × (pageValues page ≡ valuesFrom (earlierCount page) page)
 
 -- ==== PROMISE 3: the order
 
