@@ -1,24 +1,26 @@
--- A summary laid behind the values, and the whole page at the end.
-use mathlib.Core.Path.{_≡_, refl, sym, ap, _∙_, subst}
+-- A summary laid behind the values, a trailer behind the summaries, and the whole page at the end.
+use mathlib.Core.Path.{_≡_, refl, sym, ap, ap₂, _∙_, subst}
 use mathlib.Core.Bool.{true, false}
-use mathlib.Core.List.{List, [], _∷_, _++_}
+use mathlib.Core.List.{List, [], _∷_, _++_, append-assoc}
 use Prim.Native.Nat.{ℕ, suc, _+_, _*_, _≤_, _<_}
 use native.Mathlib.Omega.{arith}
 use lib.Dec.{ltb}
-use lib.ListN.{length, take, drop, getD, length-drop}
-use borrow.Author.Tests.{lt-ltb, le-ltb}
-use lib.Seq.{length-take-le, take-add, take-all, take-take, take-append-le, drop-append-seam, drop-drop}
+use lib.ListN.{length, take, drop, getD, length-append, length-drop, take-append-drop}
+use borrow.Author.Tests.{lt-ltb, le-ltb, le-leb, lt-leb}
+use lib.Seq.{length-take-le, take-at, take-add, take-take, take-append-le, drop-append-add, drop-append-seam, drop-drop}
 use Rattle.totals_spec.specs.Bytes.{toBytes, valuesFrom}
 use Rattle.totals_spec.specs.Conditions.{AllWords}
 use Rattle.totals_spec.specs.Limit.{ceilDiv}
-use Rattle.totals_spec.specs.Pages.{groupSize, groups, pageLength, pageOf, summaries, summary, trailer, pageWritten, writeRefusal}
+use Rattle.totals_spec.specs.Pages.{groupSize, shortMost, groups, pageLength, pageOf, summaries, summary, trailer, trailerLength, pageWritten, writeRefusal}
 use Rattle.totals_spec.specs.Table.{filled}
-use Rattle.totals_spec.proofs.PageParts.{AllBytes, from-front, value-bytes-back, page-filled, page-trailer, trailer-words}
-use Rattle.totals_spec.proofs.Pages.{page-size, page-summary, values-back}
+use Rattle.totals_spec.proofs.PageParts.{AllBytes, from-front, value-bytes-back, page-trailer, short-words, long-words}
+use Rattle.totals_spec.proofs.Pages.{trailer-length, page-size, page-summary, values-back}
 use Rattle.totals_spec.proofs.Values.{from-length}
+use Rattle.values.specs.Laid.{laid}
 use Rattle.page.specs.declared.Summary.{Summary}
-use Rattle.page.specs.Paged.{Fills, Summarized}
+use Rattle.page.specs.Paged.{shortEnding, longEnding, Fills, Summarized, laidOver}
 use Rattle.page.proofs.Filled.{fills-next}
+use Rattle.page.proofs.Opening.{trailer-least}
 
 -- the page of the values that stand in front has their bytes
 pub front-is : (n : ℕ) (old : List ℕ) → AllBytes old → 8 * n ≤ length old → take (8 * n) (pageOf (valuesFrom n old)) ≡ take (8 * n) old
@@ -48,7 +50,7 @@ module _ (n g : ℕ) (old now : List ℕ) (f : AllBytes old) (less : 64 * g < n)
   abbrev at : ℕ
   at = 8 * n + 12 * g
 
-  long : 8 * n + 12 * groups n + 16 ≡ length (pageOf values)
+  long : 8 * n + 12 * groups n + trailerLength n ≡ length (pageOf values)
   long = unfold pageLength in sym (page-size values ∙ ap pageLength (from-length n old))
 
   few : 12 * g + 12 ≤ 12 * groups n
@@ -85,7 +87,7 @@ module _ (n g : ℕ) (old now : List ℕ) (f : AllBytes old) (less : 64 * g < n)
 
       second : Fills (pageOf values) (at + 8 + 4) old (take (at + 8) one ++ (toBytes 8 (s .class) ++ drop (at + 8 + 8) one))
       second =
-          fills-next (pageOf values) old one (at + 8) (s .class) 4 first (omega (arith, room, few)) (omega (arith, long, few)) (omega arith)
+          fills-next (pageOf values) old one (at + 8) (s .class) 4 first (omega (arith, room, few)) (omega (arith, long, few, trailer-least n)) (omega arith)
           (last-four (s .extent) (s .class) (drop at (pageOf values)) behind bytes ∙ ap (take 4) (drop-drop 8 at (pageOf values)))
 
       place : at + 8 + 4 ≡ 8 * n + 12 * (g + 1)
@@ -103,29 +105,71 @@ module _ (l old : List ℕ) where
   unfolding pageWritten writeRefusal
   no-room-written e = rw e (refl, refl)
 
-  pub too-many-written : ltb (length old) (pageLength (length l)) ≡ false → 1048576 < length l
+  pub too-many-written : ltb (length old) (pageLength (length l)) ≡ false → 268435456 < length l
       → (6 ≡ (pageWritten l old) .code) × (old ≡ (pageWritten l old) .buffer)
   unfolding pageWritten writeRefusal
-  too-many-written e h = rw (e, lt-ltb 1048576 (length l) h) (refl, refl)
+  too-many-written e h = rw (e, lt-ltb 268435456 (length l) h) (refl, refl)
 
-  pub page-written : ltb (length old) (pageLength (length l)) ≡ false → length l ≤ 1048576 → (k : ℕ) (new : List ℕ) → k ≡ 256 * pageLength (length l)
+  pub page-written : ltb (length old) (pageLength (length l)) ≡ false → length l ≤ 268435456 → (k : ℕ) (new : List ℕ) → k ≡ 256 * pageLength (length l)
       → new ≡ filled (pageOf l) old → (k ≡ (pageWritten l old) .code) × (new ≡ (pageWritten l old) .buffer)
   unfolding pageWritten writeRefusal
-  page-written e h k new a b = rw (e, le-ltb 1048576 (length l) h) (a, b)
+  page-written e h k new a b = rw (e, le-ltb 268435456 (length l) h) (a, b)
+
+-- ---- a trailer, word by word
+
+-- one word more behind the bytes s that are laid
+laid-next : (l s : List ℕ) (at x : ℕ) → at + length s ≤ length l → laid (laidOver l at s) (at + length s) x ≡ laidOver l at (s ++ toBytes 8 x)
+laid-next l s at x h =
+    ap (λ (one : List ℕ). laid one k x) (sym (append-assoc (take at l) s rest))
+    ∙ ap₂ (λ (a b : List ℕ). a ++ (toBytes 8 x ++ b)) (take-at front rest k size) beyond
+    ∙ append-assoc (take at l) s (toBytes 8 x ++ drop (k + 8) l)
+    ∙ ap (λ (r : List ℕ). take at l ++ r) (sym (append-assoc s (toBytes 8 x) (drop (k + 8) l)) ∙ ap (λ (i : ℕ). (s ++ toBytes 8 x) ++ drop i l) place)
+  where
+    k : ℕ
+    k = at + length s
+
+    rest : List ℕ
+    rest = drop k l
+
+    front : List ℕ
+    front = take at l ++ s
+
+    size : length front ≡ k
+    size = omega (arith, length-append (take at l) s, length-take-le at l (omega (arith, h)))
+
+    beyond : drop (k + 8) (front ++ rest) ≡ drop (k + 8) l
+    beyond = ap (λ (i : ℕ). drop (i + 8) (front ++ rest)) (sym size) ∙ drop-append-add front rest 8 ∙ drop-drop 8 k l
+
+    place : k + 8 ≡ at + length (s ++ toBytes 8 x)
+    place = omega (arith, length-append s (toBytes 8 x))
+
+module _ (l : List ℕ) (at n : ℕ) where
+  pub short-laid : n ≤ shortMost → at + 16 ≤ length l → (one two : List ℕ) → one ≡ laid l at (8 * n + 4294967296 * n)
+      → two ≡ laid one (at + 8) shortEnding → two ≡ laidOver l at (trailer n)
+  unfolding trailer
+  short-laid few h one two a b =
+      let s = toBytes 8 (8 * n + 4294967296 * n) in
+      rw (le-leb n shortMost few)
+      (b ∙ ap (λ (x : List ℕ). laid x (at + 8) shortEnding) a ∙ laid-next l s at shortEnding (omega (arith, h))
+      ∙ ap (laidOver l at) (sym (short-words n few)))
+
+  pub long-laid : shortMost < n → at + 24 ≤ length l → (one two three : List ℕ) → one ≡ laid l at (8 * n) → two ≡ laid one (at + 8) n
+      → three ≡ laid two (at + 16) longEnding → three ≡ laidOver l at (trailer n)
+  unfolding trailer
+  long-laid many h one two three a b c =
+      let s = toBytes 8 (8 * n) in
+      rw (lt-leb n shortMost many)
+      (c ∙ ap (λ (x : List ℕ). laid x (at + 16) longEnding)
+      (b ∙ ap (λ (x : List ℕ). laid x (at + 8) n) a ∙ laid-next l s at n (omega (arith, h)))
+      ∙ laid-next l (s ++ toBytes 8 n) at longEnding (omega (arith, h)) ∙ ap (laidOver l at) (sym (long-words n)))
 
 -- values, summaries and trailer, laid one after another
-module _ (l old : List ℕ) (w : AllWords l) (few : length l ≤ 1048576) (g : ℕ) (e : g ≡ groups (length l)) (room : pageLength (length l) ≤ length old) where
+module _ (l old : List ℕ) (w : AllWords l) (g : ℕ) (e : g ≡ groups (length l)) where
   abbrev n : ℕ
   n = length l
 
   abbrev end : ℕ
   end = 8 * n + 12 * g
-
-  size : length (pageOf l) ≡ end + 16
-  size = unfold pageLength in page-size l ∙ ap (λ (k : ℕ). 8 * n + 12 * k + 16) (sym e)
-
-  wide : end + 16 ≤ length old
-  wide = omega (arith, size, page-size l, room)
 
   back : (one : List ℕ) → Fills (pageOf l) (8 * n) old one → valuesFrom n one ≡ l
   unfolding pageOf
@@ -133,34 +177,18 @@ module _ (l old : List ℕ) (w : AllWords l) (few : length l ≤ 1048576) (g : �
       sym (from-front n (8 * n) one (omega arith)) ∙ ap (valuesFrom n) (f .front) ∙ from-front n (8 * n) (pageOf l) (omega arith)
       ∙ values-back l (summaries l ++ trailer n) w
 
-  joined : (one two : List ℕ) → Fills (pageOf l) (8 * n) old one → Fills (pageOf l) end one two → Fills (pageOf l) end old two
-  joined one two f h = record { front = h .front; beyond = h .beyond ∙ f .beyond; long = h .long ∙ f .long }
-
-  trailing : drop end (pageOf l) ≡ toBytes 8 (8 * n + 4294967296 * n) ++ toBytes 8 3550895079897956416
-  trailing = ap (λ (k : ℕ). drop (8 * n + 12 * k) (pageOf l)) e ∙ page-trailer l ∙ trailer-words n few
-
-  pub whole-laid : (one two three four : List ℕ) → Fills (pageOf l) (8 * n) old one → Fills (pageOf (valuesFrom n one)) end one two
-      → three ≡ take end two ++ (toBytes 8 (8 * n + 4294967296 * n) ++ drop (end + 8) two)
-      → four ≡ take (end + 8) three ++ (toBytes 8 3550895079897956416 ++ drop (end + 8 + 8) three) → four ≡ filled (pageOf l) old
-  whole-laid one two three four f h a b =
-      page-filled four (pageOf l) old
-      (ap (λ (k : ℕ). take k four) place ∙ last .front ∙ ap (λ (k : ℕ). take k (pageOf l)) (sym place) ∙ take-all (length (pageOf l)) (pageOf l) (omega arith))
-      (last .beyond)
+  pub whole-laid : (one two three : List ℕ) → Fills (pageOf l) (8 * n) old one → Fills (pageOf (valuesFrom n one)) end one two
+      → three ≡ laidOver two end (trailer n) → three ≡ filled (pageOf l) old
+  whole-laid one two three f h a =
+      a ∙ ap₂ (λ (x y : List ℕ). x ++ y) (both .front) (ap₂ _++_ (sym trailing) (ap (λ (k : ℕ). drop k two) size ∙ both .beyond ∙ f .beyond))
+      ∙ sym (append-assoc (take end (pageOf l)) (drop end (pageOf l)) (drop (length (pageOf l)) old))
+      ∙ ap (λ (s : List ℕ). s ++ drop (length (pageOf l)) old) (take-append-drop end (pageOf l))
     where
-      place : length (pageOf l) ≡ end + 8 + 8
-      place = omega (arith, size)
+      both : Fills (pageOf l) end one two
+      both = subst (λ (v : List ℕ). Fills (pageOf v) end one two) (back one f) h
 
-      both : Fills (pageOf l) end old two
-      both = joined one two f (subst (λ (v : List ℕ). Fills (pageOf v) end one two) (back one f) h)
+      trailing : drop end (pageOf l) ≡ trailer n
+      trailing = ap (λ (k : ℕ). drop (8 * n + 12 * k) (pageOf l)) e ∙ page-trailer l
 
-      first : Fills (pageOf l) (end + 8) old three
-      first =
-          subst (Fills (pageOf l) (end + 8) old) (sym a)
-          (fills-next (pageOf l) old two end (8 * n + 4294967296 * n) 8 both (omega (arith, wide)) (omega (arith, size)) (omega arith)
-          (sym (ap (take 8) trailing)))
-
-      last : Fills (pageOf l) (end + 8 + 8) old four
-      last =
-          subst (Fills (pageOf l) (end + 8 + 8) old) (sym b)
-          (fills-next (pageOf l) old three (end + 8) 3550895079897956416 8 first (omega (arith, wide)) (omega (arith, size)) (omega arith)
-          (sym (ap (take 8) (sym (drop-drop 8 end (pageOf l)) ∙ ap (drop 8) trailing))))
+      size : end + length (trailer n) ≡ length (pageOf l)
+      size = unfold pageLength in omega (arith, page-size l, trailer-length n, e)

@@ -2,7 +2,7 @@
 use mathlib.Core.Path.{_≡_}
 use mathlib.Core.Bool.{Bool, true, false}
 use mathlib.Core.List.{List, _++_}
-use Prim.Native.Nat.{ℕ, _<_}
+use Prim.Native.Nat.{ℕ, _+_, _*_, _≤_, _<_}
 use lib.ListN.{length, take, drop}
 use Rattle.totals_spec.specs.Bytes.{toBytes}
 use Rattle.totals_spec.specs.Pages as spec
@@ -22,6 +22,29 @@ pub record Summarized (values : List ℕ) (s : Summary) : Type 0 where
   pub bytes : toBytes 8 (s .extent) ++ toBytes 4 (s .class) ≡ spec.summary values
   pub class-less : s .class < 8
 
+-- r is the number for which P holds, or there is none
+abbrev pub Counts : (ℕ → Type 0) → Opened → Type 0
+Counts P (Count n) = P n
+Counts P Nothing = (n : ℕ) → ¬ P n
+
+-- the last word of a trailer: 64, and above it the number of the letters CPG1 or CPG2
+abbrev pub shortEnding : ℕ
+shortEnding = 3550895079897956416
+
+abbrev pub longEnding : ℕ
+longEnding = 3622952673935884352
+
+-- the words before it, of the short trailer of n values, and of the long one
+abbrev pub ShortSizes : (sizes n : ℕ) → Type 0
+ShortSizes sizes n = (n ≤ spec.shortMost) × (sizes ≡ 8 * n + 4294967296 * n)
+
+abbrev pub LongSizes : (offset count n : ℕ) → Type 0
+LongSizes offset count n = (spec.shortMost < n) × (n ≤ spec.longMost) × (offset ≡ 8 * n) × (count ≡ n)
+
+-- a page ends in the trailer of n values
+abbrev pub Trails : List ℕ → ℕ → Type 0
+Trails page n = (n ≤ spec.longMost) × (spec.lastBytes (spec.trailerLength n) page ≡ spec.trailer n)
+
 abbrev pub Opens : List ℕ → Opened → Type 0
 Opens page (Count n) = (spec.opens page ≡ true) × (n ≡ spec.countIn page)
 Opens page Nothing = spec.opens page ≡ false
@@ -31,3 +54,7 @@ pub record Fills (page : List ℕ) (k : ℕ) (old new : List ℕ) : Type 0 where
   pub front : take k new ≡ take k page
   pub beyond : drop (length page) new ≡ drop (length page) old
   pub long : length new ≡ length old
+
+-- some bytes laid over others, from a place on
+abbrev pub laidOver : List ℕ → (at : ℕ) → List ℕ → List ℕ
+laidOver old at s = take at old ++ (s ++ drop (at + length s) old)

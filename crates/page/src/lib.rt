@@ -7,6 +7,7 @@ use format::env::flag;
 use limbs::word::either;
 use limbs::word::smaller;
 use scan::walk::scan;
+use values::LIMIT;
 use values::Source;
 use values::Walk;
 use values::put_word;
@@ -26,17 +27,21 @@ ghost use Rattle.totals_spec.specs.Settings as env;
 ghost use Rattle.totals_spec.specs.Pages as spec;
 ghost use Rattle.totals_spec.proofs.PageParts.{Stands};
 ghost use Rattle.format.specs.Joined.{formatOf, settingsOf};
-ghost use Rattle.page.specs.Paged.{Tells, AllStand, Summarized, Opens, Fills};
+ghost use Rattle.page.specs.Paged.{Tells, AllStand, Summarized, Counts, ShortSizes, LongSizes, Trails, Opens, Fills, laidOver};
 
 const GROUP: usize = 64;
 
-pub const TRAILER: usize = 16;
+// The lengths of the two trailers, and the most values of a page with the short one.
+const SHORT: usize = 16;
 
-// The most values that a trailer may count.
-const COUNT_MOST: u64 = 1048576;
+const LONG: usize = 24;
 
-// The trailer's second word: 64, and the letters CPG1 above it.
-const ENDING: u64 = 3550895079897956416;
+const SHORT_MOST: usize = 1048576;
+
+// The last word of a trailer: 64, and above it the letters CPG1 or CPG2.
+const SHORT_ENDING: u64 = 3550895079897956416;
+
+const LONG_ENDING: u64 = 3622952673935884352;
 
 const HALF: u64 = 4294967296;
 
@@ -151,7 +156,7 @@ fn group_summary(page: &[u8], n: usize, g: usize) -> Summary
 
 // Whether the summary of a group stands where it should. The trailer lies behind, so that two words can be read.
 fn stands(page: &[u8], n: usize, g: usize) -> bool
-    requires { ⌜ (64 * g < n) × (n ≤ 1048576) × (8 * n + 12 * g + 16 ≤ length (now page)) ⌝ }
+    requires { ⌜ (64 * g < n) × (n ≤ 268435456) × (8 * n + 12 * g + 16 ≤ length (now page)) ⌝ }
     ensures { λ r. ⌜ Tells r (Stands n (now (page .entry)) g) ⌝ }
 {
     let s = group_summary(page, n, g);
@@ -165,7 +170,7 @@ fn stands(page: &[u8], n: usize, g: usize) -> bool
 }
 
 fn all_stand(page: &[u8], n: usize, groups: usize) -> bool
-    requires { ⌜ (n ≤ 1048576) × (64 * groups < n + 64) × (8 * n + 12 * groups + 16 ≤ length (now page)) ⌝ }
+    requires { ⌜ (n ≤ 268435456) × (64 * groups < n + 64) × (8 * n + 12 * groups + 16 ≤ length (now page)) ⌝ }
     ensures { λ r. ⌜ Tells r (AllStand n (now (page .entry)) groups) ⌝ }
 {
     let mut g: usize = 0;
@@ -186,41 +191,89 @@ fn groups_of(n: usize) -> usize
     (n + 63) / GROUP
 }
 
-// The number of values of a page that opens.
+fn trailer_length(n: usize) -> usize
+    ensures { λ r. ⌜ r ≡ spec.trailerLength n ⌝ }
+{
+    if n > SHORT_MOST { LONG } else { SHORT }
+}
+
+// The number of values that a page or its trailer tells.
 pub enum Opened {
     Count(usize),
     Nothing,
 }
 
-pub fn open(page: &[u8]) -> Opened
-    ensures { λ r. ⌜ Opens (now (page .entry)) r ⌝ }
+// The number of values of a short trailer, by the word that has it above the offset.
+fn short_count(sizes: u64) -> Opened
+    ensures { λ r. ⌜ Counts (ShortSizes sizes) r ⌝ }
 {
-    let all = page.len();
-    if all < TRAILER {
-        return Opened::Nothing;
-    }
-    let at = all - TRAILER;
-    let next = at + 8;
-    let sizes = word_at(&page[at..next], 0);
     let count = sizes / HALF;
-    if count > COUNT_MOST {
+    if count > SHORT_MOST as u64 {
         return Opened::Nothing;
     }
     if sizes % HALF != 8 * count {
         return Opened::Nothing;
     }
-    if word_at(&page[next..all], 0) != ENDING {
+    Opened::Count(count as usize)
+}
+
+// The same of a long one, by the words that it has for both.
+fn long_count(offset: u64, count: u64) -> Opened
+    ensures { λ r. ⌜ Counts (LongSizes offset count) r ⌝ }
+{
+    if count <= SHORT_MOST as u64 {
         return Opened::Nothing;
     }
-    let n = count as usize;
-    let groups = groups_of(n);
-    if at != 8 * n + 12 * groups {
+    if count > LIMIT as u64 {
         return Opened::Nothing;
     }
-    if !all_stand(page, n, groups) {
+    if offset != 8 * count {
         return Opened::Nothing;
     }
-    Opened::Count(n)
+    Opened::Count(count as usize)
+}
+
+// The number of values whose trailer a page ends in.
+fn counted(page: &[u8]) -> Opened
+    ensures { λ r. ⌜ Counts (Trails (now (page .entry))) r ⌝ }
+{
+    let all = page.len();
+    if all < SHORT {
+        return Opened::Nothing;
+    }
+    let end = all - 8;
+    let middle = all - 16;
+    let ending = word_at(&page[end..all], 0);
+    let sizes = word_at(&page[middle..end], 0);
+    if ending == SHORT_ENDING {
+        return short_count(sizes);
+    }
+    if ending != LONG_ENDING {
+        return Opened::Nothing;
+    }
+    if all < LONG {
+        return Opened::Nothing;
+    }
+    let at = all - LONG;
+    long_count(word_at(&page[at..middle], 0), sizes)
+}
+
+pub fn open(page: &[u8]) -> Opened
+    ensures { λ r. ⌜ Opens (now (page .entry)) r ⌝ }
+{
+    match counted(page) {
+        Opened::Nothing => Opened::Nothing,
+        Opened::Count(n) => {
+            let groups = groups_of(n);
+            if page.len() != 8 * n + 12 * groups + trailer_length(n) {
+                return Opened::Nothing;
+            }
+            if !all_stand(page, n, groups) {
+                return Opened::Nothing;
+            }
+            Opened::Count(n)
+        }
+    }
 }
 
 // Whether a page of n values has no room.
@@ -231,7 +284,7 @@ fn no_room(n: usize, room: usize) -> bool
         return true;
     }
     let rest = room - 8 * n;
-    rest < 12 * groups_of(n) + TRAILER
+    rest < 12 * groups_of(n) + trailer_length(n)
 }
 
 fn write_values(values: &[u64], page: &mut [u8])
@@ -250,7 +303,7 @@ fn write_values(values: &[u64], page: &mut [u8])
 
 // A class is laid as a whole word: the summary or the trailer behind it is laid after it.
 fn write_summaries(n: usize, groups: usize, page: &mut [u8])
-    requires { ⌜ (n ≤ 1048576) × (groups ≡ spec.groups n) × (8 * n + 12 * groups + 16 ≤ length (now page)) ⌝ }
+    requires { ⌜ (n ≤ 268435456) × (groups ≡ spec.groups n) × (8 * n + 12 * groups + 16 ≤ length (now page)) ⌝ }
     ensures { λ _. ⌜ Fills (spec.pageOf (valuesFrom n (now (page .entry)))) (8 * n + 12 * groups) (now (page .entry)) (now (page .exit)) ⌝ }
 {
     let mut g: usize = 0;
@@ -264,6 +317,21 @@ fn write_summaries(n: usize, groups: usize, page: &mut [u8])
     }
 }
 
+fn write_trailer(n: usize, page: &mut [u8], at: usize)
+    requires { ⌜ (n ≤ 268435456) × (at + spec.trailerLength n ≤ length (now page)) ⌝ }
+    ensures { λ _. ⌜ now (page .exit) ≡ laidOver (now (page .entry)) at (spec.trailer n) ⌝ }
+{
+    let count = n as u64;
+    if n > SHORT_MOST {
+        put_word(page, at, 8 * count);
+        put_word(page, at + 8, count);
+        put_word(page, at + 16, LONG_ENDING);
+    } else {
+        put_word(page, at, 8 * count + HALF * count);
+        put_word(page, at + 8, SHORT_ENDING);
+    }
+}
+
 pub fn write(values: &[u64], page: &mut [u8]) -> u64
     ensures { λ r. ⌜ (r ≡ (spec.pageWritten (now (values .entry)) (now (page .entry))) .code) × (now (page .exit) ≡ (spec.pageWritten (now (values .entry)) (now (page .entry))) .buffer) ⌝ }
 {
@@ -271,15 +339,13 @@ pub fn write(values: &[u64], page: &mut [u8]) -> u64
     if no_room(n, page.len()) {
         return 2;
     }
-    if n as u64 > COUNT_MOST {
+    if n > LIMIT {
         return 6;
     }
     let groups = groups_of(n);
     write_values(values, page);
     write_summaries(n, groups, page);
     let at = 8 * n + 12 * groups;
-    let count = n as u64;
-    put_word(page, at, 8 * count + HALF * count);
-    put_word(page, at + 8, ENDING);
-    256 * (at as u64 + 16)
+    write_trailer(n, page, at);
+    256 * ((at + trailer_length(n)) as u64)
 }

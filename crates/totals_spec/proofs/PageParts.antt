@@ -14,7 +14,6 @@ use Rattle.totals_spec.specs.Bytes.{fromBytes, toBytes, valuesFrom, valu
 use Rattle.totals_spec.specs.Format.{binary64, bias, depth, origin}
 use Rattle.totals_spec.specs.Limit.{bottomOf, ceilDiv}
 use Rattle.totals_spec.specs.Terms.{Term, terms, topOf}
-use Rattle.totals_spec.specs.Table.{filled}
 use Rattle.totals_spec.specs.Pages.{groupSize, shortMost, longMost, positionBytes, extent, classOf, pageItems, summary, groups, valueBytes}
 use Rattle.totals_spec.specs.Pages.{summariesFrom, summaries, shortTrailer, longTrailer, trailer, trailerLength}
 use Rattle.totals_spec.specs.Pages.{pageOf, pageLength, lastBytes, countIn, pageValues, opens, spanOf}
@@ -274,10 +273,6 @@ module _ (now page : List ℕ) (k x : ℕ) (room : k + 8 ≤ length now) where
 
       whole : k + 8 + (size - (k + 8)) ≡ size
       whole = omega arith
-
--- and when all of it is there
-pub page-filled : (now page old : List ℕ) → take (length page) now ≡ page → drop (length page) now ≡ drop (length page) old → now ≡ filled page old
-page-filled now page old e h = sym (take-append-drop (length page) now) ∙ ap₂ _++_ e h
 
 -- ---- the words of a page
 

@@ -44,6 +44,9 @@ pub fn put_word(buffer: &mut [u8], at: usize, x: u64)
     }
 }
 
+// The most elements of a list, or pairs of a dot (totals_spec, `limit`): refusal 6.
+pub const LIMIT: usize = 268435456;
+
 // Where the elements of a list stand: `count` of them, every `step`-th value from the value `start` on, among words (layout 0) or among values in
 // bytes.
 pub struct Source {

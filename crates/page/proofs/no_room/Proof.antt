@@ -7,6 +7,7 @@ use borrow.Author.Tests.{lt-ltb}
 use Rattle.totals_spec.specs.Limit.{ceilDiv}
 use Rattle.totals_spec.specs.Pages.{pageLength}
 use Rattle.page.proofs.Numbers.{same-test}
+use Rattle.page.proofs.Opening.{trailer-most}
 use Rattle.page.proofs.no_room.Statement.{statement}
 use Rattle.page.proofs.no_room.Tie as tie
 
@@ -20,16 +21,20 @@ mul-result c = omega (arith, c .groups-of .ensures)
 
 add-result : tie.Need-add-result
 unfolding ceilDiv
-add-result c = omega (arith, c .groups-of .ensures)
+add-result c =
+    let g = c .before in
+    omega (arith, g .groups-of .ensures, c .trailer-length .ensures, trailer-most (g .before .before .args .n))
 
 returns-2 : tie.Need-returns-2
 unfolding pageLength ceilDiv
 returns-2 c =
-    let a = c .before .before .args in
-    let g = c .groups-of in
-    same-test (a .room - 8 * a .n) (12 * g .result + 16) (a .room) (pageLength (a .n))
-    (λ h. omega (arith, h, g .ensures)) (λ h. omega (arith, h, g .ensures))
+    let a = c .before .before .before .args in
+    let g = c .before .groups-of in
+    let t = c .trailer-length in
+    same-test (a .room - 8 * a .n) (12 * g .result + t .result) (a .room) (pageLength (a .n))
+    (λ h. omega (arith, h, g .ensures, t .ensures)) (λ h. omega (arith, h, g .ensures, t .ensures))
 
 pub no-room-spec : {M : Type 1} → statement M
 no-room-spec =
-    tie.close (tie.spec returns (λ c. search needs) (λ c. search needs) (λ c κs. search needs) mul-result add-result returns-2)
+    tie.close
+    (tie.spec returns (λ c. search needs) (λ c. search needs) (λ c κs. search needs) mul-result (λ c κs. search needs) add-result returns-2)

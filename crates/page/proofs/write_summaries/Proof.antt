@@ -37,7 +37,7 @@ room t =
     let l = t .before .loop in
     omega (arith, t .loop-test .taken, start t .pre .2, l .inv .1, l .inv .2 .long)
 
-few : (t : tie.In-loop Inv-loop μ-loop) → t .before .loop .at ≤ 20971520
+few : (t : tie.In-loop Inv-loop μ-loop) → t .before .loop .at ≤ 4294967296
 unfolding ceilDiv
 few t =
     let p = start t .pre in

@@ -8,6 +8,7 @@ use lib.ListN.{length}
 use Rattle.totals_spec.specs.Pages.{pageOf, pageLength}
 use Rattle.page.specs.Paged.{Fills}
 use Rattle.page.proofs.Filled.{value-laid}
+use Rattle.page.proofs.Opening.{trailer-least}
 use Rattle.page.proofs.write_values.Statement.{statement}
 use Rattle.page.proofs.write_values.Tie as tie
 
@@ -23,7 +24,7 @@ start t = let b = t .before .before in b .before .before
 -- in a turn there is room for the value
 there : (t : tie.In-loop Inv-loop μ-loop) → 8 * t .before .loop .i + 24 ≤ length (start t .args .page .now)
 unfolding pageLength
-there t = omega (arith, t .loop-test .taken, start t .pre)
+there t = omega (arith, t .loop-test .taken, start t .pre, trailer-least (length (start t .args .values .now)))
 
 loop-holds : tie.Need-loop-holds Inv-loop μ-loop
 loop-holds c = (search needs, refl, record { front = refl; beyond = refl; long = refl })
