@@ -30,7 +30,7 @@ module _ (page : List ℕ) (r : Opened) (told : Opens page r) where
   pub opens-nothing : r ≡ Nothing → opens page ≡ false
   opens-nothing is = subst (Opens page) is told
 
-pub count-few : (page : List ℕ) → opens page ≡ true → countIn page ≤ 1048576
+pub count-few : (page : List ℕ) → opens page ≡ true → countIn page ≤ 268435456
 count-few page o = open-parts page o .few
 
 pub count-long : (page : List ℕ) → opens page ≡ true → 8 * countIn page ≤ length page

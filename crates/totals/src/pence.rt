@@ -1,7 +1,6 @@
 // Pence: a hundred times a number, rounded to an integer, half a penny away from zero. Of the number that an encoding stands for, and of the exact sum of
 // a list.
 use crate::lists;
-use crate::refusal::LIMIT;
 use crate::stray::greatest;
 use binary::decode;
 use exact::Unrounded;
@@ -19,6 +18,7 @@ use format::valid_format;
 use limbs::pair;
 use limbs::word::scaled;
 use limbs::word::widening_mul;
+use values::LIMIT;
 use window::ExactSum;
 use window::Outcome;
 ghost use mathlib.Core.Path.{_≡_};

@@ -1,9 +1,9 @@
 // The lower and the upper total of amounts known within a range.
 use crate::lists;
-use crate::refusal::LIMIT;
 use format::Format;
 use format::Named;
 use format::env::Settings;
+use values::LIMIT;
 ghost use mathlib.Core.Path.{_≡_};
 ghost use mathlib.Core.Bool.{not, false};
 ghost use Prim.Native.Nat.{_<_, _≤_};

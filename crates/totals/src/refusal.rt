@@ -3,12 +3,10 @@ use format::Format;
 use format::env::Settings;
 use format::env::valid_settings;
 use format::valid_format;
+use values::LIMIT;
 ghost use mathlib.Core.Path.{_≡_};
 ghost use Rattle.format.specs.Joined.{formatOf, settingsOf};
 ghost use Rattle.totals.specs.Refusal.{sumNumbers, dotNumbers};
-
-// The most elements of a list, or pairs of a dot (totals_spec, `limit`): refusal 6.
-pub const LIMIT: usize = 1048576;
 
 // The refusal of a sum that does not look at its elements: 3, 4, 6, or 0.
 pub fn sum_refusal(f: Format, c: Settings, u: u64, n: usize) -> u64
