@@ -1,5 +1,5 @@
 """What document 01 says of a total, and document 02 of which way its result leans, of a named bias, of a list's pence, of a table, of amounts known
-within a range and of career pages, in whole numbers of any length.
+within a range, of career pages and of the most elements of a list, in whole numbers of any length.
 
 Written from the text of document 01, and from the Rust's where document 01
 names a function of it (the choice among NaNs, overflow, the largest number).
@@ -22,7 +22,7 @@ INVALID, OVERFLOW, UNDERFLOW, INEXACT, TINY, RAISED, SUBNORMAL = 1, 4, 8, 16, 32
 SETTINGS = ('rounding', 'tininess', 'nan', 'negative', 'flush', 'daz', 'saturate', 'precision')
 RANGES = (8, 2, 4, 2, 2, 2, 2)
 PLAIN = dict.fromkeys(SETTINGS, 0)
-LIMIT = 1048576
+LIMIT = 268435456
 LARGEST_PENCE = 9223372036854775807
 LARGEST_BIAS = 268435456
 

@@ -1,4 +1,4 @@
-// Refusal 6, by the number of elements alone: a list of more than 1,048,576 does not fit a program's stack, so the refusals are asked with its
+// Refusal 6, by the number of elements alone: a list of more than 268,435,456 does not fit a program's stack, so the refusals are asked with its
 // length. A caller of the archive hands over such lists (bindings/rust).
 use format::Format;
 use format::Named;
@@ -55,28 +55,28 @@ fn dot_agrees(kind: u64, rounding: u64, n: usize, m: usize, number: u64) -> u64
 fn of_sums() -> u64
     ensures { λ r. ⌜ r ≤ 6 ⌝ }
 {
-    let mut agreed = sum_agrees(0, 0, 0, 1048576, 0);
-    agreed += sum_agrees(0, 0, 0, 1048577, 6);
+    let mut agreed = sum_agrees(0, 0, 0, 268435456, 0);
+    agreed += sum_agrees(0, 0, 0, 268435457, 6);
     agreed += sum_agrees(0, 0, 2, 18446744073709551615, 6);
-    agreed += sum_agrees(0, 0, 3, 1048577, 4);
-    agreed += sum_agrees(0, 8, 0, 1048577, 4);
-    agreed += sum_agrees(4, 0, 0, 1048577, 3);
+    agreed += sum_agrees(0, 0, 3, 268435457, 4);
+    agreed += sum_agrees(0, 8, 0, 268435457, 4);
+    agreed += sum_agrees(4, 0, 0, 268435457, 3);
     agreed
 }
 
 fn of_dots() -> u64
     ensures { λ r. ⌜ r ≤ 6 ⌝ }
 {
-    let mut agreed = dot_agrees(0, 0, 1048576, 1048576, 0);
-    agreed += dot_agrees(0, 0, 1048577, 1048577, 6);
-    agreed += dot_agrees(0, 0, 1048577, 1048576, 5);
-    agreed += dot_agrees(0, 0, 1048577, 1048578, 5);
-    agreed += dot_agrees(0, 8, 1048577, 1048577, 4);
-    agreed += dot_agrees(4, 0, 1048577, 1048577, 3);
+    let mut agreed = dot_agrees(0, 0, 268435456, 268435456, 0);
+    agreed += dot_agrees(0, 0, 268435457, 268435457, 6);
+    agreed += dot_agrees(0, 0, 268435457, 268435456, 5);
+    agreed += dot_agrees(0, 0, 268435457, 268435458, 5);
+    agreed += dot_agrees(0, 8, 268435457, 268435457, 4);
+    agreed += dot_agrees(4, 0, 268435457, 268435457, 3);
     agreed
 }
 
-// How many of twelve answers are document 01's.
+// How many of twelve answers are those of document 01, with the limit of document 02.
 pub fn counts() -> u64
     ensures { λ r. ⌜ r ≤ 12 ⌝ }
 {
