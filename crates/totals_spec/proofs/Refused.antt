@@ -180,7 +180,7 @@ pub small-place : (n at : ℕ) → (n ≢ 7 → at ≡ 0) → (n ≡ 7 → at < 
 small-place n at other is = go (eqb n 7) (eqb→eq n 7) (λ e. T-of (eq-eqb n 7 e))
   where
     go : (b : Bool) → (T b → n ≡ 7) → (n ≡ 7 → T b) → at < 4294967296
-    go true e k = let h : at < 268435456 = is (e tt) in omega arith
+    go true e k = omega (arith, is (e tt))
     go false e k = omega (arith, other k)
 
 pub sum-small : (f : Format) (c : Settings) (u : ℕ) (l : List ℕ) → Small (sumAnswer f c u l)

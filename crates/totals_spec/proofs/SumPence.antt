@@ -120,7 +120,7 @@ sum-pence-place f l =
     (λ t s. inside (nltb→le limit (length l) t) (first-stray f l s .inside))
   where
     inside : {n i : ℕ} → n ≤ limit → i < n → i < 4294967296
-    inside {n} h k = let g : n ≤ 268435456 = h in omega arith
+    inside h k = omega (arith, h, k)
 
 pub pence-entry-refused : Pence-entry-refused
 unfolding penceEntry
