@@ -117,7 +117,8 @@ returns-3 : tie.Need-returns-3
 unfolding pageLength
 returns-3 c =
     let w = laid c in
-    let s = w .before .before .before .before in
+    let b = w .before .before in
+    let s = b .before .before in
     let v = valued (s .before) in
     let t = last c in
     let r = t .before .before .before in
