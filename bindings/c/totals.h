@@ -169,8 +169,8 @@ enum {
     TOTALS_NO_COMPARISON = 3 /* there is nothing to compare: a NaN, or an infinity */
 };
 
-/* The most elements of a list, pairs of a dot, cells of a table, entries of a range, or values of a page. */
-#define TOTALS_MOST_ELEMENTS 1048576
+/* The most elements of a list, pairs of a dot, cells of a table, entries of a range, or values of a page. An int cannot hold their bytes. */
+#define TOTALS_MOST_ELEMENTS 268435456
 
 /*
  * Refusals: in a record, or what TOTALS_REFUSAL makes of the number that a call returned. The lowest that holds is given, but that of
@@ -185,14 +185,14 @@ enum {
                                         or a named bias outside -268,435,456..268,435,456 */
     TOTALS_SETTING_OUT_OF_RANGE = 4, /* a setting or the summand out of its range */
     TOTALS_DIFFERENT_LENGTHS = 5,    /* dot, range: the lists differ in length */
-    TOTALS_TOO_MANY_ELEMENTS = 6,    /* over 1,048,576 elements (of a dot: pairs; of a table: cells; of a range: entries; of a page: values) */
+    TOTALS_TOO_MANY_ELEMENTS = 6,    /* over 268,435,456 elements (of a dot: pairs; of a table: cells; of a range: entries; of a page: values) */
     TOTALS_STRAY_BIT = 7,            /* an element is 2^width or more */
     TOTALS_NO_PENCE = 8,             /* pence: a NaN or an infinity in the list, or a figure of magnitude 2^63 or more */
     TOTALS_BAD_SHAPE = 9,            /* table: rows times columns, as whole numbers, is not the number of cells */
     TOTALS_NO_ROOM = 10,             /* table: a list of totals is shorter than there are rows, or columns */
     TOTALS_BAD_AMOUNT = 11,          /* range: a tag above 2, a used figure not finite, a low above its high, or a ceiling that is
                                         not finite or is below zero, even where no entry is missing */
-    TOTALS_NOT_A_PAGE = 12,          /* page: the bytes are not the page of the values in them, or have over 1,048,576 of these */
+    TOTALS_NOT_A_PAGE = 12,          /* page: the bytes are not the page of the values in them, or have over 268,435,456 of these */
     TOTALS_BAD_SPAN = 13,            /* page: the span starts above its end, or ends above the number of values */
     TOTALS_NO_LIST = 254,            /* this and the next from the inline functions alone: NULL for a list that is not empty */
     TOTALS_NO_MEMORY = 255           /* a long list of float, or of the figures of a range, could not be copied */
@@ -352,10 +352,12 @@ uint64_t totals_range(const uint64_t *tags, size_t tag_count,
  *                   lowest set bit of the values that are finite and not zero, as signed numbers of four bytes, both 0 where there is
  *                   no such value (a bit worth 2^k has position k); a byte that is the sum of 1 where a value is a NaN, 2 where one is
  *                   an infinity, 4 where one is a zero; and three zero bytes
- *   the trailer     four bytes each: where the summaries begin, the number of values, 64, and the letters CPG1
+ *   the trailer     where the summaries begin, the number of values, 64, and the letters CPG1, four bytes each; of more than 1,048,576
+ *                   values the first two take eight bytes each, and the letters are CPG2
  *
  * Bytes open where they are the page of the values in them, to the last bit, and these are at most TOTALS_MOST_ELEMENTS. What
- * totals_page_write writes opens. Every call looks at the whole page, whatever span is asked for.
+ * totals_page_write writes opens. Every call looks at the whole page, whatever span is asked for. A reader from before there was CPG2 takes
+ * a page with these letters for TOTALS_NOT_A_PAGE.
  *
  * The total of a span, the values from the index start up to the index end, itself left out, is what totals_sum gives for these values as
  * a list of their own. An empty span has +0, toward negative too.
@@ -465,14 +467,14 @@ static inline const char *totals_strerror(uint64_t refusal)
     case TOTALS_NO_SUCH_FORMAT: return "there is no such format, or the bias that it names is out of its range";
     case TOTALS_SETTING_OUT_OF_RANGE: return "a setting or the summand is out of its range";
     case TOTALS_DIFFERENT_LENGTHS: return "the lists differ in length";
-    case TOTALS_TOO_MANY_ELEMENTS: return "there are more than 1,048,576 elements";
+    case TOTALS_TOO_MANY_ELEMENTS: return "there are more than 268,435,456 elements";
     case TOTALS_STRAY_BIT: return "an element does not fit the format's width";
     case TOTALS_NO_PENCE: return "the list holds a NaN or an infinity, or its sum is 2^63 pence or more, of either sign";
     case TOTALS_BAD_SHAPE: return "rows times columns is not the number of cells";
     case TOTALS_NO_ROOM: return "there is no room for the total of each row and column";
     case TOTALS_BAD_AMOUNT:
         return "a tag is above 2, a figure is not finite, a low is above its high, or the ceiling is not finite or below zero";
-    case TOTALS_NOT_A_PAGE: return "the bytes are not the page of the values in them, or have more than 1,048,576 of these";
+    case TOTALS_NOT_A_PAGE: return "the bytes are not the page of the values in them, or have more than 268,435,456 of these";
     case TOTALS_BAD_SPAN: return "the span starts above its end, or ends above the number of values";
     case TOTALS_NO_LIST: return "the list or the page is NULL, and its length is not 0";
     case TOTALS_NO_MEMORY: return "there is no memory for a copy of the list";
@@ -491,6 +493,8 @@ static inline const char *totals_strerror(uint64_t refusal)
 
 /* Names that end in _ are the header's own. */
 #define TOTALS_ROOM_ 512
+/* The most values of a page whose trailer has 16 bytes. */
+#define TOTALS_MOST_IN_SHORT_ 1048576
 
 typedef struct totals_list_ {
     const void *values;
@@ -804,14 +808,17 @@ static inline totals_range_record totals_take_range_(uint64_t code, const uint64
 /* The bytes of a page behind its `count` values; of more than a page can have too, and never more than a size_t holds. */
 static inline size_t totals_behind_values_(size_t count)
 {
-    const size_t group = 64, summary = 12, trailer = 16;
+    const size_t group = 64, summary = 12, trailer = count > TOTALS_MOST_IN_SHORT_ ? 24 : 16;
     return summary * (count / group + (count % group != 0)) + trailer;
 }
 
-/* The number of values of a page that opens, as its trailer has it. */
+/* The number of values of a page that opens, as the trailer has it that the last letter names. */
 static inline size_t totals_counted_(const uint8_t *page, size_t size)
 {
     const uint8_t *count = page + size - 12;
+    if (page[size - 1] == '2') {
+        return (size_t)totals_get_(page + size - 16);
+    }
     return count[0] | (size_t)count[1] << 8 | (size_t)count[2] << 16 | (size_t)count[3] << 24;
 }
 
@@ -860,7 +867,7 @@ static inline totals_float_record totals_of_floats_(uint64_t summand, int pairs,
 /*
  * The totals of `count` elements: of the values, of their magnitudes, of their squares; and of the products of pairs. A list may
  * be NULL where its count is 0, and settings NULL for TOTALS_SETTINGS_INIT. A list of double is read where it lies; one of float
- * is copied, eight bytes an element.
+ * is copied, eight bytes an element: up to 2 GiB.
  */
 static inline totals_double_record totals_sum_double(const double *values, size_t count, const totals_settings *settings)
 {
@@ -970,8 +977,8 @@ static inline totals_record totals_table_words(totals_format format, const uint6
 
 /*
  * The lower and the upper total of entries, as totals_range has them. A list may be NULL where its count is 0. Of double both lists of
- * figures are only read, and may be one: they are copied, eight bytes a figure. Words are lent where they lie, so an accepted call leaves
- * the lows in first and the highs in second.
+ * figures are only read, and may be one: they are copied, eight bytes a figure, up to 4 GiB. Words are lent where they lie, so an accepted
+ * call leaves the lows in first and the highs in second.
  */
 static inline totals_range_record totals_range_double(const uint64_t *tags, size_t tag_count, const double *first, size_t first_count,
                                                       const double *second, size_t second_count, double ceiling)
