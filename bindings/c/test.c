@@ -1,8 +1,12 @@
 /* Every function with good, refused and empty input, as a caller in C or C++ meets them. */
+#ifndef _GNU_SOURCE
+#define _GNU_SOURCE /* MAP_ANONYMOUS; C++ has it already */
+#endif
 #include <inttypes.h>
 #include <stdio.h>
 #include <stdlib.h>
 #include <string.h>
+#include <sys/mman.h>
 
 /* Memory that can run out, and is counted. */
 static int has_memory = 1;
@@ -29,6 +33,8 @@ static void given_back(void *pointer)
 
 #define UNTOUCHED 0xa5
 #define ROOM 40
+/* A long list of these tests, longer than a page with a short trailer. One as long as may be is summed in rows.c. */
+#define LONG 1048577
 
 static int failures = 0;
 
@@ -40,6 +46,23 @@ static void check(int holds, const char *what, int line)
         fprintf(stderr, "test.c:%d: not so: %s\n", line, what);
         failures++;
     }
+}
+
+/* The words of each list of addresses() that there is memory for. */
+#define OPEN_WORDS 512
+
+/*
+ * Addresses of more words than a list may have, for lists that are refused by their length. To read or to write a word behind the first
+ * OPEN_WORDS, which are 0, ends the program.
+ */
+static uint64_t *addresses(size_t count)
+{
+    void *list = mmap(NULL, 8 * count, PROT_NONE, MAP_PRIVATE | MAP_ANONYMOUS | MAP_NORESERVE, -1, 0);
+    if (list == MAP_FAILED || mprotect(list, 8 * OPEN_WORDS, PROT_READ | PROT_WRITE) != 0) {
+        perror("test.c: addresses");
+        exit(1);
+    }
+    return (uint64_t *)list;
 }
 
 /* The number with an encoding; C++11 has no hexadecimal floats. */
@@ -465,8 +488,11 @@ static void refused_records(void)
     const size_t most = TOTALS_MOST_ELEMENTS;
     const double one = 1;
     const float half = 0.5f;
-    double *zeros = (double *)calloc(most + 2, sizeof *zeros);
+    double *zeros = (double *)calloc(LONG, sizeof *zeros);
     float *singles = (float *)zeros;
+    uint64_t *unread = addresses(most + 2);
+    const double *doubles = (const double *)unread;
+    const float *floats = (const float *)unread;
     totals_settings bad[8];
     size_t i;
 
@@ -501,19 +527,28 @@ static void refused_records(void)
 
     CHECK(REFUSED(totals_dot_double(&one, 1, &one, 0, NULL), TOTALS_DIFFERENT_LENGTHS, 0));
     CHECK(REFUSED(totals_dot_float(&half, 1, &half, 0, NULL), TOTALS_DIFFERENT_LENGTHS, 0));
-    CHECK(REFUSED(totals_dot_double(zeros, most + 1, zeros, most + 2, NULL), TOTALS_DIFFERENT_LENGTHS, 0));
+    CHECK(REFUSED(totals_dot_double(doubles, most + 1, doubles, most + 2, NULL), TOTALS_DIFFERENT_LENGTHS, 0));
+    CHECK(REFUSED(totals_dot_double(doubles, most + 1, doubles, most, NULL), TOTALS_DIFFERENT_LENGTHS, 0));
     CHECK(REFUSED(totals_dot_float(singles, 1, singles, SIZE_MAX, NULL), TOTALS_DIFFERENT_LENGTHS, 0));
     CHECK(REFUSED(totals_dot_double(NULL, 2, &one, 1, NULL), TOTALS_DIFFERENT_LENGTHS, 0));
 
-    CHECK(totals_sum_double(zeros, most, NULL).refusal == TOTALS_ACCEPTED);
-    CHECK(totals_sum_float(singles, most, NULL).refusal == TOTALS_ACCEPTED && owned == 0);
-    CHECK(totals_dot_double(zeros, most, zeros, most, NULL).refusal == TOTALS_ACCEPTED);
-    CHECK(REFUSED(totals_sum_double(zeros, most + 1, NULL), TOTALS_TOO_MANY_ELEMENTS, 0));
-    CHECK(REFUSED(totals_magnitude_sum_double(zeros, most + 1, NULL), TOTALS_TOO_MANY_ELEMENTS, 0));
-    CHECK(REFUSED(totals_square_sum_double(zeros, most + 1, NULL), TOTALS_TOO_MANY_ELEMENTS, 0));
-    CHECK(REFUSED(totals_dot_double(zeros, most + 1, zeros, most + 1, NULL), TOTALS_TOO_MANY_ELEMENTS, 0));
-    CHECK(REFUSED(totals_sum_float(singles, most + 1, NULL), TOTALS_TOO_MANY_ELEMENTS, 0));
-    CHECK(REFUSED(totals_dot_float(singles, most + 1, singles, most + 1, NULL), TOTALS_TOO_MANY_ELEMENTS, 0));
+    CHECK(totals_sum_double(zeros, LONG, NULL).refusal == TOTALS_ACCEPTED);
+    CHECK(totals_sum_float(singles, LONG, NULL).refusal == TOTALS_ACCEPTED && owned == 0);
+    CHECK(totals_dot_double(zeros, LONG, zeros, LONG, NULL).refusal == TOTALS_ACCEPTED);
+    CHECK(REFUSED(totals_sum_double(doubles, most + 1, NULL), TOTALS_TOO_MANY_ELEMENTS, 0));
+    CHECK(REFUSED(totals_magnitude_sum_double(doubles, most + 1, NULL), TOTALS_TOO_MANY_ELEMENTS, 0));
+    CHECK(REFUSED(totals_square_sum_double(doubles, most + 1, NULL), TOTALS_TOO_MANY_ELEMENTS, 0));
+    CHECK(REFUSED(totals_dot_double(doubles, most + 1, doubles, most + 1, NULL), TOTALS_TOO_MANY_ELEMENTS, 0));
+    CHECK(REFUSED(totals_sum_float(floats, most + 1, NULL), TOTALS_TOO_MANY_ELEMENTS, 0));
+    CHECK(REFUSED(totals_dot_float(floats, most + 1, floats, most + 1, NULL), TOTALS_TOO_MANY_ELEMENTS, 0));
+    /* the entries do not read it either, though there is a stray bit in its second word */
+    unread[1] = 0x10000;
+    CHECK(halves(unread, most + 1) == TOTALS_TOO_MANY_ELEMENTS && untouched_from(0));
+    CHECK(sum_biased(15, EVEN, TOTALS_VALUE, unread, most + 1) == TOTALS_TOO_MANY_ELEMENTS && untouched_from(0));
+    CHECK(dot(doubles, most + 1, doubles, most + 1) == TOTALS_TOO_MANY_ELEMENTS && untouched_from(0));
+    CHECK(dot(doubles, most + 1, doubles, most + 2) == TOTALS_DIFFERENT_LENGTHS && untouched_from(0));
+    CHECK(dot_biased(15, unread, most + 1, unread, most + 1) == TOTALS_TOO_MANY_ELEMENTS && untouched_from(0));
+    CHECK(halves(unread, OPEN_WORDS) == TOTALS_STRAY_BIT + 256 && untouched_from(0));
     /* eight bytes an element of these are 8 bytes, or none, by a size_t that wraps */
     CHECK(REFUSED(totals_sum_double(&one, SIZE_MAX / 8 + 2, NULL), TOTALS_TOO_MANY_ELEMENTS, 0));
     CHECK(REFUSED(totals_sum_double(&one, SIZE_MAX / 8 + 1, NULL), TOTALS_TOO_MANY_ELEMENTS, 0));
@@ -524,6 +559,7 @@ static void refused_records(void)
     CHECK(REFUSED(totals_dot_double(&one, 1, NULL, 1, NULL), TOTALS_NO_LIST, 0));
     CHECK(REFUSED(totals_dot_float(NULL, 1, &half, 1, NULL), TOTALS_NO_LIST, 0));
     free(zeros);
+    munmap(unread, 8 * (most + 2));
 }
 
 #define NO_FIGURE 0x5a5a5a5a
@@ -764,7 +800,7 @@ static void pence_refused(void)
     const uint64_t stray[3] = {0x7e00, 0x10000, 0x20000};
     const double eighth = 0.125;
     const float quarter = 0.25f;
-    uint64_t *words = (uint64_t *)calloc(most + 1, sizeof *words);
+    uint64_t *words = (uint64_t *)malloc(LONG * sizeof *words), *unread = addresses(most + 1);
     size_t i;
 
     /* a stray bit comes before a NaN, though that stands first, and the first one is told */
@@ -781,19 +817,23 @@ static void pence_refused(void)
     CHECK(totals_pence_words(none, stray, SIZE_MAX).refusal == TOTALS_NO_SUCH_FORMAT);
     CHECK(totals_pence_words(neither, NULL, SIZE_MAX).refusal == TOTALS_NO_SUCH_FORMAT);
 
-    /* as many elements as there may be, and one more: an eighth of a pound each, then a NaN and a stray bit among them */
-    for (i = 0; i <= most; i++) {
+    /* a long list of an eighth of a pound each, then a NaN and a stray bit at its end */
+    for (i = 0; i < LONG; i++) {
         words[i] = 0x3000;
     }
-    CHECK(pence_are(half, words, most, TOTALS_ACCEPTED, 13107200));
-    CHECK(pence_are(half, words, most + 1, TOTALS_TOO_MANY_ELEMENTS, 0));
-    words[most - 2] = 0x7e00;
-    CHECK(pence_are(half, words, most, TOTALS_NO_PENCE, 0));
-    words[most - 1] = 0x10000;
-    CHECK(pence_are(half, words, most, TOTALS_STRAY_BIT + 256 * (most - 1), 0));
-    CHECK(pence_are(half, words, most + 1, TOTALS_TOO_MANY_ELEMENTS, 0));
-    CHECK(pence_are(none, words, most + 1, TOTALS_NO_SUCH_FORMAT, 0));
+    CHECK(pence_are(half, words, LONG, TOTALS_ACCEPTED, 13107213));
+    words[LONG - 2] = 0x7e00;
+    CHECK(pence_are(half, words, LONG, TOTALS_NO_PENCE, 0));
+    words[LONG - 1] = 0x10000;
+    CHECK(pence_are(half, words, LONG, TOTALS_STRAY_BIT + 256 * (uint64_t)(LONG - 1), 0));
     free(words);
+    /* one more than there may be, with the two at its start */
+    CHECK(pence_are(half, unread, most + 1, TOTALS_TOO_MANY_ELEMENTS, 0));
+    unread[0] = 0x7e00;
+    unread[1] = 0x10000;
+    CHECK(pence_are(half, unread, most + 1, TOTALS_TOO_MANY_ELEMENTS, 0));
+    CHECK(pence_are(none, unread, most + 1, TOTALS_NO_SUCH_FORMAT, 0));
+    munmap(unread, 8 * (most + 1));
     CHECK(totals_pence_float(&quarter, most + 1).refusal == TOTALS_TOO_MANY_ELEMENTS && owned == 0);
     /* eight bytes an element of these are 8 bytes, or none, by a size_t that wraps */
     CHECK(totals_pence_double(&eighth, SIZE_MAX / 8 + 2).refusal == TOTALS_TOO_MANY_ELEMENTS);
@@ -983,12 +1023,12 @@ static void tables_of_doubles(void)
     CHECK(of_columns[0] == record.result && of_columns[1] == power(60) && of_columns[2] == 1 && of_columns[3] == 7);
 
     /* a million cells, of which i is i mod 7, less 3 */
-    many = (double *)malloc(TOTALS_MOST_ELEMENTS * sizeof *many);
+    many = (double *)malloc(1024 * 1024 * sizeof *many);
     lines = (double *)malloc(2048 * sizeof *lines);
-    for (i = 0; i < TOTALS_MOST_ELEMENTS; i++) {
+    for (i = 0; i < 1024 * 1024; i++) {
         many[i] = (double)(i % 7) - 3;
     }
-    CHECK(totals_table_double(many, TOTALS_MOST_ELEMENTS, 1024, 1024, lines, 1024, lines + 1024, 1024, NULL).refusal == TOTALS_ACCEPTED);
+    CHECK(totals_table_double(many, 1024 * 1024, 1024, 1024, lines, 1024, lines + 1024, 1024, NULL).refusal == TOTALS_ACCEPTED);
     for (i = 0; i < 1024; i++) {
         long row = 0, column = 0;
         for (k = 0; k < 1024; k++) {
@@ -1120,7 +1160,7 @@ static void tables_refused(void)
     const totals_format misnamed[4] = {{4, 5, 16, TOTALS_OWN_BIAS}, {TOTALS_BINARY16, 2, 15}, {TOTALS_BINARY16, 0, 40},
                                        {TOTALS_BINARY16, TOTALS_BIAS(TOTALS_FARTHEST_BIAS + 1)}};
     const totals_format half = {TOTALS_BINARY16, TOTALS_OWN_BIAS};
-    uint64_t *many = (uint64_t *)calloc(most + 1, sizeof *many), few[6];
+    uint64_t *many = addresses(most + 1), few[6];
     totals_settings bad = TOTALS_SETTINGS_INIT;
     double of_doubles[2] = {7, 7};
     const double one = 1;
@@ -1133,8 +1173,8 @@ static void tables_refused(void)
         const totals_format f = HOLDS(1) ? misnamed[holding / 2 % 4] : half;
         const uint64_t *cells = HOLDS(3) ? many : few;
         const size_t count = HOLDS(3) ? most + 1 : 6;
-        /* 2^20 + 1 is 17 times 61681 */
-        const uint64_t rows = HOLDS(4) ? 2 : HOLDS(3) ? 17 : 2, columns = HOLDS(4) ? 2 : HOLDS(3) ? 61681 : 3;
+        /* 2^28 + 1 is 17 times 15790321 */
+        const uint64_t rows = HOLDS(4) ? 2 : HOLDS(3) ? 17 : 2, columns = HOLDS(4) ? 2 : HOLDS(3) ? 15790321 : 3;
         memcpy(few, six, sizeof few);
         few[4] = many[4] = HOLDS(6) ? 0x10000 : 0x3c00;
         few[5] = many[5] = HOLDS(6) ? UINT64_C(1) << 63 : 0x3c00;
@@ -1161,7 +1201,7 @@ static void tables_refused(void)
             }
         }
     }
-    free(many);
+    munmap(many, 8 * (most + 1));
 
     /* a NULL list that is not empty comes after 3, 4 and 6; a count that no list has is not looked into */
     for (i = 0; i < 4; i++) {
@@ -1488,16 +1528,14 @@ static void ranges_refused(void)
 {
     static const unsigned order[4] = {TOTALS_SHORT_BUFFER, TOTALS_DIFFERENT_LENGTHS, TOTALS_TOO_MANY_ELEMENTS, TOTALS_BAD_AMOUNT};
     const size_t most = TOTALS_MOST_ELEMENTS;
-    uint64_t *tags = (uint64_t *)calloc(most + 1, sizeof *tags), *first = (uint64_t *)calloc(most + 1, sizeof *first);
-    uint64_t *second = (uint64_t *)calloc(most + 1, sizeof *second), one = ONE, zero = 0, known = TOTALS_KNOWN;
-    double *halves = (double *)calloc(most + 1, sizeof *halves);
-    const double figure = 1;
+    uint64_t *tags = addresses(most + 1), *first = addresses(most + 1), *second = addresses(most + 1);
+    const double *unread = (const double *)first, figure = 1;
+    uint64_t one = ONE, zero = 0, known = TOTALS_KNOWN;
     unsigned holding, which, i;
     size_t k;
 
-    for (k = 0; k <= most; k++) {
+    for (k = 0; k < OPEN_WORDS; k++) {
         first[k] = second[k] = ONE;
-        halves[k] = 0.5;
     }
     for (holding = 1; holding < 16; holding++) {
         const size_t count = HOLDS(2) ? most + 1 : 3;
@@ -1515,9 +1553,9 @@ static void ranges_refused(void)
             int holds_so = totals_range(tags, a, first, b, second, c, ONE, pair, HOLDS(0) ? 1 : 2) == code;
             if (!HOLDS(0)) {
                 holds_so &= is_refused_with(totals_range_words(tags, a, first, b, second, c, ONE), code);
-                holds_so &= is_refused_with(totals_range_double(tags, a, halves, b, halves, c, 1), code);
+                holds_so &= is_refused_with(totals_range_double(tags, a, unread, b, unread, c, 1), code);
             }
-            for (k = 0; k <= most; k += most / 2) {
+            for (k = 0; k < OPEN_WORDS; k++) {
                 holds_so &= first[k] == ONE && second[k] == ONE;
             }
             if (!holds_so || pair[0] != GUARD || pair[1] != GUARD) {
@@ -1526,28 +1564,15 @@ static void ranges_refused(void)
             }
         }
     }
-    tags[1] = TOTALS_KNOWN;
-    CHECK(owned == 0);
-
-    /* as many entries as there may be, in memory that is given back */
-    CHECK(totals_range_double(tags, most, halves, most, halves, most, 0).lower == (double)(most / 2) && owned == 0);
-    CHECK(totals_range_words(tags, most, first, most, second, most, ONE).upper == (double)most);
-    CHECK(is_refused_with(totals_range_double(tags, most + 1, halves, most + 1, halves, most + 1, 0), TOTALS_TOO_MANY_ELEMENTS));
-    /* one less, as many and one more than find room without a copy in memory of its own */
-    for (k = TOTALS_ROOM_ - 1; k <= TOTALS_ROOM_ + 1; k++) {
-        tags[k - 1] = TOTALS_MISSING;
-        CHECK(totals_range_double(tags, k, halves, k, halves, k, 7).lower == (double)(k - 1) / 2);
-        CHECK(totals_range_double(tags, k, halves, k, halves, k, 7).upper == (double)(k - 1) / 2 + 7);
-        tags[k - 1] = TOTALS_KNOWN;
-    }
-    CHECK(owned == 0);
     has_memory = 0;
-    CHECK(totals_range_double(tags, TOTALS_ROOM_, halves, TOTALS_ROOM_, halves, TOTALS_ROOM_, 0).refusal == TOTALS_ACCEPTED);
-    CHECK(is_refused_with(totals_range_double(tags, 513, halves, 513, halves, 513, -1), TOTALS_NO_MEMORY));
-    CHECK(is_refused_with(totals_range_double(tags, most + 1, halves, most + 1, halves, most + 1, 0), TOTALS_TOO_MANY_ELEMENTS));
-    CHECK(is_refused_with(totals_range_double(tags, most, halves, most, NULL, most, 0), TOTALS_NO_LIST));
-    CHECK(totals_range_words(tags, most, first, most, second, most, ONE).refusal == TOTALS_ACCEPTED);
+    CHECK(is_refused_with(totals_range_double(tags, most + 1, unread, most + 1, unread, most + 1, 0), TOTALS_TOO_MANY_ELEMENTS));
+    CHECK(is_refused_with(totals_range_double(tags, most, unread, most, NULL, most, 0), TOTALS_NO_LIST));
+    CHECK(is_refused_with(totals_range_double(tags, most, unread, most, unread, most, 0), TOTALS_NO_MEMORY));
     has_memory = 1;
+    munmap(tags, 8 * (most + 1));
+    munmap(first, 8 * (most + 1));
+    munmap(second, 8 * (most + 1));
+    CHECK(owned == 0);
 
     /* a NULL list that is not empty comes after 5 and 6 and before 11; a count that no list has is not looked into */
     CHECK(is_refused_with(totals_range_double(NULL, 1, &figure, 1, &figure, 1, -1), TOTALS_NO_LIST));
@@ -1566,6 +1591,35 @@ static void ranges_refused(void)
     /* a ceiling is looked at with empty lists too, and comes after a length */
     CHECK(is_refused_with(totals_range_double(NULL, 0, NULL, 0, NULL, 0, -1), TOTALS_BAD_AMOUNT));
     CHECK(is_refused_with(totals_range_double(NULL, 0, &figure, 1, NULL, 0, -1), TOTALS_DIFFERENT_LENGTHS));
+}
+
+/* Entries that are copied to memory of their own, which is given back. */
+static void long_ranges(void)
+{
+    uint64_t *tags = (uint64_t *)calloc(LONG, sizeof *tags), *first = (uint64_t *)malloc(LONG * sizeof *first);
+    uint64_t *second = (uint64_t *)malloc(LONG * sizeof *second);
+    double *halves = (double *)malloc(LONG * sizeof *halves);
+    size_t k;
+
+    for (k = 0; k < LONG; k++) {
+        first[k] = second[k] = ONE;
+        halves[k] = 0.5;
+    }
+    CHECK(totals_range_double(tags, LONG, halves, LONG, halves, LONG, 0).lower == (double)LONG / 2 && owned == 0);
+    CHECK(totals_range_words(tags, LONG, first, LONG, second, LONG, ONE).upper == LONG);
+    /* one less, as many and one more than find room without a copy */
+    for (k = TOTALS_ROOM_ - 1; k <= TOTALS_ROOM_ + 1; k++) {
+        tags[k - 1] = TOTALS_MISSING;
+        CHECK(totals_range_double(tags, k, halves, k, halves, k, 7).lower == (double)(k - 1) / 2);
+        CHECK(totals_range_double(tags, k, halves, k, halves, k, 7).upper == (double)(k - 1) / 2 + 7);
+        tags[k - 1] = TOTALS_KNOWN;
+    }
+    CHECK(owned == 0);
+    has_memory = 0;
+    CHECK(totals_range_double(tags, TOTALS_ROOM_, halves, TOTALS_ROOM_, halves, TOTALS_ROOM_, 0).refusal == TOTALS_ACCEPTED);
+    CHECK(is_refused_with(totals_range_double(tags, 513, halves, 513, halves, 513, -1), TOTALS_NO_MEMORY));
+    CHECK(totals_range_words(tags, LONG, first, LONG, second, LONG, ONE).refusal == TOTALS_ACCEPTED);
+    has_memory = 1;
     free(tags);
     free(first);
     free(second);
@@ -1576,6 +1630,8 @@ static void ranges_refused(void)
 #define VALUES 130
 #define BEHIND 40
 #define PAGE_ROOM (8 * VALUES + 12 * 3 + 16 + BEHIND)
+/* The most values of a page with a trailer of 16 bytes. */
+#define SHORT_MOST 1048576
 
 static void put(uint8_t *at, size_t size, uint64_t x)
 {
@@ -1614,6 +1670,17 @@ static void summarize(const uint64_t *values, size_t count, uint8_t *summary)
     put(summary + 8, 4, sorts);
 }
 
+/* The trailer of one kind or the other for some number of values, in the range of that kind or not, and its length. */
+static size_t trailer_by_hand(int is_long, uint64_t offset, uint64_t count, uint8_t *at)
+{
+    const size_t size = is_long ? 8 : 4;
+    put(at, size, offset);
+    put(at + size, size, count);
+    put(at + 2 * size, 4, 64);
+    memcpy(at + 2 * size + 4, is_long ? "CPG2" : "CPG1", 4);
+    return 2 * size + 8;
+}
+
 /* The page of some values, put together as it is described, and its length. */
 static size_t page_by_hand(const uint64_t *values, size_t count, uint8_t *page)
 {
@@ -1625,11 +1692,8 @@ static size_t page_by_hand(const uint64_t *values, size_t count, uint8_t *page)
     for (i = 0; i < count; i += 64, at += 12) {
         summarize(values + i, count - i < 64 ? count - i : 64, at);
     }
-    put(at, 4, 8 * count);
-    put(at + 4, 4, count);
-    put(at + 8, 4, 64);
-    memcpy(at + 12, "CPG1", 4);
-    return (size_t)(at + 16 - page);
+    at += trailer_by_hand(count > SHORT_MOST, 8 * count, count, at);
+    return (size_t)(at - page);
 }
 
 /* Values of each sort; in a group of 64 those of some sorts alone. */
@@ -1889,7 +1953,7 @@ static void spans_refused(void)
     }
 }
 
-/* Bytes that are no page: drawn ones, with the end of a trailer and with counts of every size; a page cut off on either side, or with a byte more. */
+/* Bytes that are no page: drawn ones, with trailers of either kind and counts of every size; a page cut off on either side, or with a byte more. */
 static void no_pages(void)
 {
     static const uint64_t counts[12] = {1, 2, 8, 23, 64, 1048576, 1048577, 0x1fffffff, 0x20000001, 0x7fffffff, 0x80000001, 0xffffffff};
@@ -1903,15 +1967,16 @@ static void no_pages(void)
             bytes[k] = (uint8_t)drawn_below(256);
         }
         CHECK(is_no_page(bytes, size));
-        if (size >= 16) {
-            put(bytes + size - 8, 4, 64);
-            memcpy(bytes + size - 4, "CPG1", 4);
-            CHECK(is_no_page(bytes, size));
-            for (k = 0; k < 12; k++) {
-                put(bytes + size - 16, 4, 8 * counts[k]);
-                put(bytes + size - 12, 4, counts[k]);
+        for (k = 0; k < 24; k++) {
+            const size_t trailer = k % 2 == 0 ? 16 : 24;
+            if (size >= trailer) {
+                trailer_by_hand(k % 2 == 1, 8 * counts[k / 2], counts[k / 2], bytes + size - trailer);
                 CHECK(is_no_page(bytes, size));
             }
+        }
+        for (k = 0; k < 2 && size >= 4; k++) {
+            memcpy(bytes + size - 4, k == 0 ? "CPG1" : "CPG2", 4);
+            CHECK(is_no_page(bytes, size));
         }
     }
     draw_values(values, 65);
@@ -1926,45 +1991,111 @@ static void no_pages(void)
     CHECK(is_no_page(page, length + 16));
 }
 
-/* As many values as a page has, and one more. */
-static void longest_pages(void)
+/* As many values as a page with a short trailer has, and one more. */
+static void long_pages(void)
 {
-    const size_t most = TOTALS_MOST_ELEMENTS, length = 8585232, beyond = 8585252;
-    uint64_t *values = (uint64_t *)malloc(8 * (most + 1));
-    double *doubles = (double *)malloc(8 * (most + 1));
-    uint8_t *page = (uint8_t *)malloc(beyond + 1), *by_hand = (uint8_t *)malloc(beyond);
+    static const size_t lengths[2] = {8585232, 8585260};
+    const size_t room = 8585300;
+    uint64_t *values = (uint64_t *)malloc(8 * LONG);
+    double *doubles = (double *)malloc(8 * LONG);
+    uint8_t *page = (uint8_t *)malloc(room), *by_hand = (uint8_t *)malloc(room);
     size_t i;
 
-    for (i = 0; i <= most; i++) {
-        values[i] = bits_of((double)i);
+    for (i = 0; i < LONG; i++) {
+        doubles[i] = (double)i;
     }
-    memcpy(doubles, values, 8 * (most + 1));
-    CHECK(totals_page_length(most) == length && page_by_hand(values, most, by_hand) == length);
-    memset(page, UNTOUCHED, beyond + 1);
-    CHECK(page_is(totals_page_write_double(doubles, most, page, length - 1), 0, 0, TOTALS_SHORT_BUFFER) && are_untouched(page, 0, beyond + 1));
-    CHECK(page_is(totals_page_write_double(doubles, most, page, beyond), length, most, TOTALS_ACCEPTED));
-    CHECK(memcmp(page, by_hand, length) == 0 && are_untouched(page, length, beyond + 1));
-    CHECK(page_is(totals_page_count(page, length), length, most, TOTALS_ACCEPTED));
-    CHECK(totals_page_sum_double(page, length, 0, most, NULL, TOTALS_VALUE).result == (double)(most - 1) * (double)(most / 2));
-    CHECK(totals_page_sum_double(page, length, most - 1, most, NULL, TOTALS_VALUE).result == (double)(most - 1));
-    CHECK(REFUSED(totals_page_sum_double(page, length, most, most + 1, NULL, TOTALS_VALUE), TOTALS_BAD_SPAN, 0));
-    page[length - 17] ^= 1;
-    CHECK(is_no_page(page, length));
-
-    /* one more: 2 comes before 6, and its page does not open */
-    memset(page, UNTOUCHED, beyond + 1);
-    CHECK(totals_page_write(values, most + 1, page, beyond - 1) == TOTALS_SHORT_BUFFER);
-    CHECK(totals_page_write(values, most + 1, page, beyond) == TOTALS_TOO_MANY_ELEMENTS);
-    CHECK(page_is(totals_page_write_double(doubles, most + 1, page, beyond - 1), 0, 0, TOTALS_SHORT_BUFFER));
-    CHECK(page_is(totals_page_write_double(doubles, most + 1, page, beyond), 0, 0, TOTALS_TOO_MANY_ELEMENTS));
-    CHECK(are_untouched(page, 0, beyond + 1));
-    CHECK(totals_page_length(most + 1) == 0 && page_by_hand(values, most + 1, page) == beyond && is_no_page(page, beyond));
-    clear();
-    CHECK(totals_page_sum(page, beyond, 0, 0, TOTALS_DEFAULTS, TOTALS_VALUE, answer, ROOM) == TOTALS_NOT_A_PAGE && untouched_from(0));
+    memcpy(values, doubles, 8 * LONG);
+    for (i = 0; i < 2; i++) {
+        const size_t count = SHORT_MOST + i, length = lengths[i];
+        CHECK(totals_page_length(count) == length && page_by_hand(values, count, by_hand) == length);
+        memset(page, UNTOUCHED, room);
+        CHECK(totals_page_write(values, count, page, length - 1) == TOTALS_SHORT_BUFFER);
+        CHECK(page_is(totals_page_write_double(doubles, count, page, length - 1), 0, 0, TOTALS_SHORT_BUFFER) && are_untouched(page, 0, room));
+        CHECK(page_is(totals_page_write_double(doubles, count, page, room), length, count, TOTALS_ACCEPTED));
+        CHECK(memcmp(page, by_hand, length) == 0 && are_untouched(page, length, room));
+        memset(page, UNTOUCHED, room);
+        CHECK(totals_page_write(values, count, page, length) == 256 * length);
+        CHECK(memcmp(page, by_hand, length) == 0 && are_untouched(page, length, room));
+        CHECK(page_is(totals_page_count(page, length), length, count, TOTALS_ACCEPTED));
+        CHECK(totals_page_sum_double(page, length, 0, count, NULL, TOTALS_VALUE).result == (double)(count * (count - 1) / 2));
+        CHECK(totals_page_sum_double(page, length, count - 1, count, NULL, TOTALS_VALUE).result == (double)(count - 1));
+        CHECK(REFUSED(totals_page_sum_double(page, length, count, count + 1, NULL, TOTALS_VALUE), TOTALS_BAD_SPAN, 0));
+        CHECK(is_no_page(page, length - 1) && is_no_page(page, length + 1));
+        page[8 * count] ^= 1;
+        CHECK(is_no_page(page, length));
+    }
     free(values);
     free(doubles);
     free(page);
     free(by_hand);
+}
+
+/* A long trailer that is damaged, or names another number of values than there are; and each trailer behind values that have the other. */
+static void trailers_refused(void)
+{
+    const uint64_t counts[14] = {0, 1, 1048575, 1048576, 1048578, 268435456, 268435457, UINT64_C(1) << 32, (UINT64_C(1) << 32) + LONG,
+                                 UINT64_C(1) << 61, (UINT64_C(1) << 61) + LONG, UINT64_C(1) << 63, UINT64_MAX / 8, UINT64_MAX};
+    static const size_t few[6] = {0, 1, 63, 64, 65, VALUES};
+    uint64_t *values = (uint64_t *)malloc(8 * LONG);
+    uint8_t *page = (uint8_t *)malloc(8585300), *at;
+    size_t length, i;
+
+    draw_values(values, LONG);
+    length = page_by_hand(values, LONG, page);
+    at = page + length - 24;
+    CHECK(page_is(totals_page_count(page, length), length, LONG, TOTALS_ACCEPTED));
+    for (i = 0; i < 8 * 24; i++) {
+        at[i / 8] ^= (uint8_t)(1u << i % 8);
+        CHECK(is_no_page(page, length));
+        at[i / 8] ^= (uint8_t)(1u << i % 8);
+    }
+    memcpy(at + 20, "CPG1", 4);
+    CHECK(is_no_page(page, length));
+    /* the offset too can be that of the number, modulo 2^64, or of the values that are there */
+    for (i = 0; i < 14; i++) {
+        trailer_by_hand(1, 8 * counts[i], counts[i], at);
+        CHECK(is_no_page(page, length));
+        trailer_by_hand(1, 8 * LONG, counts[i], at);
+        CHECK(is_no_page(page, length));
+    }
+    CHECK(is_no_page(page, length - 24 + trailer_by_hand(0, 8 * LONG, LONG, at)));
+    CHECK(page_is(totals_page_count(page, length - 24 + trailer_by_hand(1, 8 * LONG, LONG, at)), length, LONG, TOTALS_ACCEPTED));
+
+    /* 1,048,576 values, and fewer, have a short trailer */
+    length = page_by_hand(values, SHORT_MOST, page);
+    CHECK(page_is(totals_page_count(page, length), length, SHORT_MOST, TOTALS_ACCEPTED));
+    CHECK(is_no_page(page, length - 16 + trailer_by_hand(1, 8 * SHORT_MOST, SHORT_MOST, page + length - 16)));
+    for (i = 0; i < 6; i++) {
+        length = page_by_hand(values, few[i], page);
+        CHECK(is_no_page(page, length - 16 + trailer_by_hand(1, 8 * few[i], few[i], page + length - 16)));
+    }
+    free(values);
+    free(page);
+}
+
+/* One value more than a page can have: 2 comes before 6, and bytes that name so many are none. All but their end is neither read nor written. */
+static void pages_beyond(void)
+{
+    const size_t most = TOTALS_MOST_ELEMENTS, length = 2197815340, end = length / 4096 * 4096 - 4096;
+    uint64_t *values = addresses(most + 1);
+    const double *doubles = (const double *)values;
+    uint8_t *page = (uint8_t *)addresses(length / 8 + 1);
+
+    CHECK(totals_page_length(most) == 2197815320 && totals_page_length(most + 1) == 0);
+    CHECK(totals_page_write(values, most + 1, page, length - 1) == TOTALS_SHORT_BUFFER);
+    CHECK(totals_page_write(values, most + 1, page, length) == TOTALS_TOO_MANY_ELEMENTS);
+    CHECK(totals_page_write(values, most, page, 2197815319) == TOTALS_SHORT_BUFFER);
+    CHECK(page_is(totals_page_write_double(doubles, most + 1, page, length - 1), 0, 0, TOTALS_SHORT_BUFFER));
+    CHECK(page_is(totals_page_write_double(doubles, most + 1, page, length), 0, 0, TOTALS_TOO_MANY_ELEMENTS));
+    CHECK(page_is(totals_page_write_double(doubles, most, page, 2197815319), 0, 0, TOTALS_SHORT_BUFFER));
+
+    CHECK(mprotect(page + end, 8192, PROT_READ | PROT_WRITE) == 0);
+    trailer_by_hand(1, 8 * (most + 1), most + 1, page + length - 24);
+    CHECK(is_no_page(page, length));
+    trailer_by_hand(0, 8 * (most + 1), most + 1, page + length - 16);
+    CHECK(is_no_page(page, length));
+    munmap(values, 8 * (most + 1));
+    munmap(page, length);
 }
 
 /* NULL, counts and sizes that nothing has, and no memory: a page needs none. */
@@ -2068,13 +2199,16 @@ int main(void)
     neighbours_of_exact_sums();
     ranges_in_every_order();
     ranges_refused();
+    long_ranges();
     pages_written();
     pages_damaged();
     spans_of_pages();
     bad_spans();
     spans_refused();
     no_pages();
-    longest_pages();
+    long_pages();
+    trailers_refused();
+    pages_beyond();
     pages_without_pointers();
     lists_are_only_read();
     refusals_in_words();
