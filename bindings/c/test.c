@@ -8,12 +8,14 @@
 #include <string.h>
 #include <sys/mman.h>
 
-/* Memory that can run out, and is counted. */
+/* Memory that can run out, and is counted; the size that was last asked for. */
 static int has_memory = 1;
 static int owned = 0;
+static size_t asked = 0;
 
 static void *taken(size_t size)
 {
+    asked = size;
     if (!has_memory) {
         return NULL;
     }
@@ -541,7 +543,14 @@ static void refused_records(void)
     CHECK(REFUSED(totals_dot_double(doubles, most + 1, doubles, most + 1, NULL), TOTALS_TOO_MANY_ELEMENTS, 0));
     CHECK(REFUSED(totals_sum_float(floats, most + 1, NULL), TOTALS_TOO_MANY_ELEMENTS, 0));
     CHECK(REFUSED(totals_dot_float(floats, most + 1, floats, most + 1, NULL), TOTALS_TOO_MANY_ELEMENTS, 0));
-    /* the entries do not read it either, though there is a stray bit in its second word */
+    /* a list as long as may be is not read before there is memory for its copy: eight bytes an element */
+    has_memory = 0;
+    CHECK(REFUSED(totals_sum_float(floats, most, NULL), TOTALS_NO_MEMORY, 0) && asked == 2147483648);
+    CHECK(REFUSED(totals_dot_float(floats, most, floats, most, NULL), TOTALS_NO_MEMORY, 0) && asked == 2147483648);
+    CHECK(totals_pence_float(floats, most).refusal == TOTALS_NO_MEMORY && asked == 2147483648);
+    CHECK(REFUSED(totals_table_float(floats, most, most, 1, singles, most, singles, 1, NULL), TOTALS_NO_MEMORY, 0) && asked == 2147483656);
+    has_memory = 1;
+    /* one of too many is not read by the entries either, though there is a stray bit in its second word */
     unread[1] = 0x10000;
     CHECK(halves(unread, most + 1) == TOTALS_TOO_MANY_ELEMENTS && untouched_from(0));
     CHECK(sum_biased(15, EVEN, TOTALS_VALUE, unread, most + 1) == TOTALS_TOO_MANY_ELEMENTS && untouched_from(0));
@@ -1567,7 +1576,7 @@ static void ranges_refused(void)
     has_memory = 0;
     CHECK(is_refused_with(totals_range_double(tags, most + 1, unread, most + 1, unread, most + 1, 0), TOTALS_TOO_MANY_ELEMENTS));
     CHECK(is_refused_with(totals_range_double(tags, most, unread, most, NULL, most, 0), TOTALS_NO_LIST));
-    CHECK(is_refused_with(totals_range_double(tags, most, unread, most, unread, most, 0), TOTALS_NO_MEMORY));
+    CHECK(is_refused_with(totals_range_double(tags, most, unread, most, unread, most, 0), TOTALS_NO_MEMORY) && asked == 4294967296);
     has_memory = 1;
     munmap(tags, 8 * (most + 1));
     munmap(first, 8 * (most + 1));
