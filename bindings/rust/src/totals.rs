@@ -6,9 +6,9 @@ use crate::{
     raw, Flags, Float, Format, List, Page, Record, Refusal, Settings, Side, Summand, Table, Value,
 };
 
-/// The most rows, and the most columns, that [`Totals::table`] makes room for. No table with a cell
-/// has more.
-const MOST_LINES: usize = 1 << 20;
+/// The most rows, or columns, that [`Totals::table`] makes room for where there are no cells. With
+/// cells it is bounded by their number, which no table has more rows or columns than.
+const MOST_EMPTY: usize = 1 << 20;
 
 /// The four totals in one format and under one choice of settings; the sums of the rows and columns
 /// of a table; those of a span of a page; and the pence of a sum, in which settings play no part.
@@ -134,7 +134,7 @@ impl<T: Value> Totals<T> {
     /// - [`Refusal::NoSuchFormat`], of encodings of a format that the library does not have, or that
     ///   names a bias out of its range
     /// - [`Refusal::PrecisionOutOfRange`]
-    /// - [`Refusal::TooManyElements`], of more than 1,048,576 values
+    /// - [`Refusal::TooManyElements`], of more than 268,435,456 values
     /// - [`Refusal::StrayBit`], of an encoding that is wider than the format
     ///
     /// Proved: `sum-exact`, `sum-entry-order` in `crates/totals_spec/proofs/Promises.antt`.
@@ -189,7 +189,7 @@ impl<T: Value> Totals<T> {
     ///
     /// - [`Refusal::NoSuchFormat`], of encodings of a format that the library does not have, or that
     ///   names a bias out of its range
-    /// - [`Refusal::TooManyElements`], of more than 1,048,576 values
+    /// - [`Refusal::TooManyElements`], of more than 268,435,456 values
     /// - [`Refusal::StrayBit`], of an encoding that is wider than the format
     /// - [`Refusal::NoPence`], of a NaN or an infinity anywhere in the list, or a figure whose
     ///   magnitude is 2^63 or more
@@ -226,9 +226,9 @@ impl<T: Value> Totals<T> {
     ///
     /// # Errors
     ///
-    /// Those of [`Totals::table_into`]. Room is made for at most 1,048,576 rows and as many columns.
-    /// A table without cells that has more of either is refused with [`Refusal::NoRoom`], and no
-    /// memory is taken for it.
+    /// Those of [`Totals::table_into`]. Room is made for at most as many rows, and as many columns, as
+    /// there are cells, or for 1,048,576 where there are none. A table without cells that has more of
+    /// either is refused with [`Refusal::NoRoom`], and no memory is taken for it.
     ///
     /// Proved: `table-row`, `table-column`, `table-grand`, `table-refused-exactly` in
     /// `crates/totals_spec/proofs/Promises.antt`.
@@ -251,7 +251,12 @@ impl<T: Value> Totals<T> {
     /// ```
     pub fn table(&self, cells: &[T], rows: usize, columns: usize) -> Result<Table<T>, Refusal> {
         // where none is made the library refuses, if nothing else comes before
-        let room = |n| vec![T::from_encoding(0); if n > MOST_LINES { 0 } else { n }];
+        let most = if cells.is_empty() {
+            MOST_EMPTY
+        } else {
+            cells.len()
+        };
+        let room = |n| vec![T::from_encoding(0); if n > most { 0 } else { n }];
         let (mut row_totals, mut column_totals) = (room(rows), room(columns));
         let grand = self.table_into(cells, rows, columns, &mut row_totals, &mut column_totals)?;
         Ok(Table {
@@ -274,7 +279,7 @@ impl<T: Value> Totals<T> {
     /// - [`Refusal::NoSuchFormat`], of encodings of a format that the library does not have, or that
     ///   names a bias out of its range
     /// - [`Refusal::PrecisionOutOfRange`]
-    /// - [`Refusal::TooManyElements`], of more than 1,048,576 cells
+    /// - [`Refusal::TooManyElements`], of more than 268,435,456 cells
     /// - [`Refusal::BadShape`], where `rows` times `columns`, as whole numbers, is not the number of
     ///   cells
     /// - [`Refusal::NoRoom`], of a list of totals that is shorter than `rows` or `columns` asks for
