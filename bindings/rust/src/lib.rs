@@ -24,13 +24,16 @@ pub use table::Table;
 pub use totals::Totals;
 pub use value::{Float, Value};
 
+/// The most elements of a list, cells of a table, amounts of a range and values of a page.
+const MOST_ELEMENTS: usize = 1 << 28;
+
 /// The exact sum of the values, rounded once to the nearest, ties to even.
 ///
 /// A list of `f64` is read where it lies; one of `f32` is copied first, eight bytes a value.
 ///
 /// # Errors
 ///
-/// [`Refusal::TooManyElements`] where there are more than 1,048,576 values.
+/// [`Refusal::TooManyElements`] where there are more than 268,435,456 values.
 ///
 /// Proved: `sum-exact`, `sum-entry-order` in `crates/totals_spec/proofs/Promises.antt`.
 ///
@@ -50,7 +53,7 @@ pub fn sum<T: Float>(values: &[T]) -> Result<Record<T>, Refusal> {
 ///
 /// # Errors
 ///
-/// [`Refusal::TooManyElements`] where there are more than 1,048,576 values.
+/// [`Refusal::TooManyElements`] where there are more than 268,435,456 values.
 ///
 /// Proved: `sum-exact`, `sum-entry-order` in `crates/totals_spec/proofs/Promises.antt`.
 ///
@@ -66,7 +69,7 @@ pub fn magnitude_sum<T: Float>(values: &[T]) -> Result<Record<T>, Refusal> {
 ///
 /// # Errors
 ///
-/// [`Refusal::TooManyElements`] where there are more than 1,048,576 values.
+/// [`Refusal::TooManyElements`] where there are more than 268,435,456 values.
 ///
 /// Proved: `sum-exact`, `sum-entry-order` in `crates/totals_spec/proofs/Promises.antt`.
 ///
@@ -83,7 +86,7 @@ pub fn square_sum<T: Float>(values: &[T]) -> Result<Record<T>, Refusal> {
 /// # Errors
 ///
 /// [`Refusal::DifferentLengths`] where the lists have two lengths, else
-/// [`Refusal::TooManyElements`] where there are more than 1,048,576 pairs.
+/// [`Refusal::TooManyElements`] where there are more than 268,435,456 pairs.
 ///
 /// Proved: `dot-exact`, `dot-entry-order` in `crates/totals_spec/proofs/Promises.antt`.
 ///
@@ -105,7 +108,7 @@ pub fn dot<T: Float>(left: &[T], right: &[T]) -> Result<Record<T>, Refusal> {
 ///
 /// # Errors
 ///
-/// [`Refusal::TooManyElements`] where there are more than 1,048,576 values, else
+/// [`Refusal::TooManyElements`] where there are more than 268,435,456 values, else
 /// [`Refusal::NoPence`] where one is a NaN or an infinity, or the figure's magnitude is 2^63 or more.
 ///
 /// Proved: `pence-by-chain`, `pence-order`, `one-pence` in
@@ -137,7 +140,7 @@ pub fn pence<T: Float>(values: &[T]) -> Result<i64, Refusal> {
 ///
 /// # Errors
 ///
-/// The first of these that holds: [`Refusal::TooManyElements`] where there are more than 1,048,576
+/// The first of these that holds: [`Refusal::TooManyElements`] where there are more than 268,435,456
 /// cells; [`Refusal::BadShape`] where `rows` times `columns` is not the number of cells;
 /// [`Refusal::NoRoom`] where there are no cells, and more than 1,048,576 rows or columns.
 /// [`Totals::table_into`] lends lists of the caller's, and has no such bound.

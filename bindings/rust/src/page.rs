@@ -3,18 +3,19 @@ use alloc::vec::Vec;
 use core::ops::{Bound, RangeBounds};
 
 use crate::value::sealed::Value as _;
-use crate::{raw, Record, Refusal, Settings, Summand, Totals};
+use crate::{raw, Record, Refusal, Settings, Summand, Totals, MOST_ELEMENTS};
 
-/// The most values of a page.
-const MOST_VALUES: usize = 1 << 20;
+/// The most values of a page with a short trailer.
+const MOST_SHORT: usize = 1 << 20;
 
 /// A career page: `f64` values in bytes that say of themselves what they hold, to be opened many
 /// times and asked for the totals of spans.
 ///
 /// The values lie in front, eight bytes each, the least byte first. Behind them lie a summary of each
-/// 64 values, of twelve bytes, and a trailer of sixteen that ends in the letters `CPG1`.
-/// `docs/SPECIFICATION.md` of the repository has the layout. A page opens where every byte is what
-/// [`Page::write`] would have written for its values.
+/// 64 values, of twelve bytes, and a trailer: of sixteen bytes that ends in the letters `CPG1`, or, of
+/// more than 1,048,576 values, of 24 that ends in `CPG2`. `docs/SPECIFICATION.md` of the repository
+/// has the layout. A page opens where every byte is what [`Page::write`] would have written for its
+/// values. A reader that knows `CPG1` alone refuses the longer pages, and opens all others.
 ///
 /// ```
 /// use fermuzhai::{Page, Refusal};
@@ -45,10 +46,11 @@ impl<'a> Page<'a> {
     ///
     /// # Errors
     ///
-    /// [`Refusal::NotAPage`] where the bytes are no page, or one of more than 1,048,576 values.
+    /// [`Refusal::NotAPage`] where the bytes are no page, or one of more than 268,435,456 values.
     ///
     /// Proved: the contract of `totals_page_sum` in `crates/totals/src/entry.rt`; `page-opens`,
-    /// `page-only`, `page-span-refused-exactly` in `crates/totals_spec/proofs/Promises.antt`.
+    /// `page-only`, `page-range`, `page-both`, `page-earlier`, `page-span-refused-exactly` in
+    /// `crates/totals_spec/proofs/Promises.antt`.
     ///
     /// ```
     /// use fermuzhai::{Page, Refusal};
@@ -136,11 +138,11 @@ impl<'a> Page<'a> {
     ///
     /// # Errors
     ///
-    /// [`Refusal::TooManyElements`] where there are more than 1,048,576 values. No memory is taken
+    /// [`Refusal::TooManyElements`] where there are more than 268,435,456 values. No memory is taken
     /// for them.
     ///
     /// Proved: the contract of `totals_page_write` in `crates/totals/src/entry.rt`; `page-opens`,
-    /// `page-length`, `page-summary`, `page-summarizes` in
+    /// `page-length`, `page-summary`, `page-summarizes`, `page-as-before`, `page-longer` in
     /// `crates/totals_spec/proofs/Promises.antt`.
     ///
     /// ```
@@ -168,7 +170,7 @@ impl<'a> Page<'a> {
     ///
     /// [`Refusal::ShortBuffer`] where `destination` is shorter than the page would be, also where
     /// there are too many values; else [`Refusal::TooManyElements`] where there are more than
-    /// 1,048,576.
+    /// 268,435,456.
     ///
     /// Proved: the contract of `totals_page_write` in `crates/totals/src/entry.rt`; `page-opens`,
     /// `page-beyond`, `page-refused`, `page-refused-exactly`, `page-length` in
@@ -191,7 +193,8 @@ impl<'a> Page<'a> {
     }
 
     /// The length in bytes of the page of so many values: 8 for each, 12 for each 64 of them or
-    /// fewer, and 16. `None` of more than 1,048,576, of which there is no page.
+    /// fewer, and 16 for the trailer, or 24 where there are more than 1,048,576 values. `None` of more
+    /// than 268,435,456, of which there is no page.
     ///
     /// Proved: `page-length` in `crates/totals_spec/proofs/Promises.antt`.
     ///
@@ -200,14 +203,17 @@ impl<'a> Page<'a> {
     ///
     /// assert_eq!(Page::length_of(0), Some(16));
     /// assert_eq!(Page::length_of(480), Some(3952));
+    /// assert_eq!(Page::length_of(1_048_576), Some(8_585_232));
+    /// assert_eq!(Page::length_of(1_048_577), Some(8_585_260));
     /// assert_eq!(Page::length_of(usize::MAX), None);
     /// ```
     #[must_use]
     pub const fn length_of(count: usize) -> Option<usize> {
-        if count > MOST_VALUES {
+        if count > MOST_ELEMENTS {
             return None;
         }
-        Some(8 * count + 12 * count.div_ceil(64) + 16)
+        let trailer = if count > MOST_SHORT { 24 } else { 16 };
+        Some(8 * count + 12 * count.div_ceil(64) + trailer)
     }
 
     /// The bytes of the values of a span.
@@ -235,10 +241,10 @@ impl<'a> Page<'a> {
 /// The bytes of the values of a page that opens: they end where its trailer says that the summaries
 /// begin.
 fn values_in(page: &[u8]) -> Option<&[u8]> {
-    match *page {
-        [.., a, b, c, d, _, _, _, _, _, _, _, _, b'C', b'P', b'G', b'1'] => {
-            page.get(..u32::from_le_bytes([a, b, c, d]) as usize)
-        }
-        _ => None,
-    }
+    let end = match page.last_chunk()? {
+        b"CPG1" => u32::from_le_bytes(*page.last_chunk::<16>()?.first_chunk()?).into(),
+        b"CPG2" => u64::from_le_bytes(*page.last_chunk::<24>()?.first_chunk()?),
+        _ => return None,
+    };
+    page.get(..usize::try_from(end).ok()?)
 }

@@ -1,6 +1,6 @@
 use alloc::vec::Vec;
 
-use crate::{raw, Refusal};
+use crate::{raw, Refusal, MOST_ELEMENTS};
 
 /// An amount that is known, or known within a range.
 ///
@@ -42,10 +42,10 @@ impl Amount {
 ///
 /// # Errors
 ///
-/// [`Refusal::TooManyElements`] where there are more than 1,048,576 amounts, else
-/// [`Refusal::BadAmount`] where a figure is a NaN or an infinity, or a low is above its high (−0 and
-/// +0 are equal), or where the ceiling is a NaN, infinite or below zero, even where no amount is
-/// missing. A ceiling of −0 is accepted.
+/// [`Refusal::TooManyElements`] where there are more than 268,435,456 amounts, and no memory is taken
+/// for them; else [`Refusal::BadAmount`] where a figure is a NaN or an infinity, or a low is above its
+/// high (−0 and +0 are equal), or where the ceiling is a NaN, infinite or below zero, even where no
+/// amount is missing. A ceiling of −0 is accepted.
 ///
 /// Proved: the contract of `totals_range` in `crates/totals/src/entry.rt`; `range-holds`,
 /// `range-narrowest`, `range-zero`, `range-order`, `range-refused-exactly` in
@@ -65,6 +65,9 @@ impl Amount {
 /// # Ok::<(), fermuzhai::Refusal>(())
 /// ```
 pub fn range(amounts: &[Amount], ceiling: f64) -> Result<(f64, f64), Refusal> {
+    if amounts.len() > MOST_ELEMENTS {
+        return Err(Refusal::TooManyElements);
+    }
     let list = |which: usize| -> Vec<u64> {
         let words = amounts.iter().map(|amount| amount.words());
         words.map(|words| words[which]).collect()

@@ -589,7 +589,7 @@ pub fn page_sum(
 /// # Errors
 ///
 /// The code of a refusal, and nothing is written: 2 where `page` is shorter than the page would be, for
-/// any number of values, else 6 where there are more than 1,048,576 of them.
+/// any number of values, else 6 where there are more than 268,435,456 of them.
 ///
 /// Proved: the contract of `totals_page_write` in `crates/totals/src/entry.rt`; `page-opens`,
 /// `page-beyond`, `page-refused`, `page-refused-exactly`, `page-length` in

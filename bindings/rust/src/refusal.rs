@@ -66,7 +66,7 @@ pub enum Refusal {
     /// 5: the two lists of a dot have different lengths; or the three of a range, through
     /// [`raw`](crate::raw).
     DifferentLengths,
-    /// 6: over 1,048,576 elements (of a dot: pairs; of a table: cells; of a range: entries; of a page
+    /// 6: over 268,435,456 elements (of a dot: pairs; of a table: cells; of a range: entries; of a page
     /// that is written: values).
     TooManyElements,
     /// 7: an element is 2 to the power of the format's width, or more.
@@ -90,7 +90,7 @@ pub enum Refusal {
     /// [`raw`](crate::raw) also a tag above 2. It has no place.
     BadAmount,
     /// 12: the bytes are not the page of the values that they hold, or the page counts more than
-    /// 1,048,576 of them.
+    /// 268,435,456 of them.
     NotAPage,
     /// 13: a span of a page starts above its end, or ends above the page's count of values.
     BadSpan,
@@ -163,7 +163,7 @@ impl Display for Refusal {
                 out.write_str("a setting or the summand is out of its range")
             }
             Self::DifferentLengths => out.write_str("the lists differ in length"),
-            Self::TooManyElements => out.write_str("there are more than 1,048,576 elements"),
+            Self::TooManyElements => out.write_str("there are more than 268,435,456 elements"),
             Self::StrayBit { place, list } => {
                 write!(
                     out,
@@ -205,7 +205,7 @@ mod tests {
             Some(Refusal::UnevenLength { list: None })
         );
         assert_eq!(Refusal::from_code(6), Some(Refusal::TooManyElements));
-        for place in [0, 1_048_575] {
+        for place in [0, 268_435_455] {
             assert_eq!(
                 Refusal::from_code(7 + 256 * place as u64),
                 Some(Refusal::StrayBit { place, list: None })

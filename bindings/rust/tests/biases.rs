@@ -145,7 +145,7 @@ fn biases_out_of_range() {
         stray(1, Some(List::Right))
     );
     assert_eq!(totals.dot(&[1], &[]), Err(Refusal::DifferentLengths));
-    let many = vec![0; (1 << 20) + 1];
+    let many = vec![0; (1 << 28) + 1];
     assert_eq!(totals.magnitude_sum(&many), Err(Refusal::TooManyElements));
     assert_eq!(
         totals

@@ -8,7 +8,7 @@ const PLAIN: Settings = [0; 8];
 const TOWARD_NEGATIVE: Settings = [4, 0, 0, 0, 0, 0, 0, 0];
 const TOWARD_ZERO: Settings = [5, 0, 0, 0, 0, 0, 0, 0];
 const UNTOUCHED: u8 = 0xa5;
-const LIMIT: usize = 1 << 20;
+const LIMIT: usize = 1 << 28;
 
 fn one(x: f64) -> u64 {
     x.to_bits()
@@ -222,22 +222,33 @@ fn refusals_of_a_dot() {
     check_dot_refused(BINARY16, PLAIN, &two, &one_value, 24, 5, 0);
 }
 
+/// Zeros that nobody wrote take no memory, however many are read.
 #[test]
-fn a_million_zeros_and_one_more() {
-    let zeros = vec![0u8; 8 * LIMIT];
-    let more = vec![0u8; 8 * (LIMIT + 1)];
+fn as_many_zeros_as_there_may_be_and_one_more() {
+    let mut more = vec![0u8; 8 * (LIMIT + 1) + 7];
+    let (ragged, zeros) = (&more[..], &more[..8 * LIMIT]);
     let mut buffer = [UNTOUCHED; 24];
-    let code = sum(BINARY64, PLAIN, 0, &zeros, &mut buffer);
+    let code = sum(BINARY64, PLAIN, 0, zeros, &mut buffer);
     accepted(code, &buffer, of(0, 0, 0, EQUAL));
-    check_sum_refused(BINARY64, PLAIN, 0, &more, 24, 6, 0);
-    let mut buffer = [UNTOUCHED; 24];
-    let code = dot(BINARY64, PLAIN, &zeros, &zeros, &mut buffer);
-    accepted(code, &buffer, of(0, 0, 0, EQUAL));
-    check_dot_refused(BINARY64, PLAIN, &more, &more, 24, 6, 0);
     // 1, 2 and 5 come before 6, and 6 before 7
-    let ragged = vec![0u8; 8 * (LIMIT + 1) + 7];
-    check_sum_refused(BINARY64, PLAIN, 0, &ragged, 24, 1, 0);
-    check_sum_refused(BINARY64, PLAIN, 0, &more, 23, 2, 0);
-    check_sum_refused(BINARY16, PLAIN, 0, &vec![0xff; 8 * (LIMIT + 1)], 24, 6, 0);
-    check_dot_refused(BINARY64, PLAIN, &more, &zeros, 24, 5, 0);
+    check_sum_refused(BINARY64, PLAIN, 0, ragged, 24, 1, 0);
+    let longer = &more[..8 * (LIMIT + 1)];
+    check_sum_refused(BINARY64, PLAIN, 0, longer, 23, 2, 0);
+    check_dot_refused(BINARY64, PLAIN, longer, zeros, 24, 5, 0);
+    check_sum_refused(BINARY64, PLAIN, 0, longer, 24, 6, 0);
+    check_dot_refused(BINARY64, PLAIN, longer, longer, 24, 6, 0);
+    more[7] = 0xff;
+    let stray = &more[..8 * (LIMIT + 1)];
+    check_sum_refused(BINARY16, PLAIN, 0, stray, 24, 6, 0);
+    check_dot_refused(BINARY16, PLAIN, stray, stray, 24, 6, 0);
+}
+
+#[test]
+fn a_million_pairs_of_zeros_and_one_more() {
+    for count in [1 << 20, (1 << 20) + 1] {
+        let zeros = vec![0u8; 8 * count];
+        let mut buffer = [UNTOUCHED; 24];
+        let code = dot(BINARY64, PLAIN, &zeros, &zeros, &mut buffer);
+        accepted(code, &buffer, of(0, 0, 0, EQUAL));
+    }
 }

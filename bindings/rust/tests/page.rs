@@ -9,7 +9,9 @@ use std::ops::Bound::{self, Excluded, Included, Unbounded};
 use draw::Draw;
 use fermuzhai::{raw, Flags, Page, Refusal, Rounding, Settings, Side, Summand, Tininess, Totals};
 
-const LIMIT: usize = 1 << 20;
+const LIMIT: usize = 1 << 28;
+/// The most values of a page with a short trailer.
+const MOST_SHORT: usize = 1 << 20;
 const UNTOUCHED: u8 = 0xa5;
 const PLAIN: raw::Settings = [0; 8];
 const BINARY64: raw::Format = [0, 11, 64];
@@ -61,21 +63,41 @@ fn summary(group: &[u64]) -> Vec<u8> {
     [positions.as_flattened(), &[class, 0, 0, 0]].concat()
 }
 
+fn short_trailer(offset: u32, count: u32) -> Vec<u8> {
+    let numbers = [offset, count, 64].map(u32::to_le_bytes);
+    [numbers.as_flattened(), b"CPG1"].concat()
+}
+
+fn long_trailer(offset: u64, count: u64) -> Vec<u8> {
+    let numbers = [offset, count].map(u64::to_le_bytes);
+    [numbers.as_flattened(), &[64, 0, 0, 0], b"CPG2"].concat()
+}
+
+/// The values and their summaries.
+fn body_of(words: &[u64]) -> Vec<u8> {
+    let mut body: Vec<u8> = words.iter().flat_map(|word| word.to_le_bytes()).collect();
+    body.extend(words.chunks(64).flat_map(summary));
+    body
+}
+
 fn page_of(words: &[u64]) -> Vec<u8> {
-    let count = words.len() as u32;
-    let mut page: Vec<u8> = words.iter().flat_map(|word| word.to_le_bytes()).collect();
-    page.extend(words.chunks(64).flat_map(summary));
-    for number in [8 * count, count, 64] {
-        page.extend(number.to_le_bytes());
-    }
-    page.extend(b"CPG1");
+    let count = words.len();
+    let mut page = body_of(words);
+    page.extend(if count > MOST_SHORT {
+        long_trailer(8 * count as u64, count as u64)
+    } else {
+        short_trailer(8 * count as u32, count as u32)
+    });
     page
 }
 
 /// The values of a page: of bytes that are what would have been written for the values that they count.
 fn opened(bytes: &[u8]) -> Option<Vec<u64>> {
-    let trailer = bytes.last_chunk::<16>()?;
-    let count = u32::from_le_bytes(trailer[4..8].try_into().unwrap()) as usize;
+    let count = if bytes.ends_with(b"CPG2") {
+        u64::from_le_bytes(bytes.last_chunk::<16>()?[..8].try_into().unwrap()) as usize
+    } else {
+        u32::from_le_bytes(bytes.last_chunk::<12>()?[..4].try_into().unwrap()) as usize
+    };
     if count > LIMIT || bytes.len() < 8 * count {
         return None;
     }
@@ -258,48 +280,131 @@ fn pages_are_those_of_the_model() {
     assert!(seen.len() > 500, "{}", seen.len());
 }
 
-/// As many values as there may be, and one more: 2 comes before 6.
+/// The longest page with a short trailer, and the shortest with a long one.
+#[test]
+fn either_trailer() {
+    let list = words(&mut Draw(20), MOST_SHORT + 1);
+    for (count, length, trailer) in [(MOST_SHORT, 8_585_232, 16), (MOST_SHORT + 1, 8_585_260, 24)] {
+        let list = &list[..count];
+        let mut page = check_written(list);
+        assert_eq!(page.len(), length);
+        let opened = Page::open(&page).unwrap();
+        for (start, end) in [(0, count), (count - 100, count), (count, count)] {
+            let wanted = fermuzhai::sum(&floats(&list[start..end]));
+            assert_eq!(opened.sum(start..end), wanted);
+        }
+        assert_eq!(opened.sum(..count + 1), Err(Refusal::BadSpan));
+        // the first and the last summary, the least and the greatest byte of each number of the trailer, the last letter
+        let behind = length - trailer;
+        let number = (trailer - 8) / 2;
+        for at in [
+            8 * count,
+            behind - 12,
+            behind,
+            behind + number - 1,
+            behind + number,
+            behind + 2 * number - 1,
+            length - 8,
+            length - 5,
+            length - 1,
+        ] {
+            page[at] ^= 1;
+            check_no_page(&page);
+            page[at] ^= 1;
+        }
+    }
+}
+
+/// The letters of one trailer over the numbers of the other; and a trailer that is right but for the range of its count.
+#[test]
+fn the_wrong_trailer() {
+    let list = words(&mut Draw(21), MOST_SHORT + 1);
+    for count in [0, 1, 64, 65, MOST_SHORT, MOST_SHORT + 1] {
+        let body = body_of(&list[..count]);
+        let (offset, number) = (8 * count as u64, count as u64);
+        let right = [
+            long_trailer(offset, number),
+            short_trailer(offset as u32, count as u32),
+        ];
+        let [long, short] = right.map(|trailer| [&body[..], &trailer].concat());
+        let (page, other) = if count > MOST_SHORT {
+            (long, short)
+        } else {
+            (short, long)
+        };
+        assert!(Page::open(&page).is_ok());
+        check_no_page(&other);
+        for mut bytes in [page, other] {
+            let last = bytes.len() - 1;
+            bytes[last] ^= b'1' ^ b'2';
+            check_no_page(&bytes);
+        }
+        // counts that are right modulo 2^32, or whose bytes are modulo 2^64
+        for wrong in [1 << 32, 1 << 60, 1 << 61, 1 << 63] {
+            let wrong = number + wrong;
+            check_no_page(&[&body[..], &long_trailer(offset, wrong)].concat());
+            let trailer = long_trailer(wrong.wrapping_mul(8), wrong);
+            check_no_page(&[&body[..], &trailer].concat());
+        }
+    }
+}
+
+/// The page of so many zeros. Those that nobody wrote take no memory, and a summary for each 64 of them does.
+fn page_of_zeros(count: usize) -> Vec<u8> {
+    let trailer = long_trailer(8 * count as u64, count as u64);
+    let behind = 8 * count + 12 * count.div_ceil(64);
+    let mut page = vec![0; behind + 24];
+    for summary in page[8 * count..behind].chunks_exact_mut(12) {
+        summary[8] = 4;
+    }
+    page[behind..].copy_from_slice(&trailer);
+    page
+}
+
+/// As many values as there may be; and one more, which no page holds.
 #[test]
 fn the_most_values() {
-    let mut draw = Draw(20);
-    let mut list = words(&mut draw, LIMIT);
-    let mut page = check_written(&list);
-    assert_eq!(page.len(), 8_585_232);
+    assert!(page_of_zeros(MOST_SHORT + 1) == page_of(&vec![0; MOST_SHORT + 1]));
+    let mut page = page_of_zeros(LIMIT);
+    assert_eq!(page.len(), 2_197_815_320);
+    assert_eq!(Page::length_of(LIMIT), Some(page.len()));
+    // two numbers, the first and the last value
+    for (at, value) in [(0, 2.5f64), (LIMIT - 1, -4.0)] {
+        let mut group = [0; 64];
+        group[at % 64] = value.to_bits();
+        page[8 * at..][..8].copy_from_slice(&value.to_le_bytes());
+        page[8 * LIMIT + 12 * (at / 64)..][..12].copy_from_slice(&summary(&group));
+    }
     let opened = Page::open(&page).unwrap();
-    for (start, end) in [(0, LIMIT), (LIMIT - 100, LIMIT), (LIMIT, LIMIT)] {
-        let wanted = fermuzhai::sum(&floats(&list[start..end]));
-        assert_eq!(opened.sum(start..end), wanted);
-    }
-    assert_eq!(opened.sum(..LIMIT + 1), Err(Refusal::BadSpan));
-    // the last value, the first and the last summary, each number of the trailer
-    for at in [
-        8 * LIMIT,
-        page.len() - 28,
-        page.len() - 16,
-        page.len() - 12,
-        page.len() - 8,
-    ] {
-        page[at] ^= 1;
-        check_no_page(&page);
-        page[at] ^= 1;
-    }
+    assert_eq!(opened.len(), LIMIT);
+    assert_eq!(opened.sum(..100).unwrap().result, 2.5);
+    assert_eq!(opened.sum(LIMIT - 100..).unwrap().result, -4.0);
+    assert_eq!(opened.sum(..=LIMIT), Err(Refusal::BadSpan));
+    check_no_page(&page_of_zeros(LIMIT + 1));
+}
 
-    list.push(0);
+/// One value more than there may be: 2 comes before 6. The zeros are neither read nor written.
+#[test]
+fn too_many_values() {
+    let values = vec![0.0; LIMIT + 1];
     assert_eq!(Page::length_of(LIMIT + 1), None);
-    let values = floats(&list);
     assert_eq!(Page::write(&values), Err(Refusal::TooManyElements));
-    let beyond = page_of(&list);
-    check_no_page(&beyond);
+    // a group more
+    let length = 2_197_815_320 + 8 + 12;
+    let mut destination = vec![0; length + 1];
+    let ends = [0, 8 * LIMIT, length - 24, length - 1, length];
     for (room, refusal) in [
-        (beyond.len() - 1, Refusal::ShortBuffer),
-        (beyond.len(), Refusal::TooManyElements),
-        (beyond.len() + 1, Refusal::TooManyElements),
+        (0, Refusal::ShortBuffer),
+        (length - 1, Refusal::ShortBuffer),
+        (length, Refusal::TooManyElements),
+        (length + 1, Refusal::TooManyElements),
     ] {
-        let mut destination = vec![UNTOUCHED; room];
-        let code = raw::page_write(&list, &mut destination).unwrap_err();
-        assert_eq!(Refusal::from_code(code), Some(refusal));
-        assert_eq!(Page::write_into(&values, &mut destination), Err(refusal));
-        assert!(destination.iter().all(|&byte| byte == UNTOUCHED));
+        for at in ends {
+            destination[at] = UNTOUCHED;
+        }
+        let into = Page::write_into(&values, &mut destination[..room]);
+        assert_eq!(into, Err(refusal));
+        assert_eq!(ends.map(|at| destination[at]), [UNTOUCHED; 5]);
     }
 }
 
@@ -307,6 +412,9 @@ fn the_most_values() {
 fn lengths() {
     // 480 months: 3840, eight groups of 12, 16
     for (count, length) in [(0, 16), (1, 36), (64, 540), (65, 560), (480, 3952)] {
+        assert_eq!(Page::length_of(count), Some(length));
+    }
+    for (count, length) in [(MOST_SHORT, 8_585_232), (MOST_SHORT + 1, 8_585_260)] {
         assert_eq!(Page::length_of(count), Some(length));
     }
     for count in [LIMIT + 1, 1 << 60, usize::MAX / 8, usize::MAX] {
@@ -407,9 +515,15 @@ fn garbage() {
         1 << 20,
         (1 << 20) + 1,
         1 << 28,
+        (1 << 28) + 1,
         1 << 29,
         1 << 31,
-        u32::MAX,
+        u32::MAX.into(),
+        1 << 32,
+        1 << 60,
+        1 << 61,
+        (1 << 61) + 1,
+        u64::MAX,
     ];
     for length in lengths {
         for _ in 0..4 {
@@ -420,20 +534,23 @@ fn garbage() {
                 check_no_page(&b"\0\0\0\0\0\0\0\0\x40\0\0\0CPG1"[16 - length..]);
                 continue;
             }
-            let fitting = counts.into_iter().chain([(length as u32 - 16) / 8]);
-            for count in fitting {
+            let fitting = (length as u64 - 16) / 8;
+            for count in counts.into_iter().chain([fitting]) {
                 let mut bytes = bytes.clone();
                 let offset = count.wrapping_mul(8);
-                for (at, number) in [(16, offset), (12, count), (8, 64)] {
-                    bytes[length - at..][..4].copy_from_slice(&u32::to_le_bytes(number));
-                }
-                bytes[length - 4..].copy_from_slice(b"CPG1");
+                let trailer = short_trailer(offset as u32, count as u32);
+                bytes[length - 16..].copy_from_slice(&trailer);
                 // sixteen bytes that count nothing are the empty page
                 check_bytes(&bytes);
-                if (length, count) != (16, 0) {
+                if (length, count as u32) != (16, 0) {
                     check_no_page(&bytes);
                 }
                 bytes[length - 1] = b'2';
+                check_no_page(&bytes);
+                // cut where there is no room for all of it
+                let trailer = long_trailer(offset, count);
+                let room = length.min(24);
+                bytes[length - room..].copy_from_slice(&trailer[24 - room..]);
                 check_no_page(&bytes);
             }
         }

@@ -4,7 +4,7 @@
 use fermuzhai::{pence, raw, Format, Kind, Refusal, Settings, Totals};
 
 const FARTHEST: i64 = Format::FARTHEST_BIAS;
-const LIMIT: usize = 1 << 20;
+const LIMIT: usize = 1 << 28;
 const LEAST: f64 = f64::from_bits(1);
 
 /// 2^n, for a normal number.
@@ -240,21 +240,24 @@ fn refusals_in_their_order() {
     }
     assert_eq!(raw::pence([4, 5, 16], None, &[0x1_0000]), Err(3));
 
-    // an eighth of a pound each, as many as there may be, and one more; a NaN and a stray bit among them
-    let mut list = vec![0x3000; LIMIT + 1];
-    check(half, &list[..LIMIT], Ok(13_107_200));
-    check(half, &list, Err(6));
-    list[LIMIT - 2] = 0x7e00;
-    check(half, &list[..LIMIT], Err(8));
-    list[LIMIT - 1] = 0x1_0000;
-    check(half, &list[..LIMIT], Err(7 + 256 * (LIMIT as u64 - 1)));
-    check(half, &list, Err(6));
-    check(half.with_bias(FARTHEST + 1), &list, Err(3));
-    assert_eq!(pence(&vec![0f64; LIMIT + 1]), Err(Refusal::TooManyElements));
-    assert_eq!(
-        pence(&vec![f32::NAN; LIMIT + 1]),
-        Err(Refusal::TooManyElements)
-    );
+    // an eighth of a pound each, a million and some; a NaN and a stray bit among them
+    let mut list = vec![0x3000; 1_048_577];
+    check(half, &list, Ok(13_107_213));
+    list[1_048_575] = 0x7e00;
+    check(half, &list, Err(8));
+    list[1_048_576] = 0x1_0000;
+    check(half, &list, Err(7 + 256 * 1_048_576));
+
+    // one more than there may be, with a NaN and a stray bit; zeros that nobody wrote take no memory
+    let mut list = vec![0; LIMIT + 1];
+    list[LIMIT - 1] = 0x7e00;
+    list[LIMIT] = 0x1_0000;
+    let too_many = Err(Refusal::TooManyElements);
+    assert_eq!(raw::pence([0, 5, 16], None, &list), Err(6));
+    assert_eq!(Totals::of(half).pence(&list), too_many);
+    let far = half.with_bias(FARTHEST + 1);
+    assert_eq!(Totals::of(far).pence(&list), Err(Refusal::NoSuchFormat));
+    assert_eq!(pence(&vec![0f64; LIMIT + 1]), too_many);
 }
 
 /// Eighths of a pound, many of them ties, beside amounts that cancel: the whole number of eighths is known, and so is the figure.

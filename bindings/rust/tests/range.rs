@@ -7,7 +7,7 @@ use draw::Draw;
 use fermuzhai::Amount::{self, Between, Known, Missing};
 use fermuzhai::{range, raw, Refusal, Rounding, Settings, Totals};
 
-const LIMIT: usize = 1 << 20;
+const LIMIT: usize = 1 << 28;
 const GUARD: u64 = 0xa5a5_a5a5_a5a5_a5a5;
 const MAX: f64 = f64::MAX;
 const LEAST: f64 = f64::from_bits(1);
@@ -239,17 +239,15 @@ fn bad_tags() {
     }
 }
 
-/// Every choice of conditions: the first in the order 2, 5, 6, 11 is told, and nothing is written.
+/// Every choice of conditions: the first in the order 2, 5, 11 is told, and nothing is written.
 #[test]
 fn refusals_in_their_order() {
     let one = 1.0f64.to_bits();
-    for holding in 0..16 {
+    for holding in 0..8 {
         let holds = |condition: u32| holding >> condition & 1 == 1;
-        let count = if holds(2) { LIMIT + 1 } else { 3 };
         let room = if holds(0) { 1 } else { 2 };
-        let mut tags = vec![0; count];
-        tags[1] = if holds(3) { 3 } else { 2 };
-        let wanted = [2, 5, 6, 11].into_iter().enumerate();
+        let tags = [0, if holds(2) { 3 } else { 2 }, 0];
+        let wanted = [2, 5, 11].into_iter().enumerate();
         let wanted = { wanted }.find(|&(condition, _)| holds(condition as u32));
         let Some((_, code)) = wanted else { continue };
         // one list is longer, or one is shorter
@@ -259,11 +257,10 @@ fn refusals_in_their_order() {
             &[[0; 3]]
         };
         for less in lengths {
-            let figures = vec![one; count];
             check_untouched(
-                &tags[..count - less[0]],
-                &figures[..count - less[1]],
-                &figures[..count - less[2]],
+                &tags[..3 - less[0]],
+                &[one; 3][..3 - less[1]],
+                &[one; 3][..3 - less[2]],
                 one,
                 room,
                 code,
@@ -275,29 +272,55 @@ fn refusals_in_their_order() {
     check_untouched(&[], &[], &[one], one, 2, 5);
     // a ceiling comes after the lengths
     check_untouched(&[0], &[], &[one], INFINITY, 2, 5);
-    check_untouched(
-        &vec![0; LIMIT + 1],
-        &vec![one; LIMIT + 1],
-        &vec![one; LIMIT + 1],
-        INFINITY,
-        2,
-        6,
-    );
 }
 
-/// As many amounts as there may be, and one more.
+/// One entry more than there may be: 6 comes after 2 and 5, and before 11. Zeros that nobody wrote take no memory.
 #[test]
-fn the_most_amounts() {
-    let mut amounts = vec![Between(0.5, 1.0); LIMIT + 1];
-    assert_eq!(range(&amounts, 0.0), Err(Refusal::TooManyElements));
-    assert_eq!(range(&amounts, f64::NAN), Err(Refusal::TooManyElements));
+fn too_many_entries() {
+    let one = 1.0f64.to_bits();
+    let list = || vec![0; LIMIT + 2];
+    let (mut tags, mut first, mut second) = (list(), list(), list());
+    for (bad, ceiling) in [(0, one), (3, one), (0, INFINITY), (3, INFINITY)] {
+        tags[5] = bad;
+        for (room, less, code) in [
+            (1, [0, 0, 0], 2),
+            (1, [1, 0, 0], 2),
+            (2, [1, 0, 0], 5),
+            (2, [0, 1, 0], 5),
+            (2, [0, 0, 1], 5),
+            (2, [0, 0, 0], 6),
+            (2, [1, 1, 1], 6),
+        ] {
+            for end in [0, LIMIT + 1] {
+                (first[end], second[end]) = (GUARD, GUARD);
+            }
+            let mut pair = vec![GUARD; room];
+            let (a, b) = (&mut first[less[1]..], &mut second[less[2]..]);
+            let given = raw::range(&tags[less[0]..], a, b, ceiling, &mut pair);
+            assert_eq!(given, code);
+            for list in [&first, &second] {
+                assert_eq!((list[0], list[1]), (GUARD, 0));
+                assert_eq!((list[LIMIT], list[LIMIT + 1]), (0, GUARD));
+            }
+            assert_eq!(pair, vec![GUARD; room]);
+        }
+    }
+}
+
+#[test]
+fn a_million_amounts_and_one_more() {
+    let mut amounts = vec![Between(0.5, 1.0); 1_048_577];
+    assert_eq!(range(&amounts, 0.0), Ok((524_288.5, 1_048_577.0)));
     assert_eq!(range(&amounts[1..], 0.0), Ok((524_288.0, 1_048_576.0)));
-    amounts[LIMIT] = Missing;
-    assert_eq!(range(&amounts[1..], 0.75), Ok((524_287.5, 1_048_575.75)));
-    amounts[LIMIT] = Between(1.0, 0.5);
-    assert_eq!(range(&amounts, 0.0), Err(Refusal::TooManyElements));
-    assert_eq!(range(&amounts[1..], 0.0), Err(Refusal::BadAmount));
-    assert_eq!(range(&amounts[..LIMIT], 0.0), Ok((524_288.0, 1_048_576.0)));
+    assert_eq!(range(&amounts, f64::NAN), Err(Refusal::BadAmount));
+    amounts[1_048_576] = Missing;
+    assert_eq!(range(&amounts, 0.75), Ok((524_288.0, 1_048_576.75)));
+    amounts[1_048_576] = Between(1.0, 0.5);
+    assert_eq!(range(&amounts, 0.0), Err(Refusal::BadAmount));
+    assert_eq!(
+        range(&amounts[..1_048_576], 0.0),
+        Ok((524_288.0, 1_048_576.0))
+    );
 }
 
 /// A whole number counts 2^−UNIT.

@@ -238,14 +238,10 @@ fn refusals() {
     );
     assert_eq!(dot(&[1.0], &[1.0, 2.0]), Err(Refusal::DifferentLengths));
     assert_eq!(
-        sum(&vec![0f64; (1 << 20) + 1]),
+        sum(&vec![0f64; (1 << 28) + 1]),
         Err(Refusal::TooManyElements)
     );
-    assert_eq!(
-        sum(&vec![0f32; (1 << 20) + 1]),
-        Err(Refusal::TooManyElements)
-    );
-    assert!(sum(&vec![0f32; 1 << 20]).is_ok());
+    assert!(sum(&vec![0f32; (1 << 20) + 1]).is_ok());
     assert_eq!(
         halves.sum(&[0xffff, 0x10000, 1 << 63]),
         Err(Refusal::StrayBit {
