@@ -3,7 +3,7 @@
 use std::fmt;
 
 /// The values of a list, at most this many.
-pub const LIMIT: usize = 1 << 20;
+pub const LIMIT: usize = 1 << 28;
 
 #[derive(Clone, Copy, Debug, PartialEq, Eq)]
 pub enum Operation {

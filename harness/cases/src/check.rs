@@ -210,13 +210,14 @@ mod tests {
 
     use super::{Answer, Bench, Oracle, Seen, word};
     use crate::biases;
-    use crate::case::{Case, Format, Operation};
+    use crate::case::{Case, Format, LIMIT, Operation};
     use crate::entries;
     use crate::lists;
-    use crate::refusals::is_stray;
+    use crate::refusals::{Expected, expected, is_stray};
     use crate::refused::refused;
     use crate::rng::Rng;
     use crate::shrink::shrink;
+    use crate::table::Table;
 
     const BINARY16: Format = Format::plain([0, 5, 16]);
 
@@ -286,6 +287,28 @@ mod tests {
                 panic!("case {number}, {case}: {what}");
             }
         }
+    }
+
+    /// Zeros that nobody wrote, more than any list that is drawn has: they take no memory, and are refused unread.
+    #[test]
+    fn too_many_elements() {
+        let bytes = vec![0; 8 * (LIMIT + 1)];
+        let mut answer = [0xa5; 24];
+        let mut case = Case::new(BINARY16, [0; 8], Operation::Dot);
+        case.left = vec![0; LIMIT + 1];
+        case.right = vec![0; LIMIT + 1];
+        assert_eq!(expected(&case), Expected::Refused(6));
+        assert_eq!(entries::dot(BINARY16, [0; 8], &bytes, &bytes, &mut answer), 6);
+        case.right.pop();
+        assert_eq!(expected(&case), Expected::Refused(5));
+        assert_eq!(entries::dot(BINARY16, [0; 8], &bytes, &bytes[8..], &mut answer), 5);
+        case.operation = Operation::Sum(0);
+        assert_eq!(expected(&case), Expected::Refused(6));
+        assert_eq!(entries::sum(BINARY16, [0; 8], 0, &bytes, &mut answer), 6);
+        let table = Table { sum: case, shape: [1, LIMIT as u64 + 1], lent: [0, 0] };
+        assert_eq!(table.expected(), Expected::Refused(6));
+        assert_eq!(entries::table(BINARY16, [0; 8], table.shape, &table.sum.left, [&mut [], &mut []], &mut answer), 6);
+        assert_eq!(answer, [0xa5; 24]);
     }
 
     #[test]

@@ -1,6 +1,6 @@
 //! The lists that are drawn, group by group.
 
-use crate::case::{Case, Format, LIMIT, Operation};
+use crate::case::{Case, Format, Operation};
 use crate::draw::{Near, empty_case, is_wide, length, operation};
 use crate::rng::Rng;
 use crate::shape::Shape;
@@ -172,16 +172,16 @@ pub fn lengthen(rng: &mut Rng, case: &mut Case, different: usize, count: usize) 
     }
 }
 
-/// Lists of about 1,048,576 elements: the most that is accepted, and a few more.
-pub fn limit(rng: &mut Rng, format: Format) -> Case {
+/// Lists of about 1,048,576 elements: from one less to two more.
+pub fn million(rng: &mut Rng, format: Format) -> Case {
     let operation = operation(rng);
     let mut case = empty_case(rng, format, operation);
     let different = 1 + rng.below(3) as usize;
     put_lists(rng, &mut case, different);
-    let count = LIMIT - 1 + rng.below(4) as usize;
+    let count = (1 << 20) - 1 + rng.below(4) as usize;
     lengthen(rng, &mut case, different, count);
     match rng.below(6) {
-        // 5 and 7 together with 6
+        // 5 and 7
         0 if case.is_dot() => drop(case.right.pop()),
         1 if format.width() < 64 => case.left[count / 2] |= 1 << format.width(),
         _ => {}

@@ -136,7 +136,7 @@ const GROUPS: [Group<Case>; 13] = [
     Group { name: "refusals", pool: Pool::All, draw: refused, count: |all| all * 40 / 1000, portion: 4096 },
     Group { name: "many elements", pool: Pool::All, draw: lists::many, count: |all| all / 500, portion: 16 },
     Group { name: "wide gaps", pool: Pool::Wide, draw: lists::wide, count: |all| all / 20_000, portion: 1 },
-    Group { name: "about 1,048,576 elements", pool: Pool::All, draw: lists::limit, count: |all| 8 + all / 500_000, portion: 1 },
+    Group { name: "about 1,048,576 elements", pool: Pool::All, draw: lists::million, count: |all| 8 + all / 500_000, portion: 1 },
     Group { name: "named biases", pool: Pool::Biased, draw: biases::named, count: |all| all / 30, portion: 256 },
     Group { name: "named biases, refusals", pool: Pool::Biased, draw: biases::out_of_range, count: |all| all / 150, portion: 256 },
     Group { name: "the kind's own bias, named", pool: Pool::All, draw: biases::own, count: |all| all / 100, portion: 256 },
@@ -147,7 +147,7 @@ const TABLES: [Group<Table>; 4] = [
     Group { name: "tables", pool: Pool::All, draw: tables::any, count: |all| all / 120, portion: 256 },
     Group { name: "tables, refusals", pool: Pool::All, draw: tables::refused, count: |all| all / 240, portion: 256 },
     Group { name: "tables, a bias named", pool: Pool::Biased, draw: tables::biased, count: |all| all / 400, portion: 256 },
-    Group { name: "tables of about 1,048,576 cells", pool: Pool::All, draw: tables::limit, count: |all| 8 + all / 4_000_000, portion: 1 },
+    Group { name: "tables of about 1,048,576 cells", pool: Pool::All, draw: tables::million, count: |all| 8 + all / 4_000_000, portion: 1 },
 ];
 
 /// One run's shared parts.

@@ -1,7 +1,7 @@
 //! The tables that are drawn.
 
 use crate::biases::out_of_its_range;
-use crate::case::{Case, Format, LIMIT, Operation};
+use crate::case::{Case, Format, Operation};
 use crate::draw::{Near, empty_case, is_wide};
 use crate::lists::{lengthen, negative, special};
 use crate::refused::{break_format, break_setting, put_stray_bit};
@@ -128,11 +128,10 @@ pub fn biased(rng: &mut Rng, format: Format) -> Table {
     table
 }
 
-/// Tables of few different values: of 1,048,576 cells, or one less, and four times as often of more, which take no time.
-pub fn limit(rng: &mut Rng, format: Format) -> Table {
-    let most = LIMIT as u64;
-    let fits = [[1024, 1024], [most / 3, 3], [4, most / 4]];
-    let shape = if rng.once_in(5) { rng.pick(&fits) } else { rng.pick(&[[1024, 1025], [1, most + 1], [most + 1, 1], [2, most]]) };
+/// Tables of few different values, of about 1,048,576 cells or twice as many.
+pub fn million(rng: &mut Rng, format: Format) -> Table {
+    let most = 1 << 20;
+    let shape = rng.pick(&[[1024, 1024], [most / 3, 3], [4, most / 4], [1024, 1025], [1, most + 1], [most + 1, 1], [2, most]]);
     let mut sum = empty_case(rng, format, Operation::Sum(0));
     let near = Near::new(rng, Shape::of(format));
     for _ in 0..3 {

@@ -43,8 +43,9 @@ pub struct Tally {
     pub differences: u64,
 }
 
-/// The refusals of tables, in their order.
-const TABLE_REFUSALS: [usize; 7] = [2, 3, 4, 6, 9, 10, 7];
+/// The refusals that are drawn, and those of tables, in their order. No list is drawn so long that it is refused with 6.
+const REFUSALS: [usize; 6] = [1, 2, 3, 4, 5, 7];
+const TABLE_REFUSALS: [usize; 6] = [2, 3, 4, 9, 10, 7];
 
 const SHAPES: [&str; 6] = ["no rows and no columns", "no rows", "no columns", "one row", "one column", "more of both"];
 
@@ -149,7 +150,7 @@ impl Tally {
                 missed.push(what);
             }
         };
-        for number in 1..8 {
+        for number in REFUSALS {
             want(format!("refusal {number}"), self.refusals[number]);
         }
         want("refusal 3 of a bias".to_string(), self.biases);
@@ -204,7 +205,7 @@ fn report_formats(tally: &Tally, biased: bool) {
 /// The counts of the whole run.
 pub fn report(tally: &Tally, seed: u64, seconds: f64) {
     println!();
-    println!("refusals 1 to 7: {:?}, {} of 3 for a bias alone", &tally.refusals[1..], tally.biases);
+    println!("refusals {REFUSALS:?}: {:?}, {} of 3 for a bias alone", REFUSALS.map(|number| tally.refusals[number]), tally.biases);
     println!("flags 1, 4, 8, 16, 32, 64, 128: {:?}", [0, 2, 3, 4, 5, 6, 7].map(|bit| tally.flags[bit]));
     println!("sides 0 to 3: {:?}", tally.sides);
     println!("sums in 0 to 7 and in more passes: {:?}", tally.passes[0]);
