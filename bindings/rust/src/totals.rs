@@ -6,8 +6,8 @@ use crate::{
     raw, Flags, Float, Format, List, Page, Record, Refusal, Settings, Side, Summand, Table, Value,
 };
 
-/// The most rows, or columns, that [`Totals::table`] makes room for where there are no cells. With
-/// cells it is bounded by their number, which no table has more rows or columns than.
+/// The most rows, or columns, that [`Totals::table`] makes room for where there are no cells. A table
+/// with cells has at most as many of either.
 const MOST_EMPTY: usize = 1 << 20;
 
 /// The four totals in one format and under one choice of settings; the sums of the rows and columns
@@ -251,10 +251,9 @@ impl<T: Value> Totals<T> {
     /// ```
     pub fn table(&self, cells: &[T], rows: usize, columns: usize) -> Result<Table<T>, Refusal> {
         // where none is made the library refuses, if nothing else comes before
-        let most = if cells.is_empty() {
-            MOST_EMPTY
-        } else {
-            cells.len()
+        let most = match cells.len() {
+            0 => MOST_EMPTY,
+            count => count,
         };
         let room = |n| vec![T::from_encoding(0); if n > most { 0 } else { n }];
         let (mut row_totals, mut column_totals) = (room(rows), room(columns));
