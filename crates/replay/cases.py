@@ -2643,8 +2643,8 @@ def damaged_areas():
     pages += [trailer, summary + trailer]
     pages += [page + page, page_bytes([]) + page, page + page_bytes([]), bytes(7) + page_bytes([]), page_bytes([0]) + page_bytes([])]
     # a longer trailer, of two values and of none
-    longer_trailer = lambda n, letters: struct.pack('<QQI4s', 8 * n, n, 64, letters)
-    pages += [values + summary + longer_trailer(2, b'CPG2'), longer_trailer(0, b'CPG2'), values + summary + longer_trailer(2, LETTERS)]
+    longer_trailer = lambda n, letters: LONG_TRAILER.pack(8 * n, n, 64, letters)
+    pages += [values + summary + longer_trailer(2, LONG_LETTERS), longer_trailer(0, LONG_LETTERS), values + summary + longer_trailer(2, LETTERS)]
     # a page of no values with the summary of an empty group
     pages += [bytes(12) + page_bytes([]), bytes(8) + page_bytes([]), bytes(12) + TRAILER.pack(12, 0, 64, LETTERS)]
     made = [Span(p, 0, i % 2, place=i % 8) for i, p in enumerate(pages)]

@@ -517,9 +517,11 @@ def range_pair(lows, highs):
 # ---- career pages
 
 GROUP = 64
-MOST_VALUES = 1048576
-LETTERS = b'CPG1'
-TRAILER = struct.Struct('<III4s')
+SHORT_MOST = 1048576
+LETTERS, LONG_LETTERS = b'CPG1', b'CPG2'
+TRAILER, LONG_TRAILER = struct.Struct('<III4s'), struct.Struct('<QQI4s')
+# by the letters of a trailer its fields, and the counts that it may have
+TRAILERS = {LETTERS: (TRAILER, range(SHORT_MOST + 1)), LONG_LETTERS: (LONG_TRAILER, range(SHORT_MOST + 1, LIMIT + 1))}
 SUMMARY = struct.Struct('<iiB3s')
 # the numbers of a page's refusals, in the order in which they are given
 PAGE_ORDER = (2, 12, 13, 4)
@@ -546,18 +548,23 @@ def in_groups(values):
 
 def page_bytes(values):
     """The page that is written of some values."""
+    n = len(values)
     summaries = b''.join(SUMMARY.pack(*page_summary(group), bytes(3)) for group in in_groups(values))
-    return b''.join(b.to_bytes(8, 'little') for b in values) + summaries + TRAILER.pack(8 * len(values), len(values), GROUP, LETTERS)
+    trailer = TRAILER.pack(8 * n, n, GROUP, LETTERS) if n <= SHORT_MOST else LONG_TRAILER.pack(8 * n, n, GROUP, LONG_LETTERS)
+    return b''.join(b.to_bytes(8, 'little') for b in values) + summaries + trailer
 
 
 def page_values(page):
     """The values of a page, or None where it does not open."""
-    if len(page) < TRAILER.size:
+    if page[-4:] not in TRAILERS:
         return None
-    offset, count, group, letters = TRAILER.unpack(page[-TRAILER.size:])
-    if (group, letters) != (GROUP, LETTERS) or count > MOST_VALUES or offset != 8 * count:
+    trailer, counts = TRAILERS[page[-4:]]
+    if len(page) < trailer.size:
         return None
-    area = page[offset:-TRAILER.size]
+    offset, count, group, _ = trailer.unpack(page[-trailer.size:])
+    if group != GROUP or count not in counts or offset != 8 * count:
+        return None
+    area = page[offset:-trailer.size]
     if offset > len(page) or len(area) != SUMMARY.size * -(-count // GROUP):
         return None
     values = [int.from_bytes(page[8 * i:8 * i + 8], 'little') for i in range(count)]
@@ -580,4 +587,6 @@ def page_conditions(page, start, end, c, summand, room):
 def page_written(values, room):
     """What the writing answers, and the bytes that it lays."""
     page = page_bytes(values)
-    return (2, b'') if len(page) > room else (256 * len(page), page)
+    if len(page) > room:
+        return 2, b''
+    return (6, b'') if len(values) > LIMIT else (256 * len(page), page)

@@ -15,7 +15,7 @@ Close x y k = (x < y + k) × (y < x + k)
 pub close-swap : (x y k : ℕ) → Close x y k → Close y x k
 close-swap x y k h = (h .1, h .0)
 
--- the most terms for which all this holds (document 01 asks for 2^20)
+-- the most terms that these laws speak of: as many as refusal 6 lets pass (`limit` in specs/Totals.antt)
 abbrev pub terms-max : ℕ
 terms-max = 268435456
 
