@@ -47,18 +47,18 @@ module _ (f : Format) (b : RangeBounds f) (s : Bool) (x m : ℕ) (hx : x < 2 ^ (
           go true = one-mul (2 ^ (f .W - 1)) ∙ top ∙ ap (λ (n : ℕ). n * 2 ^ fractionBits f) (sym (one-mul (2 ^ (f .E))))
           go false = zero-mul (2 ^ (f .W - 1)) ∙ sym (ap (λ (n : ℕ). n * 2 ^ fractionBits f) (zero-mul (2 ^ (f .E))) ∙ zero-mul (2 ^ fractionBits f))
 
-  sign-back : signBit f (assembled f s x m) ≡ s
+  pub sign-back : signBit f (assembled f s x m) ≡ s
   sign-back = ap (λ (n : ℕ). eqb (n % 2) 1) (ap (λ (n : ℕ). n / 2 ^ (f .W - 1)) by-sign ∙ digits-div (flag 1 s) body) ∙ go s
     where
       go : (t : Bool) → eqb (flag 1 t % 2) 1 ≡ t
       go true = refl
       go false = refl
 
-  field-back : fieldOf f (assembled f s x m) ≡ x
+  pub field-back : fieldOf f (assembled f s x m) ≡ x
   field-back =
       ap (λ (n : ℕ). n % 2 ^ (f .E)) (ap (λ (n : ℕ). n / 2 ^ fractionBits f) by-field ∙ digits-div (flag 1 s * 2 ^ (f .E) + x) hm) ∙ digits-mod (flag 1 s) hx
 
-  fraction-back : fractionOf f (assembled f s x m) ≡ m
+  pub fraction-back : fractionOf f (assembled f s x m) ≡ m
   fraction-back = ap (λ (n : ℕ). n % 2 ^ fractionBits f) by-field ∙ digits-mod (flag 1 s * 2 ^ (f .E) + x) hm
 
   pub fields-back : decode f (assembled f s x m) ≡ decodeFields (kindOf (f .kind)) f s x m

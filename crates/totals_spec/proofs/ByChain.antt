@@ -57,7 +57,7 @@ finite-by-chain f c sub products minus ts b k g len =
 
 -- ---- what an accepted call has shown
 
-many : (n : ℕ) → n ≤ limit → n ≤ terms-max
+pub many : (n : ℕ) → n ≤ limit → n ≤ terms-max
 many n h = le-trans h (lit≤ tt)
 
 pub sum-by-chain : (f : Format) (c : Settings) (u : ℕ) (l : List ℕ) (sub products minus : Bool) → sumRefusal f c u l ≡ 0

@@ -16,7 +16,7 @@ use Rattle.totals_spec.specs.Totals.{operands}
 use Rattle.totals_spec.specs.Fits.{Encodes}
 
 module _ (f : Format) where
-  encodes-cond : (b : Bool) (x y : Unpacked) → Encodes f x → Encodes f y → Encodes f (cond b x y)
+  pub encodes-cond : (b : Bool) (x y : Unpacked) → Encodes f x → Encodes f y → Encodes f (cond b x y)
   encodes-cond true x y h k = h
   encodes-cond false x y h k = k
 

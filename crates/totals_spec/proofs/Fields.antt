@@ -86,7 +86,7 @@ few-sum f c g towards x = go (eqb (x .mag) 0)
 -- ---- an answer
 
 module _ (f : Format) (c : Settings) (sub products : Bool) (l : List Item) where
-  without : (v : Unpacked) (invalid : Bool) → Fields (special f sub v invalid)
+  pub without : (v : Unpacked) (invalid : Bool) → Fields (special f sub v invalid)
   unfolding special
   without v invalid = record { flags = omega (arith, flag-less 128 sub, flag-less 1 invalid); side = side-less 0 (decode f (encode f v)) _ }
 

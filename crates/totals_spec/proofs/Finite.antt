@@ -14,19 +14,19 @@ use Rattle.totals_spec.specs.Terms.{Item, nanItem, invalidItem, infinite
 use Rattle.totals_spec.specs.Terms.{isInfinite, terms}
 use Rattle.totals_spec.specs.Totals.{finiteTotal, withoutNan, accepted, isSquare, sumRefusal, sumTerms, sumAccepted}
 use Rattle.totals_spec.specs.Totals.{sumAnswer, dotRefusal, pairs, dotTerms, dotAccepted, dotAnswer}
-use Rattle.totals_spec.specs.Promises.{AllFinite, zeroFor, Sum-exact, Dot-exact}
+use Rattle.totals_spec.specs.Promises.{AllFiniteBy, AllFinite, zeroFor, Sum-exact, Dot-exact}
 use Rattle.totals_spec.proofs.Order.{dot-lengths}
 
 -- ---- zeros and terms
 
-abbrev Plain : Item → Type 0
+abbrev pub Plain : Item → Type 0
 Plain nanItem = ⊥
 Plain invalidItem = ⊥
 Plain (infinite s) = ⊥
 Plain (zeroItem s) = Unit {0}
 Plain (term t) = Unit {0}
 
-abbrev AllPlain : List Item → Type 0
+abbrev pub AllPlain : List Item → Type 0
 AllPlain [] = Unit {0}
 AllPlain (x ∷ l) = Plain x × AllPlain l
 
@@ -39,11 +39,11 @@ none-of t z g (infinite s ∷ l) h = absurd (h .0)
 none-of t z g (zeroItem s ∷ l) h = ap₂ _||_ (z s) (none-of t z g l (h .1))
 none-of t z g (term x ∷ l) h = ap₂ _||_ (g x) (none-of t z g l (h .1))
 
-some-term : (ts : List Term) → 0 < length ts → any (λ t. true) ts ≡ true
+pub some-term : (ts : List Term) → 0 < length ts → any (λ t. true) ts ≡ true
 some-term [] h = absurd (not-suc-le-zero h)
 some-term (t ∷ ts) h = refl
 
-plain-accepted : (f : Format) (c : Settings) (sub products first signaling : Bool) (v : Unpacked) (l : List Item) → AllPlain l
+pub plain-accepted : (f : Format) (c : Settings) (sub products first signaling : Bool) (v : Unpacked) (l : List Item) → AllPlain l
     → accepted f c sub products first signaling v l ≡ finiteTotal f c sub products (zeroFor c l) (terms l)
 unfolding accepted withoutNan
 plain-accepted f c sub products first signaling v l h =
@@ -56,7 +56,7 @@ plain-accepted f c sub products first signaling v l h =
 
 -- ---- finite values give zeros and terms
 
-number-cond : (b s : Bool) (x : Unpacked) → T (isNumber x) → T (isNumber (cond b (zeroOf s) x))
+pub number-cond : (b s : Bool) (x : Unpacked) → T (isNumber x) → T (isNumber (cond b (zeroOf s) x))
 number-cond true s x h = tt
 number-cond false s x h = h
 
@@ -64,7 +64,7 @@ number-operand : (f : Format) (c : Settings) (b : ℕ) → T (isNumber (decode f
 unfolding operand
 number-operand f c b h = number-cond (isSet (c .denormalsAreZero) && isSubnormal f b) (signBit f b) (decode f b) h
 
-plain-item : (u : Summand) (x : Unpacked) → T (isNumber x) → Plain (itemOf u x)
+pub plain-item : (u : Summand) (x : Unpacked) → T (isNumber x) → Plain (itemOf u x)
 plain-item value (zeroOf s) h = tt
 plain-item value (finite s k m) h = tt
 plain-item magnitude (zeroOf s) h = tt
@@ -78,7 +78,7 @@ plain-item magnitude (nan s g m) h = absurd h
 plain-item square (infinity s) h = absurd h
 plain-item square (nan s g m) h = absurd h
 
-plain-pair : (x y : Unpacked) → T (isNumber x) → T (isNumber y) → Plain (pairOf x y)
+pub plain-pair : (x y : Unpacked) → T (isNumber x) → T (isNumber y) → Plain (pairOf x y)
 plain-pair (zeroOf s) (zeroOf t) h k = tt
 plain-pair (zeroOf s) (finite t j n) h k = tt
 plain-pair (finite s i m) (zeroOf t) h k = tt
@@ -90,17 +90,25 @@ plain-pair (finite s i m) (nan t g n) h k = absurd k
 plain-pair (infinity s) y h k = absurd h
 plain-pair (nan s g m) y h k = absurd h
 
+-- whichever way they are read and made items
+module _ (read : ℕ → Unpacked) where
+  pub plain-all : (i : ℕ → Item) → ((b : ℕ) → T (isNumber (read b)) → Plain (i b)) → (l : List ℕ) → AllFiniteBy read l → AllPlain (map i l)
+  plain-all i p [] h = tt
+  plain-all i p (b ∷ l) h = (p b (h .0), plain-all i p l (h .1))
+
+  pub plain-both : (i : ℕ × ℕ → Item) → ((x : ℕ × ℕ) → T (isNumber (read (x .0))) → T (isNumber (read (x .1))) → Plain (i x))
+      → (xs ys : List ℕ) → AllFiniteBy read xs → AllFiniteBy read ys → AllPlain (map i (pairs xs ys))
+  plain-both i p [] ys h k = tt
+  plain-both i p (x ∷ xs) [] h k = tt
+  plain-both i p (x ∷ xs) (y ∷ ys) h k = (p (x, y) (h .0) (k .0), plain-both i p xs ys (h .1) (k .1))
+
 plain-items : (f : Format) (c : Settings) (u : Summand) (l : List ℕ) → AllFinite f l → AllPlain (map (item f c u) l)
-unfolding item
-plain-items f c u [] h = tt
-plain-items f c u (b ∷ l) h = (plain-item u (operand f c b) (number-operand f c b (h .0)), plain-items f c u l (h .1))
+plain-items f c u = plain-all (decode f) (item f c u) (λ b h. unfold item in plain-item u (operand f c b) (number-operand f c b h))
 
 plain-pairs : (f : Format) (c : Settings) (xs ys : List ℕ) → AllFinite f xs → AllFinite f ys → AllPlain (map (pairItem f c) (pairs xs ys))
-unfolding pairItem
-plain-pairs f c [] ys h k = tt
-plain-pairs f c (x ∷ xs) [] h k = tt
-plain-pairs f c (x ∷ xs) (y ∷ ys) h k =
-    (plain-pair (operand f c x) (operand f c y) (number-operand f c x (h .0)) (number-operand f c y (k .0)), plain-pairs f c xs ys (h .1) (k .1))
+plain-pairs f c =
+    plain-both (decode f) (pairItem f c)
+    (λ x h k. unfold pairItem in plain-pair (operand f c (x .0)) (operand f c (x .1)) (number-operand f c (x .0) h) (number-operand f c (x .1) k))
 
 -- a test of the elements of either list is one of the pairs
 or-mix : (a b x y : Bool) → ((a || b) || (x || y)) ≡ ((a || x) || (b || y))
@@ -109,7 +117,7 @@ or-mix false true true y = refl
 or-mix false true false y = refl
 or-mix false false x y = refl
 
-pairs-any : (t : ℕ → Bool) (xs ys : List ℕ) → length xs ≡ length ys → any (λ x. t (x .0) || t (x .1)) (pairs xs ys) ≡ (any t xs || any t ys)
+pub pairs-any : (t : ℕ → Bool) (xs ys : List ℕ) → length xs ≡ length ys → any (λ x. t (x .0) || t (x .1)) (pairs xs ys) ≡ (any t xs || any t ys)
 pairs-any t [] [] e = refl
 pairs-any t [] (y ∷ ys) e = absurd (suc-ne-zero (length ys) (sym e))
 pairs-any t (x ∷ xs) [] e = absurd (suc-ne-zero (length xs) e)

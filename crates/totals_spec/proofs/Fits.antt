@@ -8,7 +8,7 @@ use native.Mathlib.Omega.{arith}
 use lib.Dec.{T, ltb, eqb, eqb→eq, ltb→lt, nltb→le}
 use lib.Pow.{pow-pos, pow-mono}
 use Rattle.totals_spec.specs.Basics.{flag}
-use Rattle.totals_spec.specs.Bounds.{RangeBounds, FormatBounds, SettingsBounds}
+use Rattle.totals_spec.specs.Bounds.{RangeBounds, SettingsBounds}
 use Rattle.totals_spec.specs.Format.{Format, Kind, ieee, noInf, fnuz, finiteOnly, kindOf, digits, fractionBits, grid}
 use Rattle.totals_spec.specs.Settings.{Settings, precisionOf, summandOf}
 use Rattle.totals_spec.specs.Decode.{Unpacked, zeroOf, finite, infinity, nan}
@@ -50,7 +50,7 @@ module _ (f : Format) (b : RangeBounds f) where
   nan-fits s g m h fnuz = fields-fit f b true 0 0 (pow-pos (f .E)) (pow-pos (fractionBits f))
   nan-fits s g m h finiteOnly = fields-fit f b false 0 0 (pow-pos (f .E)) (pow-pos (fractionBits f))
 
-  encode-fits : (v : Unpacked) → Encodes f v → encode f v < 2 ^ (f .W)
+  pub encode-fits : (v : Unpacked) → Encodes f v → encode f v < 2 ^ (f .W)
   unfolding encode
   encode-fits (zeroOf s) h = zero-fits s (kindOf (f .kind))
   encode-fits (finite s k m) h = go (ltb m (2 ^ fractionBits f)) (ltb→lt m (2 ^ fractionBits f)) (nltb→le m (2 ^ fractionBits f))
@@ -69,27 +69,27 @@ module _ (f : Format) (b : RangeBounds f) where
 
 -- ---- an accepted record, and a call by its refusal number
 
-few-passes : (f : Format) (ts : List Term) → FormatBounds f → topOf ts ≤ topProduct f → mostPasses f ts < 2 ^ 64
+pub few-passes : (f : Format) (ts : List Term) → RangeBounds f → topOf ts ≤ topProduct f → mostPasses f ts < 2 ^ 64
 unfolding mostPasses ceilDiv
 few-passes f ts b h = fewer (topOf ts) (bottomOf ts) (697 - digits f) (omega (arith, top, h))
   where
     top : topProduct f ≤ 2 ^ 30
-    top = omega (arith, pow-mono {i = f .E} {j = 28} (b .e-le), b .w-le)
+    top = omega (arith, pow-mono {i = f .E} {j = 28} (b .e-le), b .p-le)
 
     fewer : (t low n : ℕ) → t + n < 2 ^ 63 → 1 + (t - 702 - low + (n - 1)) / n < 2 ^ 64
     fewer t low n l = omega (arith, div-le-self (t - 702 - low + (n - 1)) n)
 
-module _ (f : Format) (c : Settings) (b : FormatBounds f) (q : SettingsBounds f c) where
+module _ (f : Format) (c : Settings) (b : RangeBounds f) (q : SettingsBounds f c) where
   accepted-result : (sub products first signaling : Bool) (v : Unpacked) (l : List Item) → Encodes f v
       → (accepted f c sub products first signaling v l) .result < 2 ^ (f .W)
   unfolding special reported
   accepted-result sub products first signaling v l =
       accepted-where (λ a. a .result < 2 ^ (f .W)) f c sub products l (Encodes f) (λ s. tt) (λ s. tt) (default-encodes f c)
-      (λ w i h. encode-fits f (b .range) w h)
+      (λ w i h. encode-fits f b w h)
       by-passes first signaling v
     where
       least : 1 ≤ precisionOf f c
-      least = precision-least f c (b .range)
+      least = precision-least f c b
 
       most : precisionOf f c ≤ digits f
       most = precision-most f c q
@@ -99,15 +99,15 @@ module _ (f : Format) (c : Settings) (b : FormatBounds f) (q : SettingsBounds f 
 
       by-passes : encode f (r .value) < 2 ^ (f .W)
       by-passes =
-          encode-fits f (b .range) (r .value)
-          (held-encodes f (b .range) (r .value)
-          (sum-held f (b .range) c least most (grid f products) (towardsNegative c) (onGrid f products (exactSum (terms l)))))
+          encode-fits f b (r .value)
+          (held-encodes f b (r .value)
+          (sum-held f b c least most (grid f products) (towardsNegative c) (onGrid f products (exactSum (terms l)))))
 
-  accepted-fit : (sub products first signaling : Bool) (v : Unpacked) (l : List Item) → Encodes f v → AllGood (terms l) → topOf (terms l) ≤ topProduct f
+  pub accepted-fit : (sub products first signaling : Bool) (v : Unpacked) (l : List Item) → Encodes f v → AllGood (terms l) → topOf (terms l) ≤ topProduct f
       → FieldsFit f (accepted f c sub products first signaling v l)
   accepted-fit sub products first signaling v l h g t =
       let fields = accepted-fields f c sub products l first signaling v in
-      let some = accepted-passes f c sub products l (omega (arith, b .w-le)) g first signaling v in
+      let some = accepted-passes f c sub products l (omega (arith, b .p-le)) g first signaling v in
       record {
         result = omega (arith, accepted-result sub products first signaling v l h);
         flags = omega (arith, fields .flags);
@@ -115,7 +115,7 @@ module _ (f : Format) (c : Settings) (b : FormatBounds f) (q : SettingsBounds f 
         passes = omega (arith, some, few-passes f (terms l) b t);
       }
 
-answered-fit : (f : Format) (n at : ℕ) (a : Answer) → (n ≡ 0 → FieldsFit f a) → FieldsFit f (answered n at a)
+pub answered-fit : (f : Format) (n at : ℕ) (a : Answer) → (n ≡ 0 → FieldsFit f a) → FieldsFit f (answered n at a)
 answered-fit f n at a h = go (eqb n 0) (eqb→eq n 0)
   where
     go : (z : Bool) → (T z → n ≡ 0) → FieldsFit f (cond z a (refused n (cond (eqb n 7) at 0)))
@@ -129,7 +129,7 @@ sum-fits f c u l = answered-fit f (sumRefusal f c u l) (firstIndex (stray f) l) 
     inside : sumRefusal f c u l ≡ 0 → FieldsFit f (sumAccepted f c (summandOf u) l)
     inside r = unfold sumAccepted in
         let a = sum-accepts f c u l r in
-        accepted-fit f c (a .format) (a .settings) _ _ _ _ _ _ (select-encodes f c _ (elements-encode f (a .format) l))
+        accepted-fit f c (a .format .range) (a .settings) _ _ _ _ _ _ (select-encodes f c _ (elements-encode f (a .format) l))
         (good-terms f c (summandOf u) l) (sum-top f c (summandOf u) l)
 
 pub dot-fits : Dot-fits
@@ -139,5 +139,5 @@ dot-fits f c xs ys = answered-fit f (dotRefusal f c xs ys) (dotPlace f xs ys) (d
     inside : dotRefusal f c xs ys ≡ 0 → FieldsFit f (dotAccepted f c (pairs xs ys))
     inside r = unfold dotAccepted in
         let a = dot-accepts f c xs ys r in
-        accepted-fit f c (a .format) (a .settings) _ _ _ _ _ _ (select-encodes f c _ (operands-encode f (a .format) (pairs xs ys)))
+        accepted-fit f c (a .format .range) (a .settings) _ _ _ _ _ _ (select-encodes f c _ (operands-encode f (a .format) (pairs xs ys)))
         (good-pairs f c (pairs xs ys)) (dot-top f c xs ys)

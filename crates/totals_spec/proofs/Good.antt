@@ -111,14 +111,14 @@ good-product s k m j n h g = record {
 
 -- ---- every term of a list is good
 
-abbrev GoodItem : Item → Type 0
+abbrev pub GoodItem : Item → Type 0
 GoodItem nanItem = Unit {0}
 GoodItem invalidItem = Unit {0}
 GoodItem (infinite s) = Unit {0}
 GoodItem (zeroItem s) = Unit {0}
 GoodItem (term t) = Good t
 
-good-itemOf : (f : Format) (u : Summand) (x : Unpacked) → Decoded f x → GoodItem (itemOf u x)
+pub good-itemOf : (f : Format) (u : Summand) (x : Unpacked) → Decoded f x → GoodItem (itemOf u x)
 good-itemOf f value (zeroOf s) h = tt
 good-itemOf f value (finite s k m) h = good-single s k m (h .0)
 good-itemOf f value (infinity s) h = tt
@@ -132,7 +132,7 @@ good-itemOf f square (finite s k m) h = good-product false k m k m (h .0) (h .0)
 good-itemOf f square (infinity s) h = tt
 good-itemOf f square (nan s g m) h = tt
 
-good-pairOf : (f : Format) (x y : Unpacked) → Decoded f x → Decoded f y → GoodItem (pairOf x y)
+pub good-pairOf : (f : Format) (x y : Unpacked) → Decoded f x → Decoded f y → GoodItem (pairOf x y)
 good-pairOf f (nan s g m) y h k = tt
 good-pairOf f (zeroOf s) (nan t b n) h k = tt
 good-pairOf f (zeroOf s) (zeroOf t) h k = tt
@@ -154,18 +154,19 @@ good-keep (infinite s) ts g h = h
 good-keep (zeroItem s) ts g h = h
 good-keep (term t) ts g h = (g, h)
 
+-- one rule for a list of elements and for one of pairs
+pub good-items : {A : Type 0} (i : A → Item) → ((x : A) → GoodItem (i x)) → (l : List A) → AllGood (terms (map i l))
+good-items i h [] = tt
+good-items i h (x ∷ l) = good-keep (i x) (terms (map i l)) (h x) (good-items i h l)
+
 pub good-terms : (f : Format) (c : Settings) (u : Summand) (l : List ℕ) → AllGood (terms (map (item f c u) l))
-unfolding item
-good-terms f c u [] = tt
-good-terms f c u (b ∷ l) =
-    good-keep (itemOf u (operand f c b)) (terms (map (item f c u) l)) (good-itemOf f u (operand f c b) (decoded-operand f c b)) (good-terms f c u l)
+good-terms f c u l = good-items (item f c u) (λ b. unfold item in good-itemOf f u (operand f c b) (decoded-operand f c b)) l
 
 pub good-pairs : (f : Format) (c : Settings) (l : List (ℕ × ℕ)) → AllGood (terms (map (pairItem f c) l))
-unfolding pairItem
-good-pairs f c [] = tt
-good-pairs f c (x ∷ l) =
-    good-keep (pairOf (operand f c (x .0)) (operand f c (x .1))) (terms (map (pairItem f c) l))
-    (good-pairOf f (operand f c (x .0)) (operand f c (x .1)) (decoded-operand f c (x .0)) (decoded-operand f c (x .1))) (good-pairs f c l)
+good-pairs f c l =
+    good-items (pairItem f c)
+    (λ x. unfold pairItem in
+    good-pairOf f (operand f c (x .0)) (operand f c (x .1)) (decoded-operand f c (x .0)) (decoded-operand f c (x .1))) l
 
 -- ---- no more terms than elements
 

@@ -46,6 +46,11 @@ pub mod Encodable
 pub mod Fields
 pub mod Fits
 pub mod ReadBack
+-- Eighty-bit archives.
+pub mod Spread
+pub mod ExtendedTerms
+pub mod Extended
+pub mod ExtendedCalls
 -- A named bias.
 pub mod Own
 -- Tables.
@@ -71,11 +76,12 @@ pub mod PageRefused
 pub mod Promises
 -- More of a pass: how near S is to the exact sum, and that a boundary need not be taken off.
 pub mod Vanish
--- For the code's proofs: a window filled part by part, a list walked, values read from bytes, pages part by part, a chain walked, empty
--- passes counted.
+-- For the code's proofs: a window filled part by part, a list walked, values read from bytes, encodings of kind 4 in two words, pages part by part, a
+-- chain walked, empty passes counted.
 pub mod Window
 pub mod Walk
 pub mod Values
+pub mod Halves
 pub mod PageParts
 pub mod Accepts
 pub mod Reached

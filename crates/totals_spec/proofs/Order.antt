@@ -64,7 +64,7 @@ module _ (f : Format) (c : Settings) (sub products : Bool) {l₁ l₂ : List Ite
       )
 
   -- the NaN of the rule is not asked for
-  accepted-perm : (refuseIf sig₁ sig₂ : Bool) (v₁ v₂ : Unpacked) → any isNanItem l₁ ≡ false
+  pub accepted-perm : (refuseIf sig₁ sig₂ : Bool) (v₁ v₂ : Unpacked) → any isNanItem l₁ ≡ false
       → accepted f c sub products refuseIf sig₁ v₁ l₁ ≡ accepted f c sub products refuseIf sig₂ v₂ l₂
   unfolding accepted
   accepted-perm refuseIf sig₁ sig₂ v₁ v₂ h =
@@ -74,7 +74,7 @@ module _ (f : Format) (c : Settings) (sub products : Bool) {l₁ l₂ : List Ite
 -- ---- no element is a NaN, so no item is
 
 -- denormals-are-zero makes no NaN, and hides none
-operand-nan : (x : Unpacked) (a z s : Bool) → isNan (cond (a && (isFinite x && z)) (zeroOf s) x) ≡ isNan x
+pub operand-nan : (x : Unpacked) (a z s : Bool) → isNan (cond (a && (isFinite x && z)) (zeroOf s) x) ≡ isNan x
 operand-nan (zeroOf t) true z s = refl
 operand-nan (zeroOf t) false z s = refl
 operand-nan (finite t k m) true true s = refl
@@ -89,7 +89,7 @@ operand-isNan : (f : Format) (c : Settings) (b : ℕ) → isNan (operand f c b) 
 unfolding operand isSubnormal
 operand-isNan f c b = operand-nan (decode f b) (isSet (c .denormalsAreZero)) (eqb (fieldOf f b) 0) (signBit f b)
 
-itemOf-nan : (u : Summand) (x : Unpacked) → isNanItem (itemOf u x) ≡ isNan x
+pub itemOf-nan : (u : Summand) (x : Unpacked) → isNanItem (itemOf u x) ≡ isNan x
 itemOf-nan value (zeroOf t) = refl
 itemOf-nan value (finite t k m) = refl
 itemOf-nan value (infinity t) = refl
@@ -103,7 +103,7 @@ itemOf-nan square (finite t k m) = refl
 itemOf-nan square (infinity t) = refl
 itemOf-nan square (nan t g m) = refl
 
-pairOf-nan : (x y : Unpacked) → isNanItem (pairOf x y) ≡ (isNan x || isNan y)
+pub pairOf-nan : (x y : Unpacked) → isNanItem (pairOf x y) ≡ (isNan x || isNan y)
 pairOf-nan (nan s g m) y = refl
 pairOf-nan (zeroOf s) (nan t h n) = refl
 pairOf-nan (zeroOf s) (zeroOf t) = refl
@@ -126,9 +126,10 @@ pub pair-nan : (f : Format) (c : Settings) (x : ℕ × ℕ) → isNanItem (pairI
 unfolding pairItem
 pair-nan f c x = pairOf-nan (operand f c (x .0)) (operand f c (x .1)) ∙ ap₂ _||_ (operand-isNan f c (x .0)) (operand-isNan f c (x .1))
 
-items-nan : (f : Format) (c : Settings) (u : Summand) (l : List ℕ) → any isNanItem (map (item f c u) l) ≡ holdsNan f l
-items-nan f c u [] = refl
-items-nan f c u (b ∷ l) = ap₂ _||_ (item-nan f c u b) (items-nan f c u l)
+-- one rule for a list of elements and for one of pairs
+pub items-nan : {A : Type 0} (i : A → Item) (t : A → Bool) → ((x : A) → isNanItem (i x) ≡ t x) → (l : List A) → any isNanItem (map i l) ≡ any t l
+items-nan i t h [] = refl
+items-nan i t h (x ∷ l) = ap₂ _||_ (h x) (items-nan i t h l)
 
 neither : (a b r : Bool) → a ≡ false → b ≡ false → r ≡ false → (a || b || r) ≡ false
 neither a b r p q e = rw (p, q, e)
@@ -157,7 +158,8 @@ module _ (f : Format) (c : Settings) (u : ℕ) {l₁ l₂ : List ℕ} (d : List�
   unfolding sumAccepted
   sum-accepted-perm s h =
       rw (← (any-perm (isSubnormal f) d))
-      (accepted-perm f c (any (isSubnormal f) l₁) (isSquare s) (map-perm (item f c s) d) (not (isValue s)) _ _ _ _ (items-nan f c s l₁ ∙ h))
+      (accepted-perm f c (any (isSubnormal f) l₁) (isSquare s) (map-perm (item f c s) d) (not (isValue s)) _ _ _ _
+      (items-nan (item f c s) (λ b. isNan (decode f b)) (item-nan f c s) l₁ ∙ h))
 
   pub sum-perm : sumRefusal f c u l₁ ≡ 0 → holdsNan f l₁ ≡ false → sumAnswer f c u l₁ ≡ sumAnswer f c u l₂
   unfolding sumAnswer
@@ -225,7 +227,7 @@ sum-order f c u l₁ l₂ h r k =
     let d = perm-of-counts eqb eqb→eq eqb-refl l₁ l₂ h in
     (sym (refusal-perm f c u d) ∙ r, sum-perm f c u d r k)
 
-pair-sound : (x y : ℕ × ℕ) → T (samePair x y) → x ≡ y
+pub pair-sound : (x y : ℕ × ℕ) → T (samePair x y) → x ≡ y
 pair-sound x y t =
     let l = eqb→eq (x .0) (y .0) (and-left (eqb (x .0) (y .0)) (eqb (x .1) (y .1)) t) in
     let r = eqb→eq (x .1) (y .1) (and-right (eqb (x .0) (y .0)) (eqb (x .1) (y .1)) t) in
@@ -234,7 +236,7 @@ pair-sound x y t =
 and-join : (a b : Bool) → T a → T b → T (a && b)
 and-join true true t s = tt
 
-pair-alike : (x : ℕ × ℕ) → T (samePair x x)
+pub pair-alike : (x : ℕ × ℕ) → T (samePair x x)
 pair-alike x = and-join (eqb (x .0) (x .0)) (eqb (x .1) (x .1)) (eqb-refl (x .0)) (eqb-refl (x .1))
 
 pub dot-order : Dot-order

@@ -30,7 +30,7 @@ valid-of true n rest e = tt
 valid-of false n rest e = absurd (suc-ne-zero n e)
 
 -- a record without a pass
-special-passes : (k : ℕ) (f : Format) (sub : Bool) (v : Unpacked) (b : Bool) → (special f sub v b) .passes ≤ k
+pub special-passes : (k : ℕ) (f : Format) (sub : Bool) (v : Unpacked) (b : Bool) → (special f sub v b) .passes ≤ k
 unfolding special
 special-passes k f sub v b = zero-le
 
@@ -42,7 +42,7 @@ accepted-passes f c sub products l hp g =
     (chain-limit (digits f) (terms l) hp g)
 
 -- a call by its refusal number: a refused one has no passes
-answered-passes : (k n at : ℕ) (a : Answer) → (n ≡ 0 → a .passes ≤ k) → (answered n at a) .passes ≤ k
+pub answered-passes : (k n at : ℕ) (a : Answer) → (n ≡ 0 → a .passes ≤ k) → (answered n at a) .passes ≤ k
 answered-passes k n at a h = go (eqb n 0) (eqb→eq n 0)
   where
     go : (b : Bool) → (T b → n ≡ 0) → (cond b a (refused n (cond (eqb n 7) at 0))) .passes ≤ k

@@ -27,6 +27,11 @@ use Rattle.totals_spec.specs.Promises.{Page-summarizes, Span-values, Pag
 use Rattle.totals_spec.specs.Promises.{Page-span-numbers, Page-span-refused}
 use Rattle.totals_spec.specs.Promises.{Page-entry-refused-exactly, Page-entry-refused, Page-entry-read-back}
 use Rattle.totals_spec.specs.Promises.{Page-as-before, Page-longer, Page-range, Page-earlier, Page-both}
+use Rattle.totals_spec.specs.Promises.{Extended-agree, Other-kinds, Extended-elsewhere, Extended-refused-exactly, Extended-call-refused-exactly}
+use Rattle.totals_spec.specs.Promises.{Extended-refused, Call-refused, Extended-fits, Extended-read-back, Tens-values, Extended-unsupported}
+use Rattle.totals_spec.specs.Promises.{Extended-exact, Extended-zeros, Extended-back, Extended-canonical, Extended-side, Extended-no-side}
+use Rattle.totals_spec.specs.Promises.{Extended-by-chain, Extended-order, Extended-call-order, Extended-limit, Extended-most, Extended-ends}
+use Rattle.totals_spec.specs.Promises.{Extended-edges, Pseudo-denormal}
 use Rattle.totals_spec.proofs.Bits.{low-divides, low-set, size-none, size-one-less}
 use Rattle.totals_spec.proofs.Good.{good-terms, good-pairs}
 use Rattle.totals_spec.proofs.Valid.{digits-le}
@@ -56,6 +61,10 @@ use Rattle.totals_spec.proofs.Ranges as ranges
 use Rattle.totals_spec.proofs.RangeOrder as ordered-ranges
 use Rattle.totals_spec.specs.PageExamples as tests-of-pages
 use Rattle.totals_spec.proofs.Pages as pages
+use Rattle.totals_spec.specs.ExtendedExamples as tests-of-extended
+use Rattle.totals_spec.proofs.Extended as extended
+use Rattle.totals_spec.proofs.ExtendedCalls as calls
+use Rattle.totals_spec.proofs.Spread as encodings
 use Rattle.totals_spec.proofs.PageRefused as refused-pages
 
 -- ==== the document's examples (specs/Careers, which computes them, and Careers)
@@ -391,6 +400,83 @@ page-earlier = pages.page-earlier
 
 pub page-both : Page-both
 page-both = pages.page-both
+
+-- ==== document 02, A.10: eighty-bit archives (specs/ExtendedExamples, which computes the examples, Spread, Extended, ExtendedCalls)
+
+pub extended-agree : Extended-agree
+extended-agree = (tests-of-extended.extended-agree, tests-of-extended.chains-agree)
+
+pub other-kinds : Other-kinds
+other-kinds = calls.other-kinds
+
+pub extended-elsewhere : Extended-elsewhere
+extended-elsewhere = calls.extended-elsewhere
+
+pub extended-refused-exactly : Extended-refused-exactly
+extended-refused-exactly = extended.extended-refused-exactly
+
+pub extended-call-refused-exactly : Extended-call-refused-exactly
+extended-call-refused-exactly = calls.extended-call-refused-exactly
+
+pub extended-refused : Extended-refused
+extended-refused = extended.extended-refused
+
+pub call-refused : Call-refused
+call-refused = calls.call-refused
+
+pub extended-fits : Extended-fits
+extended-fits = extended.extended-fits
+
+pub extended-read-back : Extended-read-back
+extended-read-back = calls.extended-read-back
+
+pub tens-values : Tens-values
+tens-values = calls.tens-values
+
+pub extended-unsupported : Extended-unsupported
+extended-unsupported = extended.extended-unsupported
+
+pub extended-exact : Extended-exact
+extended-exact = extended.extended-exact
+
+pub extended-zeros : Extended-zeros
+extended-zeros = extended.extended-zeros
+
+pub extended-back : Extended-back
+extended-back = extended.extended-back
+
+pub pseudo-denormal : Pseudo-denormal
+pseudo-denormal = encodings.pseudo-denormal
+
+pub extended-canonical : Extended-canonical
+extended-canonical = extended.extended-canonical
+
+pub extended-side : Extended-side
+extended-side = extended.extended-side
+
+pub extended-no-side : Extended-no-side
+extended-no-side = extended.extended-no-side
+
+pub extended-by-chain : Extended-by-chain
+extended-by-chain = extended.extended-by-chain
+
+pub extended-order : Extended-order
+extended-order = extended.extended-order
+
+pub extended-call-order : Extended-call-order
+extended-call-order = calls.extended-call-order
+
+pub extended-limit : Extended-limit
+extended-limit = extended.extended-limit
+
+pub extended-most : Extended-most
+extended-most = extended.extended-most
+
+pub extended-ends : Extended-ends
+extended-ends = extended.extended-ends
+
+pub extended-edges : Extended-edges
+extended-edges = extended.extended-edges
 
 -- ==== document 02, A.7: a named bias (Own)
 

@@ -30,7 +30,7 @@ pub bytes-back : (n x : ℕ) → x < 256 ^ n → fromBytes (toBytes n x) ≡ x
 bytes-back zero x h = omega arith
 bytes-back (suc n) x h = omega (arith, bytes-back n (x / 256) (next-bytes n x h))
 
-zero-bytes : (n i : ℕ) → getD (toBytes n 0) i 0 ≡ 0
+pub zero-bytes : (n i : ℕ) → getD (toBytes n 0) i 0 ≡ 0
 zero-bytes zero i = refl
 zero-bytes (suc n) zero = refl
 zero-bytes (suc n) (suc i) = zero-bytes n i

@@ -3,7 +3,7 @@ use borrow.Author.Tests.{not-false, eq-eqb, ne-eqb, ltb-false, eqb-true}
 use mathlib.Core.Path.{_≡_, refl, sym, ap, _∙_, subst}
 use mathlib.Core.Logic.{_≢_}
 use mathlib.Core.Bool.{Bool, true, false, not, _&&_, _||_, cond}
-use mathlib.Core.List.{List, map}
+use mathlib.Core.List.{List}
 use Prim.Native.Nat.{ℕ, _+_, _*_, _<_, _≤_}
 use native.Mathlib.Omega.{arith}
 use lib.Dec.{T, eqb, eqb→eq, leb, ltb}
@@ -11,11 +11,10 @@ use lib.ListN.{length}
 use Rattle.totals_spec.specs.Basics.{any}
 use Rattle.totals_spec.specs.Format.{Format, validFormat}
 use Rattle.totals_spec.specs.Settings.{Settings, validSettings, Summand, summandOf}
-use Rattle.totals_spec.specs.Decode.{Unpacked, decode, isSubnormal, isSignaling}
-use Rattle.totals_spec.specs.Terms.{item, pairItem}
-use Rattle.totals_spec.specs.Nan.{selectAll}
-use Rattle.totals_spec.specs.Totals.{Answer, refused, special, reported, answered, isValue, isSquare, stray, limit, refuseIf, firstIndex, sumRefusal}
-use Rattle.totals_spec.specs.Totals.{sumAccepted, sumAnswer, pairs, operands, dotRefusal, dotAccepted, dotPlace, dotAnswer}
+use Rattle.totals_spec.specs.Decode.{Unpacked}
+use Rattle.totals_spec.specs.Terms.{Item}
+use Rattle.totals_spec.specs.Totals.{Answer, refused, special, reported, accepted, answered, stray, limit, refuseIf, firstIndex, sumRefusal}
+use Rattle.totals_spec.specs.Totals.{sumAccepted, sumAnswer, pairs, dotRefusal, dotAccepted, dotPlace, dotAnswer}
 use Rattle.totals_spec.specs.Bytes.{Entry, valuesIn, uneven, short, entered, written, sumEntry, dotEntry}
 use Rattle.totals_spec.specs.Places.{StrayAt, StrayBy, DotStrayAt}
 use Rattle.totals_spec.specs.Promises.{Sum-refusal, Dot-refusal, Sum-refused, Dot-refused, Sum-place, Dot-place, Sum-entry-refused, Dot-entry-refused}
@@ -29,23 +28,23 @@ pub record Unrefused (a : Answer) : Type 0 where
   pub number : a .refusal ≡ 0
   pub place : a .place ≡ 0
 
-special-unrefused : (f : Format) (sub : Bool) (v : Unpacked) (b : Bool) → Unrefused (special f sub v b)
+pub special-unrefused : (f : Format) (sub : Bool) (v : Unpacked) (b : Bool) → Unrefused (special f sub v b)
 unfolding special
 special-unrefused f sub v b = record { number = refl; place = refl }
 
+pub accepted-unrefused : (f : Format) (c : Settings) (sub products : Bool) (l : List Item) (infinityFirst signaling : Bool) (v : Unpacked)
+    → Unrefused (accepted f c sub products infinityFirst signaling v l)
+unfolding reported
+accepted-unrefused f c sub products l =
+    accepted-has Unrefused f c sub products l (special-unrefused f sub) (record { number = refl; place = refl })
+
 sum-unrefused : (f : Format) (c : Settings) (u : Summand) (l : List ℕ) → Unrefused (sumAccepted f c u l)
-unfolding sumAccepted reported
-sum-unrefused f c u l =
-    accepted-has Unrefused f c (any (isSubnormal f) l) (isSquare u) (map (item f c u) l) (special-unrefused f (any (isSubnormal f) l))
-    (record { number = refl; place = refl })
-    (not (isValue u)) (any (λ b. isSignaling (decode f b)) l) (selectAll c (map (decode f) l))
+unfolding sumAccepted
+sum-unrefused f c u l = accepted-unrefused f c _ _ _ _ _ _
 
 dot-unrefused : (f : Format) (c : Settings) (l : List (ℕ × ℕ)) → Unrefused (dotAccepted f c l)
-unfolding dotAccepted reported
-dot-unrefused f c l =
-    let sub = any (λ x. isSubnormal f (x .0) || isSubnormal f (x .1)) l in
-    accepted-has Unrefused f c sub true (map (pairItem f c) l) (special-unrefused f sub) (record { number = refl; place = refl })
-    false (any (λ x. isSignaling (decode f (x .0)) || isSignaling (decode f (x .1))) l) (selectAll c (operands f l))
+unfolding dotAccepted
+dot-unrefused f c l = accepted-unrefused f c _ _ _ _ _ _
 
 -- ---- a call by its refusal number
 

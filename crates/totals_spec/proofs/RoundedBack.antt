@@ -52,7 +52,7 @@ module _ (f : Format) (b : RangeBounds f) where
       go fnuz e t = fields-back f b true 0 0 (pow-pos (f .E)) (pow-pos (fractionBits f)) ∙ rw e
       go finiteOnly e t = absurd t
 
-  held-back : (v : Unpacked) → Held f v → decode f (encode f v) ≡ keptAs (kindOf (f .kind)) v
+  pub held-back : (v : Unpacked) → Held f v → decode f (encode f v) ≡ keptAs (kindOf (f .kind)) v
   held-back (zeroOf s) h = zero-back f b s
   held-back (finite s k m) h = back-finite f b s k m h ∙ sym (number-kept (kindOf (f .kind)) s k m)
   held-back (infinity s) h = back-infinity f b s h ∙ sym (ap (λ (k : Kind). keptAs k (infinity s)) h)

@@ -22,11 +22,11 @@ use Rattle.totals_spec.proofs.Lean.{no-number}
 
 -- ---- finite values: the result beside the exact sum x of the terms, on the grid g
 
-abbrev SideAt : Format → ℕ → Signed → Answer → Type 0
+abbrev pub SideAt : Format → ℕ → Signed → Answer → Type 0
 SideAt f g x a = a .side ≡ sideOf g (decode f (a .result)) x
 
 -- without a term a zero stands beside 0, on whatever grid
-finite-side : (f : Format) (c : Settings) (sub products minus : Bool) (ts : List Term) → RangeBounds f
+pub finite-side : (f : Format) (c : Settings) (sub products minus : Bool) (ts : List Term) → RangeBounds f
     → SideAt f (grid f products) (onGrid f products (exactSum ts)) (finiteTotal f c sub products minus ts)
 unfolding finiteTotal special reported difference plusSum minusSum sideOf raised
 finite-side f c sub products minus [] b =
@@ -48,7 +48,7 @@ dot-side f c xs ys r h k =
 
 -- ---- every accepted list: no number, no side
 
-abbrev NoSide : Format → Answer → Type 0
+abbrev pub NoSide : Format → Answer → Type 0
 NoSide f a = isNumber (decode f (a .result)) ≡ false → a .side ≡ 3
 
 pub sum-no-side : Sum-no-side

@@ -35,7 +35,7 @@ product-top : (f : Format) (k m j n : ℕ) → m < 2 ^ suc (fractionBits f) → 
     → size m + size n + k + j + room - 1 ≤ topProduct f
 product-top f k m j n h g i e = omega (arith, size-le m (suc (fractionBits f)) h, size-le n (suc (fractionBits f)) i)
 
-abbrev TopLe : ℕ → Item → Type 0
+abbrev pub TopLe : ℕ → Item → Type 0
 TopLe z nanItem = Unit {0}
 TopLe z invalidItem = Unit {0}
 TopLe z (infinite s) = Unit {0}
@@ -52,7 +52,7 @@ keep-top z (term t) ts h k = max-le h k
 most-product : (f : Format) → topMost f ≤ topProduct f
 most-product f = omega arith
 
-item-top : (f : Format) (u : Summand) (x : Unpacked) → Decoded f x → TopLe (topProduct f) (itemOf u x)
+pub item-top : (f : Format) (u : Summand) (x : Unpacked) → Decoded f x → TopLe (topProduct f) (itemOf u x)
 unfolding single product
 item-top f value (zeroOf s) h = tt
 item-top f value (finite s k m) h = le-trans (single-top f k m (h .1) (h .2)) (most-product f)
@@ -68,12 +68,12 @@ item-top f square (infinity s) h = tt
 item-top f square (nan s g m) h = tt
 
 -- of values and magnitudes: no product
-abbrev isSingle : Summand → Type 0
+abbrev pub isSingle : Summand → Type 0
 isSingle value = Unit {0}
 isSingle magnitude = Unit {0}
 isSingle square = ⊥
 
-single-item-top : (f : Format) (u : Summand) (x : Unpacked) → isSingle u → Decoded f x → TopLe (topMost f) (itemOf u x)
+pub single-item-top : (f : Format) (u : Summand) (x : Unpacked) → isSingle u → Decoded f x → TopLe (topMost f) (itemOf u x)
 unfolding single
 single-item-top f value (zeroOf s) i h = tt
 single-item-top f value (finite s k m) i h = single-top f k m (h .1) (h .2)
@@ -85,7 +85,7 @@ single-item-top f magnitude (infinity s) i h = tt
 single-item-top f magnitude (nan s g m) i h = tt
 single-item-top f square x i h = absurd i
 
-pair-top : (f : Format) (x y : Unpacked) → Decoded f x → Decoded f y → TopLe (topProduct f) (pairOf x y)
+pub pair-top : (f : Format) (x y : Unpacked) → Decoded f x → Decoded f y → TopLe (topProduct f) (pairOf x y)
 unfolding product
 pair-top f (nan s g m) y h k = tt
 pair-top f (zeroOf s) (nan t b n) h k = tt
@@ -102,7 +102,7 @@ pair-top f (infinity s) (finite t j n) h k = tt
 pair-top f (infinity s) (infinity t) h k = tt
 
 -- one rule for a list of elements and for one of pairs
-tops : {A : Type 0} (z : ℕ) (f : A → Item) → ((x : A) → TopLe z (f x)) → (l : List A) → topOf (terms (map f l)) ≤ z
+pub tops : {A : Type 0} (z : ℕ) (f : A → Item) → ((x : A) → TopLe z (f x)) → (l : List A) → topOf (terms (map f l)) ≤ z
 unfolding topOf
 tops z f h [] = zero-le
 tops z f h (x ∷ l) = keep-top z (f x) (terms (map f l)) (h x) (tops z f h l)

@@ -1,27 +1,31 @@
 -- The values in a list of bytes, by their index: what a walk over bytes reads.
-use mathlib.Core.Path.{_≡_, refl, ap, _∙_}
+use mathlib.Core.Path.{_≡_, refl, sym, ap, _∙_}
 use mathlib.Core.List.{List, _∷_}
 use Prim.Native.Nat.{ℕ, zero, suc, _+_, _*_, _/_, _≤_, _<_}
 use mathlib.Core.Bool.{Bool, true, false, not}
-use native.Mathlib.Nat.{le-of-suc-le-suc, not-suc-le-zero}
+use native.Mathlib.Nat.{le-of-suc-le-suc, mul-suc, mul-zero, not-suc-le-zero}
 use native.Mathlib.Omega.{arith}
 use lib.Dec.{T, ltb, ltb→lt, nltb→le}
 use lib.ListN.{length, take, drop, getD, List·getD-eq-default}
 use lib.Seq.{drop-cons, drop-drop}
-use Rattle.totals_spec.specs.Bytes.{fromBytes, valuesFrom, valuesIn}
+use Rattle.totals_spec.specs.Bytes.{fromBytes, wideFrom, valuesFrom, valuesIn}
+
+module _ (w : ℕ) where
+  pub wide-length : (n : ℕ) (bytes : List ℕ) → length (wideFrom w n bytes) ≡ n
+  wide-length zero bytes = refl
+  wide-length (suc n) bytes = ap suc (wide-length n (drop w bytes))
+
+  pub wide-at : (n : ℕ) (bytes : List ℕ) (i : ℕ) → i < n → getD (wideFrom w n bytes) i 0 ≡ fromBytes (take w (drop (w * i) bytes))
+  wide-at zero bytes i h = absurd (not-suc-le-zero h)
+  wide-at (suc n) bytes zero h = ap (λ (k : ℕ). fromBytes (take w (drop k bytes))) (sym (mul-zero w))
+  wide-at (suc n) bytes (suc i) h =
+      wide-at n (drop w bytes) i (le-of-suc-le-suc h) ∙ ap (λ l. fromBytes (take w l)) (drop-drop (w * i) w bytes ∙ ap (λ (k : ℕ). drop k bytes) place)
+    where
+      place : w + w * i ≡ w * suc i
+      place = omega (arith, mul-suc w i)
 
 pub from-length : (n : ℕ) (bytes : List ℕ) → length (valuesFrom n bytes) ≡ n
-from-length zero bytes = refl
-from-length (suc n) bytes = ap suc (from-length n (drop 8 bytes))
-
-from-at : (n : ℕ) (bytes : List ℕ) (i : ℕ) → i < n → getD (valuesFrom n bytes) i 0 ≡ fromBytes (take 8 (drop (8 * i) bytes))
-from-at zero bytes i h = absurd (not-suc-le-zero h)
-from-at (suc n) bytes zero h = refl
-from-at (suc n) bytes (suc i) h =
-    from-at n (drop 8 bytes) i (le-of-suc-le-suc h) ∙ ap (λ l. fromBytes (take 8 l)) (drop-drop (8 * i) 8 bytes ∙ ap (λ (k : ℕ). drop k bytes) place)
-  where
-    place : 8 + 8 * i ≡ 8 * suc i
-    place = omega arith
+from-length = wide-length 8
 
 pub values-length : (bytes : List ℕ) → length (valuesIn bytes) ≡ length bytes / 8
 unfolding valuesIn
@@ -30,11 +34,11 @@ values-length bytes = from-length (length bytes / 8) bytes
 -- the i-th value stands in the bytes from 8 × i on
 pub values-at : (bytes : List ℕ) (i : ℕ) → i < length bytes / 8 → getD (valuesIn bytes) i 0 ≡ fromBytes (take 8 (drop (8 * i) bytes))
 unfolding valuesIn
-values-at bytes i h = from-at (length bytes / 8) bytes i h
+values-at bytes i h = wide-at 8 (length bytes / 8) bytes i h
 
 -- ---- eight bytes as a number, in two halves
 
-one-byte : (l : List ℕ) (k j n : ℕ) → suc k ≡ j → k < length l → fromBytes (take (suc n) (drop k l)) ≡ getD l k 0 + 256 * fromBytes (take n (drop j l))
+pub one-byte : (l : List ℕ) (k j n : ℕ) → suc k ≡ j → k < length l → fromBytes (take (suc n) (drop k l)) ≡ getD l k 0 + 256 * fromBytes (take n (drop j l))
 one-byte l k j n e h = ap (λ (s : List ℕ). fromBytes (take (suc n) s)) (drop-cons l k 0 h ∙ ap (λ (i : ℕ). getD l k 0 ∷ drop i l) e)
 
 pub eight-bytes : (l : List ℕ) (k : ℕ) → k + 8 ≤ length l → fromBytes (take 8 (drop k l))

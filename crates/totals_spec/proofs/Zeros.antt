@@ -38,7 +38,7 @@ zero-record f sub minus b = λ i. record {
     only-sub true = refl
     only-sub false = refl
 
-no-term : (f : Format) (c : Settings) (sub products minus : Bool) (ts : List Term) → RangeBounds f → length ts ≡ 0
+pub no-term : (f : Format) (c : Settings) (sub products minus : Bool) (ts : List Term) → RangeBounds f → length ts ≡ 0
     → finiteTotal f c sub products minus ts ≡ zeroAnswer f sub minus
 unfolding finiteTotal
 no-term f c sub products minus [] b e = zero-record f sub minus b

@@ -17,6 +17,7 @@ use Rattle.totals_spec.specs.Totals.{limit, sumTerms}
 use Rattle.totals_spec.specs.Pence.{penceOf}
 use Rattle.totals_spec.specs.Ranges.{nothing, figureWorth}
 use Rattle.totals_spec.specs.Pages.{pageOf, pageValues, spanOf}
+use Rattle.totals_spec.specs.Extended.{extended}
 
 -- ---- 1 and 2: a length in bytes that is no multiple of 8, an answer buffer under 24 bytes
 
@@ -149,6 +150,22 @@ BadSpan page start end = (end < start) ⊎ (length (pageValues page) < end)
 abbrev pub NoPageRoom : (values old : List ℕ) → Type 0
 NoPageRoom l old = length old < length (pageOf l)
 
+-- ---- of kind 4: 1, a length in bytes that is no multiple of 10; 2, an answer buffer under 32 bytes; 3, an E other than 15, a W other than 80, or a named
+-- bias
+
+abbrev pub UnevenTens : List ℕ → Type 0
+UnevenTens bytes = length bytes % 10 ≢ 0
+
+abbrev pub Short32 : List ℕ → Type 0
+Short32 old = length old < 32
+
+abbrev pub NamesBias : Option ℤ → Type 0
+NamesBias none = ⊥
+NamesBias (some b) = Unit {0}
+
+abbrev pub BadExtended : Format → Type 0
+BadExtended f = (f .E ≢ 15) ⊎ (f .W ≢ 80) ⊎ NamesBias (f .named)
+
 -- ---- the first that holds
 
 -- a number and its condition
@@ -244,3 +261,22 @@ writeConditions l old =
     (2, NoPageRoom l old)
     ∷ (6, TooMany l)
     ∷ []
+
+-- of kind 4; the settings are those of 64 digits
+abbrev pub extendedSumConditions : Format → Settings → ℕ → List ℕ → List Condition
+extendedSumConditions f c u l =
+    (3, BadExtended f)
+    ∷ (4, BadSettings extended c ⊎ BadSummand u)
+    ∷ (6, TooMany l)
+    ∷ []
+
+abbrev pub extendedDotConditions : Format → Settings → List ℕ → List ℕ → List Condition
+extendedDotConditions f c xs ys =
+    (3, BadExtended f)
+    ∷ (4, BadSettings extended c)
+    ∷ (5, Unequal xs ys)
+    ∷ (6, TooMany xs)
+    ∷ []
+
+abbrev pub extendedEntryConditions : Type 0 → List ℕ → List Condition → List Condition
+extendedEntryConditions uneven old values = (1, uneven) ∷ (2, Short32 old) ∷ values

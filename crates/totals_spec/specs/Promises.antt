@@ -10,7 +10,7 @@ use lib.ListN.{length, replicate, take, drop, getD}
 use lib.IntN.{ℤ, pos, subℕ}
 use lib.Dec.{T as Holds, leb, ltb, eqb}
 use lib.Ieee.{size}
-use Rattle.totals_spec.specs.Basics.{any, flag, sameList}
+use Rattle.totals_spec.specs.Basics.{any, flag, isSet, sameList}
 use Rattle.totals_spec.specs.Format.{Format, Kind, ieee, noInf, fnuz, finiteOnly, kindOf, biasOf, binary64, validFormat, digits, origin, grid}
 use Rattle.totals_spec.specs.Settings.{Settings, withRounding, validSettings, noSettings, value, summandOf}
 use Rattle.totals_spec.specs.Decode.{Unpacked, zeroOf, finite, infinity, nan, decode, isNumber, isNan, isSubnormal}
@@ -21,13 +21,14 @@ use Rattle.totals_spec.specs.Round.{round}
 use Rattle.totals_spec.specs.Totals.{limit, Answer, refused, sumRounded, reported, onGrid, towardsNegative, zeroSign, finiteTotal, isSquare, pairs}
 use Rattle.totals_spec.specs.Totals.{sumRefusal, sumTerms, sumAnswer, dotRefusal, dotTerms, dotAnswer}
 use Rattle.totals_spec.specs.Bytes.{fromBytes, toBytes, valuesFrom, valuesIn, uneven, sumEntry, dotEntry}
-use Rattle.totals_spec.specs.Rearranged.{AsOften, samePair, holdsNan}
-use Rattle.totals_spec.specs.Limit.{lowBit, bottomOf, mostPasses}
+use Rattle.totals_spec.specs.Rearranged.{AsOften, samePair, holdsNan, nanLookedAt}
+use Rattle.totals_spec.specs.Limit.{lowBit, bottomOf, ceilDiv, mostPasses}
 use Rattle.totals_spec.specs.Side.{sideOf}
 use Rattle.totals_spec.specs.Settled.{chainTotal}
 use Rattle.totals_spec.specs.Conditions.{Uneven, First, sumConditions, dotConditions, entryConditions, penceConditions, sumPenceConditions}
 use Rattle.totals_spec.specs.Conditions.{penceEntryConditions, tableConditions, tableEntryConditions, rangeConditions, rangeEntryConditions}
 use Rattle.totals_spec.specs.Conditions.{AllWords, pageConditions, pageNumbers, pageEntryConditions, writeConditions}
+use Rattle.totals_spec.specs.Conditions.{UnevenTens, extendedSumConditions, extendedDotConditions, extendedEntryConditions}
 use Rattle.totals_spec.specs.Places.{StrayAt, DotStrayAt}
 use Rattle.totals_spec.specs.Pence.{penceAnswer, sumFigure, sumPence}
 use Rattle.totals_spec.specs.Table.{columnOf, tableRefusal, tableAnswer}
@@ -35,12 +36,17 @@ use Rattle.totals_spec.specs.Ranges.{entries, triples, lowOf, highOf, pl
 use Rattle.totals_spec.specs.Allowed.{Encloses, Ordered, sameTriple}
 use Rattle.totals_spec.specs.Pages.{classOf, pageItems, summary, valueBytes, summaries, pageOf, lastBytes, countIn, pageValues, opens}
 use Rattle.totals_spec.specs.Pages.{spanOf, pageAnswer, pageEntry, pageWritten}
+use Rattle.totals_spec.specs.Extended.{extended, kind4, fieldIn, significandIn, unsupported, decodeExtended, subnormalExtended, spread, withSpread}
+use Rattle.totals_spec.specs.Extended.{extendedItem, extendedTerms, extendedSumRefusal, extendedSumAnswer}
+use Rattle.totals_spec.specs.Extended.{extendedPair, extendedDotTerms, bothOf, extendedDotRefusal, extendedDotAnswer}
+use Rattle.totals_spec.specs.Extended.{tensIn, unevenTens, sumCall, dotCall}
 use Rattle.totals_spec.specs.Words.{formatBy, penceEntry, tableEntry, rangeEntry}
 use Rattle.totals_spec.specs.Hundredfold.{chainPence}
 use Rattle.totals_spec.specs.Careers.{careers, margins, allAgree, sideExamples, refusals, entryExample}
 use Rattle.totals_spec.specs.Careers.{penceExamples, biases, sumPenceExamples, tableExamples, programRuns, programAgrees}
 use Rattle.totals_spec.specs.RangeExamples.{rangeExamples}
 use Rattle.totals_spec.specs.PageExamples.{pageExamples}
+use Rattle.totals_spec.specs.ExtendedExamples.{extendedExamples, chains}
 
 -- ==== the document's examples
 
@@ -75,6 +81,10 @@ Ranges-agree = Holds rangeExamples
 -- pages: byte for byte, each part of one damaged, writing with and without room, spans, each refusal but 6 and two at once, and the entry
 abbrev pub Pages-agree : Type 0
 Pages-agree = Holds pageExamples
+
+-- kind 4: unsupported encodings beside NaNs and infinities, pseudo-denormals, NaNs, roundings, many passes, and its calls with each refusal but 6
+abbrev pub Extended-agree : Type 0
+Extended-agree = Holds extendedExamples × Holds chains
 
 -- the examples of the refusals, of a byte entry, of pence and of the program
 abbrev pub Examples-agree : Type 0
@@ -200,10 +210,13 @@ Entry-read-back =
 
 -- ==== PROMISE 2: the exact sum, rounded once
 
--- every value is finite
+-- every value is finite, read in some way
+abbrev pub AllFiniteBy : (ℕ → Unpacked) → List ℕ → Type 0
+AllFiniteBy read [] = Unit {0}
+AllFiniteBy read (b ∷ l) = Holds (isNumber (read b)) × AllFiniteBy read l
+
 abbrev pub AllFinite : Format → List ℕ → Type 0
-AllFinite f [] = Unit {0}
-AllFinite f (b ∷ l) = Holds (isNumber (decode f b)) × AllFinite f l
+AllFinite f l = AllFiniteBy (decode f) l
 
 -- of finite values with a non-zero term the result and the flags are those of the exact sum rounded once, the passes those of the chain
 abbrev pub Sum-exact : Type 0
@@ -686,3 +699,226 @@ Low-bit = (m : ℕ) → 0 < m → (m % 2 ^ lowBit m ≡ 0) × (m / 2 ^ lowBit m 
 -- `size` is the bit length: a number m above 0 lies from 2^(size m − 1) up to below 2^(size m), and 0 has none
 abbrev pub Size-is-length : Type 0
 Size-is-length = ((m : ℕ) → 0 < m → (2 ^ (size m - 1) ≤ m) × (m < 2 ^ size m)) × (size 0 ≡ 0)
+
+-- ==== eighty-bit archives (document 02, A.10)
+
+-- kind 4 alone decides: a call of any other kind is that of document 01's byte entries, and all that is promised of them holds of it
+abbrev pub Other-kinds : Type 0
+Other-kinds = (f : Format) (c : Settings) → f .kind ≢ 4
+    → ((u : ℕ) (bytes old : List ℕ) → sumCall f c u bytes old ≡ sumEntry f c u bytes old)
+    × ((left right old : List ℕ) → dotCall f c left right old ≡ dotEntry f c left right old)
+
+-- any other use of kind 4 gets 3: lists of words, pence, tables
+abbrev pub Extended-elsewhere : Type 0
+Extended-elsewhere = (f : Format) → f .kind ≡ 4
+    → ((c : Settings) (u : ℕ) (l : List ℕ) → sumAnswer f c u l ≡ refused 3 0)
+    × ((c : Settings) (xs ys : List ℕ) → dotAnswer f c xs ys ≡ refused 3 0)
+    × ((b : ℕ) → (penceAnswer f b) .refusal ≡ 3)
+    × ((l : List ℕ) → (sumPence f l) .refusal ≡ 3)
+    × ((c : Settings) (rows columns : ℕ) (cells old other : List ℕ) → (tableAnswer f c rows columns cells old other) .grand ≡ refused 3 0)
+
+-- the number in the record is that of the first condition that holds, in the order 3, 4, 6 of a sum and 3, 4, 5, 6 of a dot; and 0 exactly where none holds
+abbrev pub Extended-refused-exactly : Type 0
+Extended-refused-exactly =
+    ((f : Format) (c : Settings) (u : ℕ) (l : List ℕ) (n : ℕ) → (extendedSumAnswer f c u l) .refusal ≡ n ↔ First (extendedSumConditions f c u l) n)
+    × ((f : Format) (c : Settings) (xs ys : List ℕ) (n : ℕ) → (extendedDotAnswer f c xs ys) .refusal ≡ n ↔ First (extendedDotConditions f c xs ys) n)
+
+-- of a call 1 and 2 before these; its number has no place
+abbrev pub Extended-call-refused-exactly : Type 0
+Extended-call-refused-exactly =
+    ((f : Format) (c : Settings) (u : ℕ) (bytes old : List ℕ) (n : ℕ) → f .kind ≡ 4
+    → (sumCall f c u bytes old) .code ≡ n ↔ First (extendedEntryConditions (UnevenTens bytes) old (extendedSumConditions f c u (tensIn bytes))) n)
+    × ((f : Format) (c : Settings) (left right old : List ℕ) (n : ℕ) → f .kind ≡ 4
+    → (dotCall f c left right old) .code ≡ n
+    ↔ First (extendedEntryConditions (UnevenTens left ⊎ UnevenTens right) old (extendedDotConditions f c (tensIn left) (tensIn right))) n)
+
+-- a refused record is 0 but for the number
+abbrev pub Extended-refused : Type 0
+Extended-refused =
+    ((f : Format) (c : Settings) (u : ℕ) (l : List ℕ) → let r = extendedSumAnswer f c u l in r .refusal ≢ 0 → r ≡ refused (r .refusal) 0)
+    × ((f : Format) (c : Settings) (xs ys : List ℕ) → let r = extendedDotAnswer f c xs ys in r .refusal ≢ 0 → r ≡ refused (r .refusal) 0)
+
+-- a refused call writes nothing, of whatever kind
+abbrev pub Call-refused : Type 0
+Call-refused =
+    ((f : Format) (c : Settings) (u : ℕ) (bytes old : List ℕ) → (sumCall f c u bytes old) .code ≢ 0 → (sumCall f c u bytes old) .buffer ≡ old)
+    × ((f : Format) (c : Settings) (left right old : List ℕ) → (dotCall f c left right old) .code ≢ 0 → (dotCall f c left right old) .buffer ≡ old)
+
+-- the result has 80 bits, the flags 8, the side 2 and the passes 64; of refused calls too
+abbrev pub Extended-fits : Type 0
+Extended-fits =
+    ((f : Format) (c : Settings) (u : ℕ) (l : List ℕ) → FieldsFit kind4 (extendedSumAnswer f c u l))
+    × ((f : Format) (c : Settings) (xs ys : List ℕ) → FieldsFit kind4 (extendedDotAnswer f c xs ys))
+
+-- what a caller reads from the answer buffer: bytes 0 to 9 are the result and 24 to 31 the passes, little end first; byte 10 is the flags, byte 11 the
+-- side; 12 to 23 are 0; from 32 on it is as it was
+pub record ReadsBack32 (a : Answer) (old new : List ℕ) : Type 0 where
+  pub result : fromBytes (take 10 new) ≡ a .result
+  pub flags : getD new 10 0 ≡ a .flags
+  pub side : getD new 11 0 ≡ a .side
+  pub zeros : (i : ℕ) → 12 ≤ i → i ≤ 23 → getD new i 0 ≡ 0
+  pub passes : fromBytes (take 8 (drop 24 new)) ≡ a .passes
+  pub rest : drop 32 new ≡ drop 32 old
+  pub long : length new ≡ length old
+
+-- where a call returns 0, the buffer afterwards holds the record of the values in its bytes
+abbrev pub Extended-read-back : Type 0
+Extended-read-back =
+    ((f : Format) (c : Settings) (u : ℕ) (bytes old : List ℕ) → f .kind ≡ 4 → (sumCall f c u bytes old) .code ≡ 0
+    → ReadsBack32 (extendedSumAnswer f c u (tensIn bytes)) old ((sumCall f c u bytes old) .buffer))
+    × ((f : Format) (c : Settings) (left right old : List ℕ) → f .kind ≡ 4 → (dotCall f c left right old) .code ≡ 0
+    → ReadsBack32 (extendedDotAnswer f c (tensIn left) (tensIn right)) old ((dotCall f c left right old) .buffer))
+
+-- a value stands in each ten bytes
+abbrev pub Tens-values : Type 0
+Tens-values = (bytes : List ℕ)
+    → (length (tensIn bytes) ≡ length bytes / 10)
+    × ((i : ℕ) → i < length bytes / 10 → getD (tensIn bytes) i 0 ≡ fromBytes (take 10 (drop (10 * i) bytes)))
+
+-- the default NaN and flag 1, whatever else is in the list; flag 128 is still set
+abbrev pub invalidExtended : Settings → Bool → Answer
+invalidExtended c sub = record {
+  result = flag (2 ^ 79) (isSet (c .defaultNanSign)) + 0x7fffc000000000000000;
+  flags = flag 128 sub + 1;
+  passes = 0;
+  lastEdge = pos 0;
+  refusal = 0;
+  place = 0;
+  side = 3;
+}
+
+abbrev pub Extended-unsupported : Type 0
+Extended-unsupported =
+    ((f : Format) (c : Settings) (u : ℕ) (l : List ℕ) → extendedSumRefusal f c u l ≡ 0 → any unsupported l ≡ true
+    → extendedSumAnswer f c u l ≡ invalidExtended c (any subnormalExtended l))
+    × ((f : Format) (c : Settings) (xs ys : List ℕ) → extendedDotRefusal f c xs ys ≡ 0 → (any unsupported xs || any unsupported ys) ≡ true
+    → extendedDotAnswer f c xs ys ≡ invalidExtended c (any subnormalExtended xs || any subnormalExtended ys))
+
+-- every value is finite, which an unsupported encoding is not
+abbrev pub AllNumbers : List ℕ → Type 0
+AllNumbers l = AllFiniteBy decodeExtended l
+
+-- the record of the terms' exact sum rounded once, and of their chain
+abbrev pub exactRecord : Format → Settings → (sub products : Bool) → List Term → Answer
+exactRecord f c sub products ts =
+    reported f sub products (onGrid f products (exactSum ts))
+    (sumRounded f c (grid f products) (towardsNegative c) (onGrid f products (exactSum ts))) (chain (digits f) ts)
+
+-- of finite values with a non-zero term it is that, with its leading bit written out
+abbrev pub Extended-exact : Type 0
+Extended-exact =
+    ((f : Format) (c : Settings) (u : ℕ) (l : List ℕ) → extendedSumRefusal f c u l ≡ 0 → AllNumbers l → 0 < length (extendedTerms c (summandOf u) l)
+    → extendedSumAnswer f c u l
+    ≡ withSpread (exactRecord extended c (any subnormalExtended l) (isSquare (summandOf u)) (extendedTerms c (summandOf u) l)))
+    × ((f : Format) (c : Settings) (xs ys : List ℕ) → extendedDotRefusal f c xs ys ≡ 0 → AllNumbers xs → AllNumbers ys
+    → 0 < length (extendedDotTerms c xs ys)
+    → extendedDotAnswer f c xs ys
+    ≡ withSpread (exactRecord extended c (any subnormalExtended xs || any subnormalExtended ys) true (extendedDotTerms c xs ys)))
+
+-- and without a term that of a zero
+abbrev pub Extended-zeros : Type 0
+Extended-zeros =
+    ((f : Format) (c : Settings) (u : ℕ) (l : List ℕ) → extendedSumRefusal f c u l ≡ 0 → AllNumbers l → length (extendedTerms c (summandOf u) l) ≡ 0
+    → extendedSumAnswer f c u l
+    ≡ withSpread (zeroAnswer extended (any subnormalExtended l) (zeroFor c (map (extendedItem c (summandOf u)) l))))
+    × ((f : Format) (c : Settings) (xs ys : List ℕ) → extendedDotRefusal f c xs ys ≡ 0 → AllNumbers xs → AllNumbers ys
+    → length (extendedDotTerms c xs ys) ≡ 0
+    → extendedDotAnswer f c xs ys
+    ≡ withSpread (zeroAnswer extended (any subnormalExtended xs || any subnormalExtended ys) (zeroFor c (map (extendedPair c) (pairs xs ys)))))
+
+-- what is written out is read as it was meant: every encoding of `extended`, and so each result of a rounding
+abbrev pub Extended-back : Type 0
+Extended-back =
+    ((b : ℕ) → decodeExtended (spread b) ≡ decode extended b)
+    × ((c : Settings) (g : ℕ) (s : Bool) (m : ℕ) → Holds (validSettings extended c)
+    → decodeExtended (spread (encode extended (round extended c g s m .value))) ≡ round extended c g s m .value)
+
+-- a pseudo-denormal, with its leading bit below a field of 0, is the number that stands below a field of 1; it counts as subnormal, and that does not
+abbrev pub Pseudo-denormal : Type 0
+Pseudo-denormal = (b : ℕ) → fieldIn b ≡ 0 → 2 ^ 63 ≤ significandIn b
+    → (fieldIn (b + 2 ^ 64) ≡ 1) × (decodeExtended (b + 2 ^ 64) ≡ decodeExtended b)
+    × (subnormalExtended b ≡ true) × (subnormalExtended (b + 2 ^ 64) ≡ false)
+
+-- a result is canonical, of refused calls too: its leading bit is 0 exactly below a field of 0. So none is unsupported, and none a pseudo-denormal
+abbrev pub Canonical : ℕ → Type 0
+Canonical b = ltb (significandIn b) (2 ^ 63) ≡ eqb (fieldIn b) 0
+
+abbrev pub Extended-canonical : Type 0
+Extended-canonical =
+    ((f : Format) (c : Settings) (u : ℕ) (l : List ℕ) → Canonical ((extendedSumAnswer f c u l) .result))
+    × ((f : Format) (c : Settings) (xs ys : List ℕ) → Canonical ((extendedDotAnswer f c xs ys) .result))
+
+-- the side: how the result, read again, lies beside the exact sum of the terms; and none where it is no number
+abbrev pub Extended-side : Type 0
+Extended-side =
+    ((f : Format) (c : Settings) (u : ℕ) (l : List ℕ) → extendedSumRefusal f c u l ≡ 0 → AllNumbers l
+    → let products = isSquare (summandOf u) in let r = extendedSumAnswer f c u l in
+    r .side ≡ sideOf (grid extended products) (decodeExtended (r .result)) (onGrid extended products (exactSum (extendedTerms c (summandOf u) l))))
+    × ((f : Format) (c : Settings) (xs ys : List ℕ) → extendedDotRefusal f c xs ys ≡ 0 → AllNumbers xs → AllNumbers ys
+    → let r = extendedDotAnswer f c xs ys in
+    r .side ≡ sideOf (grid extended true) (decodeExtended (r .result)) (onGrid extended true (exactSum (extendedDotTerms c xs ys))))
+
+abbrev pub Extended-no-side : Type 0
+Extended-no-side =
+    ((f : Format) (c : Settings) (u : ℕ) (l : List ℕ) → let r = extendedSumAnswer f c u l in
+    r .refusal ≡ 0 → isNumber (decodeExtended (r .result)) ≡ false → r .side ≡ 3)
+    × ((f : Format) (c : Settings) (xs ys : List ℕ) → let r = extendedDotAnswer f c xs ys in
+    r .refusal ≡ 0 → isNumber (decodeExtended (r .result)) ≡ false → r .side ≡ 3)
+
+-- what a chain ends with, rounded once, is the exact sum rounded once
+abbrev pub Extended-by-chain : Type 0
+Extended-by-chain =
+    ((f : Format) (c : Settings) (u : ℕ) (l : List ℕ) (sub products minus : Bool) → extendedSumRefusal f c u l ≡ 0
+    → chainTotal extended c sub products minus (extendedTerms c (summandOf u) l)
+    ≡ finiteTotal extended c sub products minus (extendedTerms c (summandOf u) l))
+    × ((f : Format) (c : Settings) (xs ys : List ℕ) (sub products minus : Bool) → extendedDotRefusal f c xs ys ≡ 0
+    → chainTotal extended c sub products minus (extendedDotTerms c xs ys) ≡ finiteTotal extended c sub products minus (extendedDotTerms c xs ys))
+
+-- a rearrangement of an accepted list of which no NaN decides is accepted, and has the same record; the pairs of a dot move together
+abbrev pub Extended-order : Type 0
+Extended-order =
+    ((f : Format) (c : Settings) (u : ℕ) (l₁ l₂ : List ℕ) → AsOften eqb l₁ l₂ → extendedSumRefusal f c u l₁ ≡ 0 → nanLookedAt l₁ ≡ false
+    → (extendedSumRefusal f c u l₂ ≡ 0) × (extendedSumAnswer f c u l₁ ≡ extendedSumAnswer f c u l₂))
+    × ((f : Format) (c : Settings) (xs ys xs′ ys′ : List ℕ) → length xs′ ≡ length ys′ → AsOften samePair (pairs xs ys) (pairs xs′ ys′)
+    → extendedDotRefusal f c xs ys ≡ 0 → nanLookedAt (bothOf (pairs xs ys)) ≡ false
+    → (extendedDotRefusal f c xs′ ys′ ≡ 0) × (extendedDotAnswer f c xs ys ≡ extendedDotAnswer f c xs′ ys′))
+
+-- and so have the values in the bytes of a call: the number returned and the buffer are alike
+abbrev pub Extended-call-order : Type 0
+Extended-call-order =
+    ((f : Format) (c : Settings) (u : ℕ) (b₁ b₂ old : List ℕ) → f .kind ≡ 4 → unevenTens b₁ ≡ false → unevenTens b₂ ≡ false
+    → AsOften eqb (tensIn b₁) (tensIn b₂) → extendedSumRefusal f c u (tensIn b₁) ≡ 0 → nanLookedAt (tensIn b₁) ≡ false
+    → sumCall f c u b₁ old ≡ sumCall f c u b₂ old)
+    × ((f : Format) (c : Settings) (x y x′ y′ old : List ℕ) → f .kind ≡ 4
+    → (unevenTens x || unevenTens y) ≡ false → (unevenTens x′ || unevenTens y′) ≡ false
+    → length (tensIn x′) ≡ length (tensIn y′) → AsOften samePair (pairs (tensIn x) (tensIn y)) (pairs (tensIn x′) (tensIn y′))
+    → extendedDotRefusal f c (tensIn x) (tensIn y) ≡ 0 → nanLookedAt (bothOf (pairs (tensIn x) (tensIn y))) ≡ false
+    → dotCall f c x y old ≡ dotCall f c x′ y′ old)
+
+-- 633 is 697 − 64
+abbrev pub mostExtended : List Term → ℕ
+mostExtended ts = 1 + ceilDiv (topOf ts - 702 - bottomOf ts) 633
+
+-- the limit on the passes, of every call, refused ones too: 1 + ⌈(T − 702 − B) / 633⌉, which is at most 52 in a sum or magnitude sum, and at most 104 in a
+-- square sum or dot
+abbrev pub Extended-limit : Type 0
+Extended-limit =
+    ((f : Format) (c : Settings) (u : ℕ) (l : List ℕ) → (extendedSumAnswer f c u l) .passes ≤ mostExtended (extendedTerms c (summandOf u) l))
+    × ((f : Format) (c : Settings) (xs ys : List ℕ) → (extendedDotAnswer f c xs ys) .passes ≤ mostExtended (extendedDotTerms c xs ys))
+
+abbrev pub Extended-most : Type 0
+Extended-most =
+    ((f : Format) (c : Settings) (u : ℕ) (l : List ℕ) → u ≤ 1 → (extendedSumAnswer f c u l) .passes ≤ 52)
+    × ((f : Format) (c : Settings) (u : ℕ) (l : List ℕ) → (extendedSumAnswer f c u l) .passes ≤ 104)
+    × ((f : Format) (c : Settings) (xs ys : List ℕ) → (extendedDotAnswer f c xs ys) .passes ≤ 104)
+
+-- a chain of kind 4 ends by its own rule, and each difference in its edges is a true one
+abbrev pub Extended-ends : Type 0
+Extended-ends =
+    ((c : Settings) (u : ℕ) (l : List ℕ) → Finished (chain (digits extended) (extendedTerms c (summandOf u) l) .outcome))
+    × ((c : Settings) (xs ys : List ℕ) → Finished (chain (digits extended) (extendedDotTerms c xs ys) .outcome))
+
+abbrev pub Extended-edges : Type 0
+Extended-edges =
+    ((c : Settings) (u : ℕ) (l : List ℕ) → EdgesTrue (extendedTerms c (summandOf u) l))
+    × ((c : Settings) (xs ys : List ℕ) → EdgesTrue (extendedDotTerms c xs ys))
