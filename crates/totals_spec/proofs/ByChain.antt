@@ -1,23 +1,22 @@
 -- The records of `Totals.antt` as a program makes them: the chain alone, run once, gives passes, last edge, and the number that is rounded.
 use mathlib.Core.Path.{_≡_, sym, ap, _∙_}
-use mathlib.Core.Bool.{Bool, not, _&&_}
+use mathlib.Core.Bool.{Bool}
 use mathlib.Core.List.{List, map}
 use Prim.Native.Nat.{ℕ, _≤_}
 use native.Mathlib.Nat.{le-trans, le-of-eq}
 use native.Mathlib.Omega.{arith}
 use lib.ListN.{length, length-map}
-use lib.Dec.{leb, ltb, eqb, lit≤}
-use borrow.Author.Tests.{ltb-false}
-use Rattle.totals_spec.specs.Format.{Format, validFormat, digits, grid, rise}
-use Rattle.totals_spec.specs.Settings.{Settings, validSettings, precisionOf, summandOf}
-use Rattle.totals_spec.specs.Terms.{Term, exactSum, item, pairItem, termOf, terms}
+use lib.Dec.{lit≤}
+use Rattle.totals_spec.specs.Format.{Format, digits, grid, rise}
+use Rattle.totals_spec.specs.Settings.{Settings, precisionOf, summandOf}
+use Rattle.totals_spec.specs.Terms.{Term, Item, exactSum, item, pairItem, termOf, terms}
 use Rattle.totals_spec.proofs.Good.{AllGood, good-terms, good-pairs, picked-length}
 use Rattle.totals_spec.proofs.Margin.{terms-max}
 use Rattle.totals_spec.proofs.Exact.{chain-rounds}
-use Rattle.totals_spec.proofs.Passes.{valid-of}
-use Rattle.totals_spec.proofs.Valid.{and-left, format-bounds, settings-bounds, precision-most, precision-least}
+use Rattle.totals_spec.proofs.Accepts.{sum-accepts, dot-accepts}
+use Rattle.totals_spec.proofs.Valid.{precision-most, precision-least}
 use Rattle.totals_spec.specs.Totals.{sumRounded, reported, onGrid, towardsNegative, finiteTotal, limit, sumRefusal, dotRefusal, pairs}
-use Rattle.totals_spec.proofs.Order.{first-zero, dot-lengths, pairs-length}
+use Rattle.totals_spec.proofs.Order.{dot-lengths, pairs-length}
 use Rattle.totals_spec.specs.Settled.{settled, chainTotal}
 use Rattle.totals_spec.specs.Basics.{Signed}
 use Rattle.totals_spec.specs.Bounds.{RangeBounds, SettingsBounds}
@@ -55,36 +54,27 @@ finite-by-chain f c sub products minus ts b k g len =
         ≡ sumRounded f c (grid f products) (towardsNegative c) (exactly f products ts)
     rounds = chain-rounds (digits f) ts (omega (arith, b .p-le)) g len f c (grid f products) (rise f products) (towardsNegative c) (precision-most f c k)
 
--- ---- what an accepted call has shown
+-- ---- an accepted call has as many terms as this holds for, or fewer
 
-pub many : (n : ℕ) → n ≤ limit → n ≤ terms-max
-many n h = le-trans h (lit≤ tt)
+pub few-terms : {A : Type 0} (g : A → Item) (l : List A) → length l ≤ limit → length (terms (map g l)) ≤ terms-max
+few-terms g l h = le-trans (picked-length termOf (map g l)) (le-trans (le-of-eq (length-map l g)) (le-trans h (lit≤ tt)))
+
+pub sum-few : (f : Format) (c : Settings) (u : ℕ) (l : List ℕ) → sumRefusal f c u l ≡ 0 → length (terms (map (item f c (summandOf u)) l)) ≤ terms-max
+sum-few f c u l e = few-terms (item f c (summandOf u)) l (sum-accepts f c u l e .few)
+
+pub dot-few : (f : Format) (c : Settings) (xs ys : List ℕ) → dotRefusal f c xs ys ≡ 0 → length (terms (map (pairItem f c) (pairs xs ys))) ≤ terms-max
+dot-few f c xs ys e =
+    few-terms (pairItem f c) (pairs xs ys) (le-trans (le-of-eq (pairs-length xs ys (dot-lengths f c xs ys e))) (dot-accepts f c xs ys e .few))
 
 pub sum-by-chain : (f : Format) (c : Settings) (u : ℕ) (l : List ℕ) (sub products minus : Bool) → sumRefusal f c u l ≡ 0
     → chainTotal f c sub products minus (terms (map (item f c (summandOf u)) l)) ≡ finiteTotal f c sub products minus (terms (map (item f c (summandOf u)) l))
-unfolding sumRefusal
 sum-by-chain f c u l sub products minus e =
-    let a = first-zero (not (validFormat f)) 2 _ e in
-    let b = first-zero (not (validSettings f c && leb u 2)) 3 _ (a .1) in
-    let g = first-zero (ltb limit (length l)) 5 _ (b .1) in
-    finite-by-chain f c sub products minus (terms (map (item f c (summandOf u)) l)) (format-bounds f (valid-of (validFormat f) 2 _ e) .range)
-    (settings-bounds f c (and-left (validSettings f c) (leb u 2) (valid-of (validSettings f c && leb u 2) 3 _ (a .1)))) (good-terms f c (summandOf u) l)
-    (many _ (le-trans (picked-length termOf (map (item f c (summandOf u)) l))
-    (le-trans (le-of-eq (length-map l (item f c (summandOf u)))) (ltb-false limit (length l) (g .0)))))
+    let a = sum-accepts f c u l e in
+    finite-by-chain f c sub products minus _ (a .format .range) (a .settings) (good-terms f c (summandOf u) l) (sum-few f c u l e)
 
 pub dot-by-chain : (f : Format) (c : Settings) (xs ys : List ℕ) (sub products minus : Bool) → dotRefusal f c xs ys ≡ 0
     → chainTotal f c sub products minus (terms (map (pairItem f c) (pairs xs ys)))
     ≡ finiteTotal f c sub products minus (terms (map (pairItem f c) (pairs xs ys)))
-unfolding dotRefusal
 dot-by-chain f c xs ys sub products minus e =
-    let a = first-zero (not (validFormat f)) 2 _ e in
-    let b = first-zero (not (validSettings f c)) 3 _ (a .1) in
-    let g = first-zero (not (eqb (length xs) (length ys))) 4 _ (b .1) in
-    let h = first-zero (ltb limit (length xs)) 5 _ (g .1) in
-    finite-by-chain f c sub products minus (terms (map (pairItem f c) (pairs xs ys))) (format-bounds f (valid-of (validFormat f) 2 _ e) .range)
-    (settings-bounds f c (valid-of (validSettings f c) 3 _ (a .1))) (good-pairs f c (pairs xs ys))
-    (many _ (le-trans (picked-length termOf (map (pairItem f c) (pairs xs ys)))
-    (le-trans (le-of-eq (length-map (pairs xs ys) (pairItem f c) ∙ pairs-length xs ys (lengths e))) (ltb-false limit (length xs) (h .0)))))
-  where
-    lengths : dotRefusal f c xs ys ≡ 0 → length xs ≡ length ys
-    lengths = dot-lengths f c xs ys
+    let a = dot-accepts f c xs ys e in
+    finite-by-chain f c sub products minus _ (a .format .range) (a .settings) (good-pairs f c (pairs xs ys)) (dot-few f c xs ys e)

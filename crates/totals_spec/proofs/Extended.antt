@@ -8,7 +8,7 @@ use Prim.Native.Nat.{ℕ, zero, suc, _+_, _^_, _≤_}
 use native.Mathlib.Nat.{le-refl, le-trans, le-of-eq}
 use native.Mathlib.Omega.{arith}
 use lib.Dec.{T, leb, ltb, eqb, leb→le, eqb→eq, eqb-refl}
-use lib.ListN.{length, length-map}
+use lib.ListN.{length}
 use lib.IntN.{ℤ, pos}
 use borrow.Author.Tests.{ne-eqb, ltb-false}
 use Rattle.totals_spec.specs.Basics.{any, flag, isSet}
@@ -18,7 +18,7 @@ use Rattle.totals_spec.specs.Settings.{Settings, validSettings, summandO
 use Rattle.totals_spec.specs.Decode.{Unpacked, nan, decode, isNan, isNumber}
 use Rattle.totals_spec.specs.Encode.{encode}
 use Rattle.totals_spec.specs.Nan.{defaultNanOf}
-use Rattle.totals_spec.specs.Terms.{Item, Term, isNanItem, termOf, terms, exactSum, topOf}
+use Rattle.totals_spec.specs.Terms.{Item, Term, isNanItem, terms, exactSum, topOf}
 use Rattle.totals_spec.specs.Round.{round}
 use Rattle.totals_spec.specs.Side.{sideOf}
 use Rattle.totals_spec.specs.Totals.{Answer, refused, special, reported, accepted, finiteTotal, onGrid, answered, isSquare, limit, pairs}
@@ -34,13 +34,13 @@ use Rattle.totals_spec.specs.Promises.{Extended-back, Extended-canonical
 use Rattle.totals_spec.specs.Promises.{Extended-limit, Extended-most, Extended-ends, Extended-edges}
 use Rattle.totals_spec.proofs.Accepted.{cond-has, accepted-has}
 use Rattle.totals_spec.proofs.Binary64.{passes-within}
-use Rattle.totals_spec.proofs.ByChain.{finite-by-chain, many}
+use Rattle.totals_spec.proofs.ByChain.{finite-by-chain, few-terms}
 use Rattle.totals_spec.proofs.Edges.{edges-true}
 use Rattle.totals_spec.proofs.Exactly.{Tests, test, last, exactly, different, not-both, settings-fail, summand-fails, unequal-found, many-found}
 use Rattle.totals_spec.proofs.Fields.{Fields, without, accepted-fields}
 use Rattle.totals_spec.proofs.Finite.{AllPlain, some-term, plain-accepted}
 use Rattle.totals_spec.proofs.Fits.{few-passes, answered-fit}
-use Rattle.totals_spec.proofs.Good.{AllGood, picked-length}
+use Rattle.totals_spec.proofs.Good.{AllGood}
 use Rattle.totals_spec.proofs.Held.{round-held}
 use Rattle.totals_spec.proofs.Lean.{no-number}
 use Rattle.totals_spec.proofs.Limit.{chain-ends}
@@ -334,13 +334,11 @@ extended-by-chain = (
   λ f c u l sub products minus r.
       let a = extended-sum-accepts f c u l r .0 in
       finite-by-chain extended c sub products minus (extendedTerms c (summandOf u) l) extended-bounds (a .settings) (extended-good c (summandOf u) l)
-      (many _ (le-trans (picked-length termOf (map (extendedItem c (summandOf u)) l))
-      (le-trans (le-of-eq (length-map l (extendedItem c (summandOf u)))) (a .few)))),
+      (few-terms (extendedItem c (summandOf u)) l (a .few)),
   λ f c xs ys sub products minus r.
       let a = extended-dot-accepts f c xs ys r in
       finite-by-chain extended c sub products minus (extendedDotTerms c xs ys) extended-bounds (a .0 .settings) (extended-good-pairs c (pairs xs ys))
-      (many _ (le-trans (picked-length termOf (map (extendedPair c) (pairs xs ys)))
-      (le-trans (le-of-eq (length-map (pairs xs ys) (extendedPair c) ∙ pairs-length xs ys (a .1))) (a .0 .few)))),
+      (few-terms (extendedPair c) (pairs xs ys) (le-trans (le-of-eq (pairs-length xs ys (a .1))) (a .0 .few))),
 )
 
 pub extended-limit : Extended-limit
