@@ -72,6 +72,8 @@ pub mod RangeOrder
 -- Career pages.
 pub mod Pages
 pub mod PageRefused
+-- Mirror and square.
+pub mod Squares
 -- The promises: what `specs/Promises.antt` states. Read this one first.
 pub mod Promises
 -- More of a pass: how near S is to the exact sum, and that a boundary need not be taken off.

@@ -32,6 +32,7 @@ use Rattle.totals_spec.specs.Promises.{Extended-refused, Call-refused, E
 use Rattle.totals_spec.specs.Promises.{Extended-exact, Extended-zeros, Extended-back, Extended-canonical, Extended-side, Extended-no-side}
 use Rattle.totals_spec.specs.Promises.{Extended-by-chain, Extended-order, Extended-call-order, Extended-limit, Extended-most, Extended-ends}
 use Rattle.totals_spec.specs.Promises.{Extended-edges, Pseudo-denormal}
+use Rattle.totals_spec.specs.Promises.{Square-dot}
 use Rattle.totals_spec.proofs.Bits.{low-divides, low-set, size-none, size-one-less}
 use Rattle.totals_spec.proofs.Good.{good-terms, good-pairs}
 use Rattle.totals_spec.proofs.Valid.{digits-le}
@@ -66,6 +67,7 @@ use Rattle.totals_spec.proofs.Extended as extended
 use Rattle.totals_spec.proofs.ExtendedCalls as calls
 use Rattle.totals_spec.proofs.Spread as encodings
 use Rattle.totals_spec.proofs.PageRefused as refused-pages
+use Rattle.totals_spec.proofs.Squares as squares
 
 -- ==== the document's examples (specs/Careers, which computes them, and Careers)
 
@@ -482,6 +484,11 @@ extended-edges = extended.extended-edges
 
 pub named-own : Named-own
 named-own = biases.named-own
+
+-- ==== document 02, A.11: mirror and square (Squares)
+
+pub square-dot : Square-dot
+square-dot = squares.square-dot
 
 -- ==== the definitions mean what they say (Limit, Edges, Bits)
 

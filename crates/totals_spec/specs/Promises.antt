@@ -922,3 +922,10 @@ abbrev pub Extended-edges : Type 0
 Extended-edges =
     ((c : Settings) (u : ℕ) (l : List ℕ) → EdgesTrue (extendedTerms c (summandOf u) l))
     × ((c : Settings) (xs ys : List ℕ) → EdgesTrue (extendedDotTerms c xs ys))
+
+-- ==== mirror and square (document 02, A.11)
+
+-- without a NaN the square sum is the dot product of the list with itself, record for record; of refused calls too. This is of kinds 0 to 3: kind 4 is
+-- refused by both
+abbrev pub Square-dot : Type 0
+Square-dot = (f : Format) (c : Settings) (l : List ℕ) → holdsNan f l ≡ false → sumAnswer f c 2 l ≡ dotAnswer f c l l
