@@ -60,7 +60,7 @@ pub number-cond : (b s : Bool) (x : Unpacked) → T (isNumber x) → T (isNumber
 number-cond true s x h = tt
 number-cond false s x h = h
 
-number-operand : (f : Format) (c : Settings) (b : ℕ) → T (isNumber (decode f b)) → T (isNumber (operand f c b))
+pub number-operand : (f : Format) (c : Settings) (b : ℕ) → T (isNumber (decode f b)) → T (isNumber (operand f c b))
 unfolding operand
 number-operand f c b h = number-cond (isSet (c .denormalsAreZero) && isSubnormal f b) (signBit f b) (decode f b) h
 

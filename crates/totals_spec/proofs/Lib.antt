@@ -72,7 +72,12 @@ pub mod RangeOrder
 -- Career pages.
 pub mod Pages
 pub mod PageRefused
--- Mirror and square.
+-- Mirror and square: values with the other signs take the same passes and round alike under the exchanged modes.
+pub mod Opposite
+pub mod Turned
+pub mod TurnedChain
+pub mod TurnedRound
+pub mod Mirror
 pub mod Squares
 -- The promises: what `specs/Promises.antt` states. Read this one first.
 pub mod Promises

@@ -42,6 +42,7 @@ use Rattle.totals_spec.specs.Extended.{extendedPair, extendedDotTerms, b
 use Rattle.totals_spec.specs.Extended.{tensIn, unevenTens, sumCall, dotCall}
 use Rattle.totals_spec.specs.Words.{formatBy, penceEntry, tableEntry, rangeEntry}
 use Rattle.totals_spec.specs.Hundredfold.{chainPence}
+use Rattle.totals_spec.specs.Mirror.{opposite, negated, mirrored, negatedAnswer, neitherZeroNorNan}
 use Rattle.totals_spec.specs.Careers.{careers, margins, allAgree, sideExamples, refusals, entryExample}
 use Rattle.totals_spec.specs.Careers.{penceExamples, biases, sumPenceExamples, tableExamples, programRuns, programAgrees}
 use Rattle.totals_spec.specs.RangeExamples.{rangeExamples}
@@ -924,6 +925,24 @@ Extended-edges =
     × ((c : Settings) (xs ys : List ℕ) → EdgesTrue (extendedDotTerms c xs ys))
 
 -- ==== mirror and square (document 02, A.11)
+
+-- the negative of a finite value's encoding fits the width, and stands for the value with the other sign, as its format keeps it
+abbrev pub Negated-value : Type 0
+Negated-value = (f : Format) (b : ℕ) → Holds (validFormat f) → b < 2 ^ (f .W) → Holds (isNumber (decode f b))
+    → (negated f b < 2 ^ (f .W)) × (decode f (negated f b) ≡ keptAs (kindOf (f .kind)) (opposite (decode f b)))
+
+-- all values negated and the two directed modes exchanged: the call is accepted, with the negated result, the same flags, passes and last edge, and the
+-- other side, where the result is neither zero nor NaN
+abbrev pub Sum-mirror : Type 0
+Sum-mirror = (f : Format) (c : Settings) (l : List ℕ) → sumRefusal f c 0 l ≡ 0 → AllFinite f l
+    → Holds (neitherZeroNorNan (decode f ((sumAnswer f c 0 l) .result)))
+    → sumAnswer f (mirrored c) 0 (map (negated f) l) ≡ negatedAnswer (negated f) (sumAnswer f c 0 l)
+
+-- of a dot the values of the left list alone
+abbrev pub Dot-mirror : Type 0
+Dot-mirror = (f : Format) (c : Settings) (xs ys : List ℕ) → dotRefusal f c xs ys ≡ 0 → AllFinite f xs → AllFinite f ys
+    → Holds (neitherZeroNorNan (decode f ((dotAnswer f c xs ys) .result)))
+    → dotAnswer f (mirrored c) (map (negated f) xs) ys ≡ negatedAnswer (negated f) (dotAnswer f c xs ys)
 
 -- without a NaN the square sum is the dot product of the list with itself, record for record; of refused calls too. This is of kinds 0 to 3: kind 4 is
 -- refused by both
