@@ -32,7 +32,7 @@ use Rattle.totals_spec.specs.Promises.{Extended-refused, Call-refused, E
 use Rattle.totals_spec.specs.Promises.{Extended-exact, Extended-zeros, Extended-back, Extended-canonical, Extended-side, Extended-no-side}
 use Rattle.totals_spec.specs.Promises.{Extended-by-chain, Extended-order, Extended-call-order, Extended-limit, Extended-most, Extended-ends}
 use Rattle.totals_spec.specs.Promises.{Extended-edges, Pseudo-denormal}
-use Rattle.totals_spec.specs.Promises.{Negated-value, Sum-mirror, Dot-mirror, Square-dot}
+use Rattle.totals_spec.specs.Promises.{Mirrors-agree, Negated-value, Sum-mirror, Dot-mirror, Square-dot}
 use Rattle.totals_spec.proofs.Bits.{low-divides, low-set, size-none, size-one-less}
 use Rattle.totals_spec.proofs.Good.{good-terms, good-pairs}
 use Rattle.totals_spec.proofs.Valid.{digits-le}
@@ -67,6 +67,7 @@ use Rattle.totals_spec.proofs.Extended as extended
 use Rattle.totals_spec.proofs.ExtendedCalls as calls
 use Rattle.totals_spec.proofs.Spread as encodings
 use Rattle.totals_spec.proofs.PageRefused as refused-pages
+use Rattle.totals_spec.specs.MirrorExamples as tests-of-mirrors
 use Rattle.totals_spec.proofs.Opposite as opposites
 use Rattle.totals_spec.proofs.Mirror as mirrors
 use Rattle.totals_spec.proofs.Squares as squares
@@ -487,7 +488,10 @@ extended-edges = extended.extended-edges
 pub named-own : Named-own
 named-own = biases.named-own
 
--- ==== document 02, A.11: mirror and square (Opposite, Mirror, Squares)
+-- ==== document 02, A.11: mirror and square (specs/MirrorExamples, which computes the examples, Opposite, Mirror, Squares)
+
+pub mirrors-agree : Mirrors-agree
+mirrors-agree = tests-of-mirrors.mirrors-agree
 
 pub negated-value : Negated-value
 negated-value = opposites.negated-value

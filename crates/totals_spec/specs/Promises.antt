@@ -48,6 +48,7 @@ use Rattle.totals_spec.specs.Careers.{penceExamples, biases, sumPenceExa
 use Rattle.totals_spec.specs.RangeExamples.{rangeExamples}
 use Rattle.totals_spec.specs.PageExamples.{pageExamples}
 use Rattle.totals_spec.specs.ExtendedExamples.{extendedExamples, chains}
+use Rattle.totals_spec.specs.MirrorExamples.{mirrorExamples}
 
 -- ==== the document's examples
 
@@ -86,6 +87,10 @@ Pages-agree = Holds pageExamples
 -- kind 4: unsupported encodings beside NaNs and infinities, pseudo-denormals, NaNs, roundings, many passes, and its calls with each refusal but 6
 abbrev pub Extended-agree : Type 0
 Extended-agree = Holds extendedExamples × Holds chains
+
+-- mirrors and squares: of kinds 0 to 3, in directed and other modes, with named biases, and of which nothing is claimed
+abbrev pub Mirrors-agree : Type 0
+Mirrors-agree = Holds mirrorExamples
 
 -- the examples of the refusals, of a byte entry, of pence and of the program
 abbrev pub Examples-agree : Type 0
