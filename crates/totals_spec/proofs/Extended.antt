@@ -247,14 +247,14 @@ extended-unsupported = (
 
 -- ---- finite values
 
-extended-sum-finite : (f : Format) (c : Settings) (u : ℕ) (l : List ℕ) → extendedSumRefusal f c u l ≡ 0 → AllNumbers l
+pub extended-sum-finite : (f : Format) (c : Settings) (u : ℕ) (l : List ℕ) → extendedSumRefusal f c u l ≡ 0 → AllNumbers l
     → extendedSumAnswer f c u l
     ≡ withSpread (finiteTotal extended c (any subnormalExtended l) (isSquare (summandOf u)) (zeroFor c (map (extendedItem c (summandOf u)) l))
     (extendedTerms c (summandOf u) l))
 unfolding extendedSumAnswer extendedSum
 extended-sum-finite f c u l r h = rw r (extended-finite c _ _ l _ (all-supported l h) (extended-plain c (summandOf u) l h))
 
-extended-dot-finite : (f : Format) (c : Settings) (xs ys : List ℕ) → extendedDotRefusal f c xs ys ≡ 0 → AllNumbers xs → AllNumbers ys
+pub extended-dot-finite : (f : Format) (c : Settings) (xs ys : List ℕ) → extendedDotRefusal f c xs ys ≡ 0 → AllNumbers xs → AllNumbers ys
     → extendedDotAnswer f c xs ys
     ≡ withSpread (finiteTotal extended c (any subnormalExtended xs || any subnormalExtended ys) true (zeroFor c (map (extendedPair c) (pairs xs ys)))
     (extendedDotTerms c xs ys))

@@ -78,6 +78,7 @@ pub mod Turned
 pub mod TurnedChain
 pub mod TurnedRound
 pub mod Mirror
+pub mod ExtendedMirror
 pub mod Squares
 -- The promises: what `specs/Promises.antt` states. Read this one first.
 pub mod Promises

@@ -134,7 +134,7 @@ module _ (f : Format) (c : Settings) (b : RangeBounds f) (q : precisionOf f c �
 
 -- ---- the mirrored call is accepted
 
-settings-mirrored : (f : Format) (c : Settings) → validSettings f (mirrored c) ≡ validSettings f c
+pub settings-mirrored : (f : Format) (c : Settings) → validSettings f (mirrored c) ≡ validSettings f c
 unfolding validSettings mirrored
 settings-mirrored f c = rw (mode (c .rounding))
   where

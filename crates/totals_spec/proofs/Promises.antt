@@ -32,7 +32,7 @@ use Rattle.totals_spec.specs.Promises.{Extended-refused, Call-refused, E
 use Rattle.totals_spec.specs.Promises.{Extended-exact, Extended-zeros, Extended-back, Extended-canonical, Extended-side, Extended-no-side}
 use Rattle.totals_spec.specs.Promises.{Extended-by-chain, Extended-order, Extended-call-order, Extended-limit, Extended-most, Extended-ends}
 use Rattle.totals_spec.specs.Promises.{Extended-edges, Pseudo-denormal}
-use Rattle.totals_spec.specs.Promises.{Mirrors-agree, Negated-value, Sum-mirror, Dot-mirror, Square-dot}
+use Rattle.totals_spec.specs.Promises.{Mirrors-agree, Negated-value, Sum-mirror, Dot-mirror, Negated-extended, Extended-mirror, Square-dot}
 use Rattle.totals_spec.proofs.Bits.{low-divides, low-set, size-none, size-one-less}
 use Rattle.totals_spec.proofs.Good.{good-terms, good-pairs}
 use Rattle.totals_spec.proofs.Valid.{digits-le}
@@ -70,6 +70,7 @@ use Rattle.totals_spec.proofs.PageRefused as refused-pages
 use Rattle.totals_spec.specs.MirrorExamples as tests-of-mirrors
 use Rattle.totals_spec.proofs.Opposite as opposites
 use Rattle.totals_spec.proofs.Mirror as mirrors
+use Rattle.totals_spec.proofs.ExtendedMirror as extended-mirrors
 use Rattle.totals_spec.proofs.Squares as squares
 
 -- ==== the document's examples (specs/Careers, which computes them, and Careers)
@@ -488,7 +489,7 @@ extended-edges = extended.extended-edges
 pub named-own : Named-own
 named-own = biases.named-own
 
--- ==== document 02, A.11: mirror and square (specs/MirrorExamples, which computes the examples, Opposite, Mirror, Squares)
+-- ==== document 02, A.11: mirror and square (specs/MirrorExamples, which computes the examples, Opposite, Mirror, ExtendedMirror, Squares)
 
 pub mirrors-agree : Mirrors-agree
 mirrors-agree = tests-of-mirrors.mirrors-agree
@@ -501,6 +502,12 @@ sum-mirror = mirrors.sum-mirror
 
 pub dot-mirror : Dot-mirror
 dot-mirror = mirrors.dot-mirror
+
+pub negated-extended : Negated-extended
+negated-extended = extended-mirrors.negated-extended
+
+pub extended-mirror : Extended-mirror
+extended-mirror = extended-mirrors.extended-mirror
 
 pub square-dot : Square-dot
 square-dot = squares.square-dot

@@ -37,7 +37,7 @@ led-lt x m hm = go (not (eqb x 0))
     go false = omega arith
 
 module _ (s : Bool) (x m : ℕ) (hx : x < 2 ^ 15) (hm : m < 2 ^ 63) where
-  bits-sign : signIn (extendedBits s x m) ≡ s
+  pub bits-sign : signIn (extendedBits s x m) ≡ s
   bits-sign = go s (led x m) (led-lt x m hm)
     where
       go : (t : Bool) (n : ℕ) → n < 2 ^ 64 → eqb ((flag (2 ^ 79) t + x * 2 ^ 64 + n) / 2 ^ 79 % 2) 1 ≡ t
@@ -107,11 +107,11 @@ module _ (s : Bool) (x m : ℕ) (hx : x < 2 ^ 15) (hm : m < 2 ^ 63) where
 -- ---- an encoding of `extended` with its leading bit written out
 
 module _ (b : ℕ) where
-  field-lt : fieldOf extended b < 2 ^ 15
+  pub field-lt : fieldOf extended b < 2 ^ 15
   unfolding extended
   field-lt = mod-lt (b / 2 ^ 63) (pow-pos 15)
 
-  fraction-lt : fractionOf extended b < 2 ^ 63
+  pub fraction-lt : fractionOf extended b < 2 ^ 63
   unfolding extended
   fraction-lt = mod-lt b (pow-pos 63)
 

@@ -107,10 +107,10 @@ any-stays negative t e (b ∷ l) h = ap₂ _||_ (e b (h .0)) (any-stays negative
 -- ---- finite values of a format without a stray bit
 
 -- two tests that do not read a sign
-abbrev Untouched : Unpacked → Unpacked → Type 0
+abbrev pub Untouched : Unpacked → Unpacked → Type 0
 Untouched v w = (isFinite w ≡ isFinite v) × (isNumber w ≡ isNumber v)
 
-opposite-tests : (v : Unpacked) → Untouched v (opposite v)
+pub opposite-tests : (v : Unpacked) → Untouched v (opposite v)
 opposite-tests (zeroOf s) = (refl, refl)
 opposite-tests (finite s e m) = (refl, refl)
 opposite-tests (infinity s) = (refl, refl)

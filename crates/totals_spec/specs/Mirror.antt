@@ -6,6 +6,7 @@ use Rattle.totals_spec.specs.Format.{Format, Kind, ieee, noInf, fnuz, fi
 use Rattle.totals_spec.specs.Settings.{Settings}
 use Rattle.totals_spec.specs.Decode.{Unpacked, zeroOf, finite, infinity, nan, signBit}
 use Rattle.totals_spec.specs.Totals.{Answer}
+use Rattle.totals_spec.specs.Extended.{signIn}
 
 -- ---- negating
 
@@ -28,6 +29,10 @@ negatedBy finiteOnly f b = otherSign f b
 
 unfoldable pub negated : Format → ℕ → ℕ
 negated f b = negatedBy (kindOf (f .kind)) f b
+
+-- in kind 4 the sign is bit 79
+abbrev pub negatedExtended : ℕ → ℕ
+negatedExtended b = cond (signIn b) (b - 2 ^ 79) (b + 2 ^ 79)
 
 -- ---- the modes toward positive and toward negative, 3 and 4, exchanged; every other setting stays
 

@@ -19,7 +19,10 @@ use Rattle.totals_spec.specs.Side.{leansOf, sideOf}
 use Rattle.totals_spec.specs.Totals.{Answer, special, sumRounded, reported, finiteTotal, withoutNan, accepted, sumRefusal, sumAccepted}
 use Rattle.totals_spec.specs.Totals.{sumAnswer, dotRefusal, dotPlace, dotAccepted, dotAnswer}
 use Rattle.totals_spec.specs.Careers.{binary16, half16, sameInt, refusedAs}
-use Rattle.totals_spec.specs.Mirror.{negated, exchanged}
+use Rattle.totals_spec.specs.Mirror.{negated, negatedExtended, exchanged}
+use Rattle.totals_spec.specs.Extended.{extended, kind4, validExtended, unsupported, decodeExtended, subnormalExtended, extendedOperand, spread}
+use Rattle.totals_spec.specs.Extended.{extendedAccepted, extendedItem, extendedSum, extendedSumRefusal, extendedSumAnswer}
+use Rattle.totals_spec.specs.Extended.{extendedPair, extendedDot, extendedDotRefusal, extendedDotAnswer}
 
 -- the formats of kinds 1 to 3 in the rows: of 8, 8 and 4 bits
 unfoldable pub noInf8 : Format
@@ -49,10 +52,22 @@ abbrev dots : Format → (ℕ → Settings) → List ℕ → ℕ → List ℕ �
 dots f c ys m xs = dotAnswer f (c m) xs ys
 
 -- a mode and the exchanged one, a list and its negatives; the two results, flags, passes, last edge, the two sides
-abbrev mirror : Format → (ℕ → List ℕ → Answer) → (mode other : ℕ) (list negatives : List ℕ) (result negative flags passes : ℕ) → ℤ → (side otherSide : ℕ) → Bool
-mirror f total m n l k result negative flags passes edge side other =
-    eqb (exchanged m) n && sameList (map (negated f) l) k
+abbrev mirrorBy : (ℕ → ℕ) → (ℕ → List ℕ → Answer) → (mode other : ℕ) (list negatives : List ℕ) (result negative flags passes : ℕ) → ℤ
+    → (side otherSide : ℕ) → Bool
+mirrorBy minus total m n l k result negative flags passes edge side other =
+    eqb (exchanged m) n && sameList (map minus l) k
     && reads result flags passes edge side (total m l) && reads negative flags passes edge other (total n k)
+
+abbrev mirror : Format → (ℕ → List ℕ → Answer) → (mode other : ℕ) (list negatives : List ℕ) (result negative flags passes : ℕ) → ℤ
+    → (side otherSide : ℕ) → Bool
+mirror f = mirrorBy (negated f)
+
+-- of kind 4
+abbrev sums4 : ℕ → List ℕ → Answer
+sums4 m l = extendedSumAnswer kind4 (with 0 0 0 0 m) 0 l
+
+abbrev dots4 : List ℕ → ℕ → List ℕ → Answer
+dots4 ys m xs = extendedDotAnswer kind4 (with 0 0 0 0 m) xs ys
 
 -- a square sum, and the dot product of the list with itself
 abbrev squares : Format → Settings → List ℕ → (Answer → Bool) → Bool
@@ -84,6 +99,13 @@ mirrorExamples =
     && mirror (record { kind = 2; E = 4; W = 8; named = some (negsuc 2) })
     (dots (record { kind = 2; E = 4; W = 8; named = some (negsuc 2) }) (with 0 0 0 0) (0x09 ∷ 0x88 ∷ 0x01 ∷ []))
     3 4 (0x09 ∷ 0 ∷ 0x88 ∷ []) (0x89 ∷ 0 ∷ 0x08 ∷ []) 0x2a 0xaa 0xd0 1 (negsuc 692) 2 1
+    -- kind 4: 1 and 2^−64; a pseudo-denormal and the least number's negative; twice the largest number
+    && mirrorBy negatedExtended sums4 3 4 (0x3fff8000000000000000 ∷ 0x3fbf8000000000000000 ∷ []) (0xbfff8000000000000000 ∷ 0xbfbf8000000000000000 ∷ [])
+    0x3fff8000000000000001 0xbfff8000000000000001 0x50 1 (negsuc 701) 2 1
+    && mirrorBy negatedExtended sums4 0 0 (0x8000000000000000 ∷ 0x80000000000000000001 ∷ []) (0x80008000000000000000 ∷ 1 ∷ [])
+    0x7fffffffffffffff 0x80007fffffffffffffff 0xa0 1 (negsuc 17083) 0 0
+    && mirrorBy negatedExtended (dots4 (0x40008000000000000000 ∷ [])) 4 3 (0x7ffeffffffffffffffff ∷ []) (0xfffeffffffffffffffff ∷ [])
+    0x7ffeffffffffffffffff 0xfffeffffffffffffffff 0x14 1 (pos 15683) 1 2
     -- nothing is claimed of Fnuz's NaN and of a zero: the negatives have the same
     && reads 0x80 0x14 1 (negsuc 694) 3 (sums fnuz8 (with 0 0 0 0) 0 (0x7f ∷ 0x7f ∷ []))
     && reads 0x80 0x14 1 (negsuc 694) 3 (sums fnuz8 (with 0 0 0 0) 0 (0xff ∷ 0xff ∷ []))
@@ -107,4 +129,6 @@ unfolding
     lostEnd lookAt half wrapped decide sumOf pass run chain size span climb
     dropped roundedAt overflows largest overflow numberOf finished tinySum roundTo round encode leansOf sideOf defaultNanOf selectAll
     special sumRounded reported finiteTotal withoutNan accepted sumRefusal sumAccepted sumAnswer dotRefusal dotPlace dotAccepted dotAnswer
+    extended validExtended unsupported decodeExtended subnormalExtended extendedOperand spread extendedAccepted extendedItem extendedSum extendedSumRefusal
+    extendedSumAnswer extendedPair extendedDot extendedDotRefusal extendedDotAnswer
 mirrors-agree = tt

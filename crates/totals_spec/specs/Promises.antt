@@ -42,7 +42,7 @@ use Rattle.totals_spec.specs.Extended.{extendedPair, extendedDotTerms, b
 use Rattle.totals_spec.specs.Extended.{tensIn, unevenTens, sumCall, dotCall}
 use Rattle.totals_spec.specs.Words.{formatBy, penceEntry, tableEntry, rangeEntry}
 use Rattle.totals_spec.specs.Hundredfold.{chainPence}
-use Rattle.totals_spec.specs.Mirror.{opposite, negated, mirrored, negatedAnswer, neitherZeroNorNan}
+use Rattle.totals_spec.specs.Mirror.{opposite, negated, negatedExtended, mirrored, negatedAnswer, neitherZeroNorNan}
 use Rattle.totals_spec.specs.Careers.{careers, margins, allAgree, sideExamples, refusals, entryExample}
 use Rattle.totals_spec.specs.Careers.{penceExamples, biases, sumPenceExamples, tableExamples, programRuns, programAgrees}
 use Rattle.totals_spec.specs.RangeExamples.{rangeExamples}
@@ -88,7 +88,7 @@ Pages-agree = Holds pageExamples
 abbrev pub Extended-agree : Type 0
 Extended-agree = Holds extendedExamples × Holds chains
 
--- mirrors and squares: of kinds 0 to 3, in directed and other modes, with named biases, and of which nothing is claimed
+-- mirrors and squares: of each kind, in directed and other modes, with named biases, and of which nothing is claimed
 abbrev pub Mirrors-agree : Type 0
 Mirrors-agree = Holds mirrorExamples
 
@@ -948,6 +948,20 @@ abbrev pub Dot-mirror : Type 0
 Dot-mirror = (f : Format) (c : Settings) (xs ys : List ℕ) → dotRefusal f c xs ys ≡ 0 → AllFinite f xs → AllFinite f ys
     → Holds (neitherZeroNorNan (decode f ((dotAnswer f c xs ys) .result)))
     → dotAnswer f (mirrored c) (map (negated f) xs) ys ≡ negatedAnswer (negated f) (dotAnswer f c xs ys)
+
+-- kind 4: the negative of an encoding fits 80 bits, and stands for the value with the other sign
+abbrev pub Negated-extended : Type 0
+Negated-extended = (b : ℕ) → b < 2 ^ 80 → (negatedExtended b < 2 ^ 80) × (decodeExtended (negatedExtended b) ≡ opposite (decodeExtended b))
+
+-- and its sums and dots have the negated record as the others have
+abbrev pub Extended-mirror : Type 0
+Extended-mirror =
+    ((f : Format) (c : Settings) (l : List ℕ) → extendedSumRefusal f c 0 l ≡ 0 → AllNumbers l
+    → Holds (neitherZeroNorNan (decodeExtended ((extendedSumAnswer f c 0 l) .result)))
+    → extendedSumAnswer f (mirrored c) 0 (map negatedExtended l) ≡ negatedAnswer negatedExtended (extendedSumAnswer f c 0 l))
+    × ((f : Format) (c : Settings) (xs ys : List ℕ) → extendedDotRefusal f c xs ys ≡ 0 → AllNumbers xs → AllNumbers ys
+    → Holds (neitherZeroNorNan (decodeExtended ((extendedDotAnswer f c xs ys) .result)))
+    → extendedDotAnswer f (mirrored c) (map negatedExtended xs) ys ≡ negatedAnswer negatedExtended (extendedDotAnswer f c xs ys))
 
 -- without a NaN the square sum is the dot product of the list with itself, record for record; of refused calls too. This is of kinds 0 to 3: kind 4 is
 -- refused by both
