@@ -1,3 +1,4 @@
 pub mod Laid
 pub mod Sources
+pub mod Tens
 pub mod Walks

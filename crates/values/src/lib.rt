@@ -1,10 +1,12 @@
-// Values in bytes, eight to a value, the least byte first.
+// Values in bytes, eight to a value, or ten, the least byte first.
 ghost use mathlib.Core.Path.{_≡_};
 ghost use Prim.Native.Nat.{_+_, _*_, _/_, _<_, _≤_};
-ghost use lib.ListN.{length, getD};
-ghost use Rattle.totals_spec.specs.Bytes.{valuesIn};
+ghost use lib.ListN.{length, take, drop, getD};
+ghost use Rattle.totals_spec.specs.Bytes.{fromBytes, valuesIn};
+ghost use Rattle.totals_spec.specs.Extended.{tensIn};
 ghost use Rattle.values.specs.Laid.{laid};
 ghost use Rattle.values.specs.Sources.{values};
+ghost use Rattle.values.specs.Tens.{tenOf};
 
 fn wide(x: u8) -> u64
     ensures { λ r. ⌜ (r ≡ x) × (r < 256) ⌝ }
@@ -21,13 +23,39 @@ fn half_at(values: &[u8], at: usize) -> u64
         + 256 * (wide(values[at + 1]) + 256 * (wide(values[at + 2]) + 256 * wide(values[at + 3])))
 }
 
+// Eight bytes from a place on, the least first.
+fn eight_at(values: &[u8], at: usize) -> u64
+    requires { ⌜ at + 8 ≤ length (now values) ⌝ }
+    ensures { λ r. ⌜ r ≡ fromBytes (take 8 (drop at (now (values .entry)))) ⌝ }
+{
+    half_at(values, at) + 4294967296 * half_at(values, at + 4)
+}
+
 // The value i.
 pub fn word_at(values: &[u8], i: usize) -> u64
     requires { ⌜ i < length (now values) / 8 ⌝ }
     ensures { λ r. ⌜ r ≡ getD (valuesIn (now (values .entry))) i 0 ⌝ }
 {
     let at = 8 * i;
-    half_at(values, at) + 4294967296 * half_at(values, at + 4)
+    eight_at(values, at)
+}
+
+// A value of ten bytes (kind 4): its sign and exponent field, and its significand.
+pub struct Ten {
+    pub head: u64,
+    pub significand: u64,
+}
+
+// The value i of ten bytes.
+pub fn ten_at(values: &[u8], i: usize) -> Ten
+    requires { ⌜ i < length (now values) / 10 ⌝ }
+    ensures { λ r. ⌜ (tenOf r ≡ getD (tensIn (now (values .entry))) i 0) × (r .head < 65536) ⌝ }
+{
+    let at = 10 * i;
+    Ten {
+        head: wide(values[at + 8]) + 256 * wide(values[at + 9]),
+        significand: eight_at(values, at),
+    }
 }
 
 // A word laid into eight bytes from a place on.
