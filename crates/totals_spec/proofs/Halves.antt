@@ -100,7 +100,7 @@ tens-halves l i h = tens-values l .1 i h ∙ ten-bytes (10 * i) (omega arith)
 
 -- ---- writing
 
-bits-joined : (s : Bool) (x m : ℕ) → extendedBits s x m ≡ joined (flag 32768 s + x) (flag (2 ^ 63) (not (eqb x 0)) + m)
+pub bits-joined : (s : Bool) (x m : ℕ) → extendedBits s x m ≡ joined (flag 32768 s + x) (flag (2 ^ 63) (not (eqb x 0)) + m)
 bits-joined s x m = go s (flag (2 ^ 63) (not (eqb x 0)) + m)
   where
     go : (t : Bool) (n : ℕ) → flag (2 ^ 79) t + x * 2 ^ 64 + n ≡ (flag 32768 t + x) * 2 ^ 64 + n
