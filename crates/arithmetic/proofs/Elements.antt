@@ -15,9 +15,12 @@ use Rattle.totals_spec.specs.Decode as dec
 use Rattle.totals_spec.specs.Terms as terms
 use Rattle.totals_spec.specs.Totals.{isValue}
 use Rattle.totals_spec.specs.Hundredfold.{hundredOf, hundredItem}
-use Rattle.totals_spec.specs.Bounds.{FormatBounds}
+use Rattle.totals_spec.specs.Bounds.{RangeBounds, FormatBounds}
+use Rattle.totals_spec.specs.Extended.{extended, extendedOperand}
 use Rattle.totals_spec.proofs.Bits.{size-is}
 use Rattle.totals_spec.proofs.Good.{Decoded, decoded-operand}
+use Rattle.totals_spec.proofs.Spread.{extended-bounds}
+use Rattle.totals_spec.proofs.ExtendedTerms.{operand-decoded}
 use types.Run.{OneOf}
 use denote.Enum.Declared.{tagOf}
 use Rattle.format.proofs.unpacked.Unpacked.{the-type}
@@ -32,15 +35,18 @@ use Rattle.arithmetic.specs.Joined.{magnitude, StandsFor, Bounded, itemO
 
 -- ---- an operand: its exponent is below 2^28, its significand above 0
 
-module _ (f : spec.Format) (h : FormatBounds f) where
+module _ (f : spec.Format) (h : RangeBounds f) where
   bounded : (x : dec.Unpacked) → Decoded f x → Bounded x
   bounded (dec.zeroOf s) d = tt
   bounded (dec.finite s k m) d = let p : 2 ^ (f .E) ≤ 2 ^ 28 = pow-mono (h .e-le) in (omega (arith, p), d .0)
   bounded (dec.infinity s) d = tt
   bounded (dec.nan s g m) d = tt
 
-  pub operand-bounded : (c : env.Settings) (b : ℕ) (x : dec.Unpacked) → dec.operand f c b ≡ x → Bounded x
-  operand-bounded c b x e = subst Bounded e (bounded (dec.operand f c b) (decoded-operand f c b))
+pub operand-bounded : (f : spec.Format) → FormatBounds f → (c : env.Settings) (b : ℕ) (x : dec.Unpacked) → dec.operand f c b ≡ x → Bounded x
+operand-bounded f h c b x e = subst Bounded e (bounded f (h .range) (dec.operand f c b) (decoded-operand f c b))
+
+pub extended-bounded : (c : env.Settings) (b : ℕ) (x : dec.Unpacked) → extendedOperand c b ≡ x → Bounded x
+extended-bounded c b x e = subst Bounded e (bounded extended extended-bounds (extendedOperand c b) (operand-decoded b c))
 
 pub field-small : (f : spec.Format) (b : ℕ) → FormatBounds f → dec.fieldOf f b < 268435456
 field-small f b h = lt-of-lt-of-le (mod-lt (b / 2 ^ spec.fractionBits f) (pow-pos (f .E))) (pow-mono (h .e-le))

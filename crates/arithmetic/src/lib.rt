@@ -1,4 +1,6 @@
 // Terms, what an element or a pair adds: a sign, a significand of two words and a shift in units.
+pub mod extended;
+
 use binary::field_of;
 use binary::fraction_of;
 use binary::is_plain;
@@ -112,7 +114,24 @@ fn plain_significand(f: Format, b: u64) -> u64
     power(fraction_bits(f)) + fraction_of(f, b)
 }
 
-// The term of an element that takes a closer look.
+// The term of an operand.
+fn operand_term(u: u64, v: Unpacked) -> Term
+    requires { ⌜ Bounded (unpackedOf v) ⌝ }
+    ensures { λ r. ⌜ StandsFor r (terms.itemOf (env.summandOf u) (unpackedOf v)) ⌝ }
+    ensures { λ r. ⌜ (u < 2 → r .high ≡ 0) ⌝ }
+{
+    let Unpacked::Finite {
+        negative,
+        shift,
+        significand,
+    } = v
+    else {
+        return no_term();
+    };
+    summand_term(u, negative, shift, significand)
+}
+
+// The term of an element that takes a closer look. This and `looked_pair` do not go by the terms of operands, which would take 4 % off a sum.
 pub fn looked_term(f: Format, c: Settings, u: u64, b: u64) -> Term
     requires { ⌜ FormatBounds (formatOf f) ⌝ }
     ensures { λ r. ⌜ StandsFor r (terms.item (formatOf f) (settingsOf c) (env.summandOf u) b) ⌝ }
@@ -175,6 +194,30 @@ pub fn plain_hundred(f: Format, b: u64) -> Term
         0,
         100,
     )
+}
+
+// The term of a pair of operands.
+fn operand_pair(v: Unpacked, w: Unpacked) -> Term
+    requires { ⌜ Bounded (unpackedOf v) × Bounded (unpackedOf w) ⌝ }
+    ensures { λ r. ⌜ StandsFor r (terms.pairOf (unpackedOf v) (unpackedOf w)) ⌝ }
+{
+    let Unpacked::Finite {
+        negative,
+        shift,
+        significand,
+    } = v
+    else {
+        return no_term();
+    };
+    let Unpacked::Finite {
+        negative: minus,
+        shift: j,
+        significand: n,
+    } = w
+    else {
+        return no_term();
+    };
+    product(negative != minus, shift, significand, j, n)
 }
 
 // The term of a pair that takes a closer look.
