@@ -11,6 +11,7 @@ use Rattle.totals_spec.specs.Format as spec
 use Rattle.totals_spec.specs.Settings as env
 use Rattle.totals_spec.specs.Decode as dec
 use Rattle.totals_spec.specs.Nan as nans
+use Rattle.totals_spec.specs.Extended.{signIn, fieldIn, decodeExtended, subnormalExtended, extendedOperand}
 use Rattle.totals_spec.proofs.Order.{or-split}
 use Rattle.binary.specs.Joined.{nanOf}
 use Rattle.format.specs.Fits.{Encodes}
@@ -180,15 +181,25 @@ module _ (f : spec.Format) where
   unfolding dec.decode
   decoded-encodes b = encodes-fields (dec.signBit f b) (dec.fieldOf f b) (dec.fractionOf f b) (spec.kindOf (f .kind))
 
-  -- denormals-are-zero makes no NaN, and changes none
-  pub operand-held : (c : env.Settings) (b : ℕ) → ifNan (dec.operand f c b) ≡ ifNan (dec.decode f b)
-  unfolding dec.operand dec.isSubnormal
-  operand-held c b = go (dec.decode f b) (isSet (c .denormalsAreZero)) (eqb (dec.fieldOf f b) 0)
-    where
-      go : (x : dec.Unpacked) (a z : Bool) → ifNan (cond (a && (dec.isFinite x && z)) (dec.zeroOf (dec.signBit f b)) x) ≡ ifNan x
-      go x false z = refl
-      go (dec.zeroOf t) true z = refl
-      go (dec.finite t k m) true true = refl
-      go (dec.finite t k m) true false = refl
-      go (dec.infinity t) true z = refl
-      go (dec.nan t g m) true z = refl
+-- denormals-are-zero makes no NaN, and changes none
+zeroed-held : (x : dec.Unpacked) (a z s : Bool) → ifNan (cond (a && (dec.isFinite x && z)) (dec.zeroOf s) x) ≡ ifNan x
+zeroed-held x false z s = refl
+zeroed-held (dec.zeroOf t) true z s = refl
+zeroed-held (dec.finite t k m) true true s = refl
+zeroed-held (dec.finite t k m) true false s = refl
+zeroed-held (dec.infinity t) true z s = refl
+zeroed-held (dec.nan t g m) true z s = refl
+
+pub operand-held : (f : spec.Format) (c : env.Settings) (b : ℕ) → ifNan (dec.operand f c b) ≡ ifNan (dec.decode f b)
+unfolding dec.operand dec.isSubnormal
+operand-held f c b = zeroed-held (dec.decode f b) (isSet (c .denormalsAreZero)) (eqb (dec.fieldOf f b) 0) (dec.signBit f b)
+
+pub extended-held : (c : env.Settings) (b : ℕ) → ifNan (extendedOperand c b) ≡ ifNan (decodeExtended b)
+unfolding extendedOperand subnormalExtended
+extended-held c b = zeroed-held (decodeExtended b) (isSet (c .denormalsAreZero)) (eqb (fieldIn b) 0) (signIn b)
+
+pub if-encodes : (f : spec.Format) (v : dec.Unpacked) → Encodes f v → Encodes f (ifNan v)
+if-encodes f (dec.zeroOf s) h = tt
+if-encodes f (dec.finite s k m) h = tt
+if-encodes f (dec.infinity s) h = tt
+if-encodes f (dec.nan s g m) h = h

@@ -1,6 +1,7 @@
 pub mod Choice
 pub mod Step
 pub mod Lists
+pub mod Tens
 pub mod Updates
 pub mod Special
 pub mod Record

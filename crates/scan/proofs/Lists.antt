@@ -22,9 +22,9 @@ use Rattle.arithmetic.specs.Joined.{itemOf, plainField, plainFields, fieldTop, 
 use Rattle.arithmetic.proofs.Elements.{field-none, field-max, fields-max, plain-field}
 use Rattle.arithmetic.proofs.Pairs.{pairs-at, plain-fields}
 use Rattle.scan.specs.declared.Scan.{Scan}
-use Rattle.scan.specs.Joined.{topOfItem, withItem, seen, ifNan, Reads, Takes, TakesPair}
+use Rattle.scan.specs.Joined.{topOfItem, withItem, withTop, seen, ifNan, Reads, Takes, TakesPair}
 use Rattle.scan.proofs.Choice.{if-left, if-right, if-signaling, none-signaling, decoded-encodes, operand-held}
-use Rattle.scan.proofs.Step.{Reading, Plainly, over-taken}
+use Rattle.scan.proofs.Step.{Reading, Plainly, Over, over-taken}
 
 -- ---- what was read
 
@@ -56,6 +56,27 @@ module _ (rule : ℕ) where
     twice-nan =
         k .nan ∙ ap (λ x. ifNan (nans.choose (env.propagationOf rule) x w)) (h .nan)
         ∙ if-left (env.propagationOf rule) (nans.choose (env.propagationOf rule) (nanOf (s .nan)) v) w
+
+-- ---- what `take` and `take_pair` give, of any reading of an element x with the operands that were read
+
+module _ {A : Type 0} (f : spec.Format) (c : env.Settings) (q : Reading f A) (x : A) (s r : Scan) where
+  pub one-taken : (v w : dec.Unpacked) (t : Scan) → q .operands x ≡ w ∷ [] → q .signaling x ≡ dec.isSignaling w → ifNan v ≡ ifNan w
+      → Reads (c .nanPropagation) (q .subnormal x) v s t → r ≡ withItem (itemOf (q .item x)) t
+      → (l : List A) (apart : ℕ) → Over f c q l (withTop apart s) → Over f c q (l ++ (x ∷ [])) (withTop apart r)
+  one-taken v w t o g e h is l apart =
+      let k = reads-as (c .nanPropagation) (q .subnormal x) v w s t e h in
+      let rest : t ≡ seen (q .subnormal x) (q .signaling x) (t .nan) s = rw g (k .rest) in
+      over-taken f c q l x s r (t .nan) (is ∙ ap (withItem (itemOf (q .item x))) rest) (rw o (k .nan)) apart
+
+  pub two-taken : (sub sub₁ : Bool) (v₀ v w₀ w : dec.Unpacked) (t p : Scan) → q .operands x ≡ v ∷ w ∷ []
+      → q .signaling x ≡ (dec.isSignaling v || dec.isSignaling w) → q .subnormal x ≡ (sub || sub₁) → ifNan v₀ ≡ ifNan v → ifNan w₀ ≡ ifNan w
+      → Reads (c .nanPropagation) sub v₀ s t → Reads (c .nanPropagation) sub₁ w₀ t p → r ≡ withItem (itemOf (q .item x)) p
+      → (l : List A) (apart : ℕ) → Over f c q l (withTop apart s) → Over f c q (l ++ (x ∷ [])) (withTop apart r)
+  two-taken sub sub₁ v₀ v w₀ w t p o g d e₀ e h k is l apart =
+      let a = reads-as (c .nanPropagation) sub v₀ v s t e₀ h in
+      let b = reads-as (c .nanPropagation) sub₁ w₀ w t p e k in
+      let rest : p ≡ seen (q .subnormal x) (q .signaling x) (p .nan) s = rw (g, d) (twice-rest _ _ _ _ _ s t p a b) in
+      over-taken f c q l x s r (p .nan) (is ∙ ap (withItem (itemOf (q .item x))) rest) (rw o (twice-nan _ _ _ _ _ s t p a b)) apart
 
 -- a term lies above position 0
 pub placed : (i : terms.Item) → AllGood (keep (terms.termOf i) []) → topOfItem (itemOf i) ≡ 0 → keep (terms.termOf i) [] ≡ []
@@ -92,9 +113,7 @@ module _ (f : spec.Format) (c : env.Settings) (u : env.Summand) where
   -- what `take` gives
   pub list-taken : (b : ℕ) (s t r : Scan) → Reads (c .nanPropagation) (dec.isSubnormal f b) (dec.operand f c b) s t
       → r ≡ withItem (itemOf (terms.item f c u b)) t → Takes f c u b s r
-  list-taken b s t r h e l apart =
-      let k = reads-as (c .nanPropagation) (dec.isSubnormal f b) (dec.operand f c b) (dec.decode f b) s t (operand-held f c b) h in
-      over-taken f c list l b s r (t .nan) (e ∙ ap (withItem (itemOf (terms.item f c u b))) (k .rest)) (k .nan) apart
+  list-taken b s t r h e = one-taken f c list b s r (dec.operand f c b) (dec.decode f b) t refl refl (operand-held f c b) h e
 
   -- what `plain_field` says
   pub list-plainly : (b n : ℕ) → FormatBounds f → n ≡ plainField f b → 0 < n → Plainly f c list b n
@@ -131,11 +150,9 @@ module _ (f : spec.Format) (c : env.Settings) where
   -- what `take_pair` gives
   pub pair-taken : (x y : ℕ) (s t q r : Scan) → Reads (c .nanPropagation) (dec.isSubnormal f x) (dec.operand f c x) s t
       → Reads (c .nanPropagation) (dec.isSubnormal f y) (dec.operand f c y) t q → r ≡ withItem (itemOf (terms.pairItem f c (x, y))) q → TakesPair f c (x, y) s r
-  pair-taken x y s t q r h k e l apart =
-      let a = reads-as (c .nanPropagation) (dec.isSubnormal f x) (dec.operand f c x) (dec.decode f x) s t (operand-held f c x) h in
-      let b = reads-as (c .nanPropagation) (dec.isSubnormal f y) (dec.operand f c y) (dec.decode f y) t q (operand-held f c y) k in
-      over-taken f c dot l (x, y) s r (q .nan)
-      (e ∙ ap (withItem (itemOf (terms.pairItem f c (x, y)))) (twice-rest _ _ _ _ _ s t q a b)) (twice-nan _ _ _ _ _ s t q a b) apart
+  pair-taken x y s t q r h k e =
+      two-taken f c dot (x, y) s r (dec.isSubnormal f x) (dec.isSubnormal f y) (dec.operand f c x) (dec.decode f x) (dec.operand f c y) (dec.decode f y)
+      t q refl refl refl (operand-held f c x) (operand-held f c y) h k e
 
   -- what `plain_fields` says
   pub pair-plainly : (x y n : ℕ) → FormatBounds f → n ≡ plainFields f x y → 0 < n → Plainly f c dot (x, y) n

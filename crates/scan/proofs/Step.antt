@@ -113,7 +113,7 @@ taken-raised i t s = λ j. record {
     e = omega arith
 
 -- nothing is kept apart yet
-raised-none : (s : Scan) → s ≡ withTop 0 s
+pub raised-none : (s : Scan) → s ≡ withTop 0 s
 raised-none s = λ j. record {
   subnormal = s .subnormal;
   signaling = s .signaling;

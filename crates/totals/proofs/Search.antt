@@ -4,35 +4,18 @@ use mathlib.Core.Bool.{Bool, true, false, _||_, cond}
 use mathlib.Core.List.{List, [], _∷_}
 use Prim.Native.Nat.{ℕ, zero, suc, _+_, _-_, _*_, _/_, _^_, _≤_, _<_, zero-le}
 use native.Mathlib.Nat.{not-suc-le-zero, le-of-suc-le-suc, div-eq-of-lt-le, suc-mul, add-mul}
-use native.Mathlib.Numerals.{add-one, add-one-le, sub-one}
+use native.Mathlib.Numerals.{add-one-le, sub-one}
 use native.Mathlib.Omega.{arith}
 use lib.ListN.{length, take, getD}
-use lib.Seq.{take-length}
 use lib.Pow.{pow-add, pow-pos}
 use Rattle.totals_spec.specs.Basics.{any}
 use Rattle.totals_spec.specs.Totals.{firstIndex}
 use borrow.Author.Tests.{le-leb, lt-leb}
-use Rattle.totals_spec.proofs.Walk.{any-take}
 use Rattle.totals_spec.proofs.Order.{or-split}
 use Rattle.totals.specs.Stray.{strayAt, Says, FoundIn, FoundOn}
 use Rattle.totals.specs.declared.stray.Found.{Found}
 use Rattle.totals.specs.declared.stray.Found.the-variants.{At, Nothing}
-
-module _ {A : Type 0} (t : A → Bool) where
-  -- none of the first i + 1
-  pub none-next : (l : List A) (i : ℕ) (d x : A) → i < length l → x ≡ getD l i d → any t (take i l) ≡ false → t x ≡ false
-      → any t (take (i + 1) l) ≡ false
-  none-next l i d x h e p q = ap (λ (n : ℕ). any t (take n l)) (add-one i) ∙ any-take t l i d h ∙ ap₂ _||_ p (ap t (sym e) ∙ q)
-
-  -- none at all
-  pub none-all : (l : List A) (i : ℕ) → i ≡ length l → any t (take i l) ≡ false → any t l ≡ false
-  none-all l i e p = ap (any t) (sym (ap (λ (n : ℕ). take n l) e ∙ take-length l)) ∙ p
-
-  -- the first one
-  pub first-some : (l : List A) (i : ℕ) (d : A) → i < length l → any t (take i l) ≡ false → t (getD l i d) ≡ true → any t l ≡ true
-  first-some [] i d h p q = absurd (not-suc-le-zero h)
-  first-some (x ∷ l) zero d h p q = ap (λ (b : Bool). b || any t l) q
-  first-some (x ∷ l) (suc i) d h p q = rw (or-split (t x) _ p .0) (first-some l i d (le-of-suc-le-suc h) (or-split (t x) _ p .1) q)
+pub use Rattle.totals_spec.proofs.Walk.{none-next, none-all, first-some}
 
 module _ (t : ℕ → Bool) where
   first-index : (l : List ℕ) (i : ℕ) → i < length l → any t (take i l) ≡ false → t (getD l i 0) ≡ true → firstIndex t l ≡ i

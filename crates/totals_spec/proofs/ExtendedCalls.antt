@@ -3,7 +3,7 @@ use mathlib.Core.Path.{_≡_, refl, sym, ap, _∙_}
 use mathlib.Core.Logic.{_≢_, _↔_}
 use mathlib.Core.Bool.{Bool, true, false, _||_, cond}
 use mathlib.Core.List.{List, _++_}
-use Prim.Native.Nat.{ℕ, _+_, _-_, _/_, _%_, _≤_}
+use Prim.Native.Nat.{ℕ, _+_, _-_, _/_, _%_, _≤_, _<_}
 use native.Mathlib.Nat.{suc-ne-zero}
 use native.Mathlib.Omega.{arith}
 use lib.Dec.{T, eqb, eqb→eq, ltb→lt, lt→ltb}
@@ -13,7 +13,7 @@ use borrow.Author.Tests.{eq-eqb, ne-eqb, lt-leb, eqb-false, ltb-false}
 use Rattle.totals_spec.specs.Format.{Format, validFormat}
 use Rattle.totals_spec.specs.Totals.{Answer, refuseIf}
 use Rattle.totals_spec.specs.Totals.{sumAnswer, sumRefusal, dotAnswer, dotRefusal}
-use Rattle.totals_spec.specs.Bytes.{toBytes, Entry}
+use Rattle.totals_spec.specs.Bytes.{wideFrom, toBytes, Entry}
 use Rattle.totals_spec.specs.Pence.{penceAnswer, sumPence}
 use Rattle.totals_spec.specs.Table.{tableAnswer, tableRefusal}
 use Rattle.totals_spec.specs.Conditions.{Condition, UnevenTens, Short32, extendedEntryConditions}
@@ -64,6 +64,10 @@ extended-elsewhere f h =
 pub tens-values : Tens-values
 unfolding tensIn
 tens-values bytes = (wide-length 10 (length bytes / 10) bytes, wide-at 10 (length bytes / 10) bytes)
+
+-- the first n of them
+pub tens-first : (n : ℕ) (bytes : List ℕ) (i : ℕ) → n ≤ length bytes / 10 → i < n → getD (tensIn bytes) i 0 ≡ getD (wideFrom 10 n bytes) i 0
+tens-first n bytes i h k = tens-values bytes .1 i (omega arith) ∙ sym (wide-at 10 n bytes i k)
 
 -- ---- a byte entry by its tests
 

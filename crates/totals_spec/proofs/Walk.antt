@@ -1,13 +1,14 @@
 -- Gatherings of a list's first i elements, one element at a time: what a loop's invariant says of `take i l`.
-use mathlib.Core.Path.{_≡_, refl, sym, ap, _∙_}
+use mathlib.Core.Path.{_≡_, refl, sym, ap, ap₂, _∙_}
 use mathlib.Core.Bool.{Bool, true, false, _||_}
 use mathlib.Core.List.{List, [], _∷_, _++_}
 use mathlib.Core.Option.{Option, none, some}
 use Prim.Native.Nat.{ℕ, suc, _+_, _≤_, _<_, min, max}
 use native.Mathlib.Nat.{add-assoc, zero-add}
+use native.Mathlib.Numerals.{add-one}
 use native.Mathlib.Omega.{arith}
-use lib.ListN.{length, take, getD}
-use lib.Seq.{take-suc}
+use lib.ListN.{length, take, drop, getD, take-append-drop}
+use lib.Seq.{take-suc, take-length}
 use Rattle.totals_spec.specs.Basics.{total, greatest, least, any, keep, picked}
 
 module _ {A : Type 0} where
@@ -42,6 +43,23 @@ module _ {A : Type 0} where
       or-false : (b : Bool) → (b || false) ≡ b
       or-false true = refl
       or-false false = refl
+
+  -- ---- a search: none of the first i
+
+  -- nor of the first i + 1
+  pub none-next : (f : A → Bool) (l : List A) (i : ℕ) (d x : A) → i < length l → x ≡ getD l i d → any f (take i l) ≡ false → f x ≡ false
+      → any f (take (i + 1) l) ≡ false
+  none-next f l i d x h e p q = ap (λ (n : ℕ). any f (take n l)) (add-one i) ∙ any-take f l i d h ∙ ap₂ _||_ p (ap f (sym e) ∙ q)
+
+  -- none at all
+  pub none-all : (f : A → Bool) (l : List A) (i : ℕ) → i ≡ length l → any f (take i l) ≡ false → any f l ≡ false
+  none-all f l i e p = ap (any f) (sym (ap (λ (n : ℕ). take n l) e ∙ take-length l)) ∙ p
+
+  -- the first one
+  pub first-some : (f : A → Bool) (l : List A) (i : ℕ) (d : A) → i < length l → any f (take i l) ≡ false → f (getD l i d) ≡ true → any f l ≡ true
+  first-some f l i d h p q =
+      ap (any f) (sym (take-append-drop (suc i) l)) ∙ any-append f (take (suc i) l) (drop (suc i) l)
+      ∙ ap (λ b. b || any f (drop (suc i) l)) (any-take f l i d h ∙ ap₂ _||_ p q)
 
 keep-append : {B : Type 0} (o : Option B) (s t : List B) → keep o s ++ t ≡ keep o (s ++ t)
 keep-append none s t = refl
