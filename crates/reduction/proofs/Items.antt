@@ -37,10 +37,15 @@ use Rattle.reduction.specs.Answered.{productsIn, firstIn, Accepted, answ
 use Rattle.reduction.proofs.Loop.{Base, sum-base, dot-base, hundred-base}
 use Rattle.reduction.proofs.Gather.{nothing, nothing-is}
 
-mapped : {A B : Type 0} (g : A → B) (l : List A) (i : ℕ) (d : A) (e : B) → i < length l → getD (map g l) i e ≡ g (getD l i d)
+pub mapped : {A B : Type 0} (g : A → B) (l : List A) (i : ℕ) (d : A) (e : B) → i < length l → getD (map g l) i e ≡ g (getD l i d)
 mapped g [] i d e h = absurd (not-suc-le-zero h)
 mapped g (x ∷ l) zero d e h = refl
 mapped g (x ∷ l) (suc i) d e h = mapped g l i d e (le-of-suc-le-suc h)
+
+-- of the pairs of two lists of one length
+pub pairs-mapped : {B : Type 0} (g : ℕ × ℕ → B) (l r : List ℕ) (i : ℕ) (e : B) → length r ≡ length l → i < length l
+    → getD (map g (pairs l r)) i e ≡ g (getD l i 0, getD r i 0)
+pairs-mapped g l r i e n h = mapped g (pairs l r) i (0, 0) e (rw (pairs-length l r (sym n)) h) ∙ ap g (pairs-at l r i n h)
 
 module _ (f : Format) (c : Settings) (u : Summand) (x y : List ℕ) where
   -- what the passes add up, by whether it is of pairs, and by whether it is a hundred times each value
@@ -96,12 +101,9 @@ module _ (f : Format) (c : Settings) (s : Source) (lw lb : List ℕ) where
     pub pair-stands-at : (t : Term) (rw′ rb : List ℕ) {y : ℕ} → y ≡ getD (elements s rw′ rb) i 0 → StandsFor t (pairItem f c (x, y))
         → StandsFor t (getD (map (pairItem f c) (pairs (elements s lw lb) (elements s rw′ rb))) i nanItem)
     pair-stands-at t rw′ rb g =
-        let l = elements s lw lb in
-        let r = elements s rw′ rb in
-        let n = lists-alike s lw lb rw′ rb in
         subst (StandsFor t)
-        (ap (pairItem f c) (ap₂ (λ a b. (a, b)) e g ∙ sym (pairs-at l r i n (inside s lw lb h)))
-        ∙ sym (mapped (pairItem f c) (pairs l r) i (0, 0) nanItem (rw (pairs-length l r (sym n)) (inside s lw lb h))))
+        (ap (pairItem f c) (ap₂ (λ a b. (a, b)) e g)
+        ∙ sym (pairs-mapped (pairItem f c) (elements s lw lb) (elements s rw′ rb) i nanItem (lists-alike s lw lb rw′ rb) (inside s lw lb h)))
 
 -- ---- a walk that is accepted
 
