@@ -1,14 +1,17 @@
 -- What opening a page tells, what a summary is in the code, and what writing a part of a page leaves.
 use mathlib.Core.Path.{_≡_}
-use mathlib.Core.Bool.{Bool, true, false}
+use mathlib.Core.Bool.{Bool, true, false, _||_}
 use mathlib.Core.List.{List, _++_}
-use Prim.Native.Nat.{ℕ, _+_, _*_, _≤_, _<_}
+use Prim.Native.Nat.{ℕ, _+_, _*_, _≤_, _<_, max}
 use lib.ListN.{length, take, drop}
+use Rattle.totals_spec.specs.Basics.{any}
 use Rattle.totals_spec.specs.Bytes.{toBytes}
 use Rattle.totals_spec.specs.Pages as spec
+use Rattle.totals_spec.specs.Terms.{Item, isNanItem, isInfinite, isZero, terms, topOf}
 use Rattle.totals_spec.proofs.PageParts.{Stands}
 use Rattle.page.specs.declared.Opened.{Opened}
 use Rattle.page.specs.declared.Opened.the-variants.{Count, Nothing}
+use Rattle.page.specs.declared.Seen.{Seen}
 use Rattle.page.specs.declared.Summary.{Summary}
 
 -- r says whether P holds
@@ -17,6 +20,27 @@ Tells r P = (r ≡ true → P) × (P → r ≡ true)
 
 abbrev pub AllStand : (n : ℕ) → List ℕ → (k : ℕ) → Type 0
 AllStand n page k = (g : ℕ) → g < k → Stands n page g
+
+-- where the highest bit of some items lies, and what is among them
+abbrev pub seenAmong : List Item → Seen
+seenAmong l = record {
+  top = topOf (terms l);
+  nan = any isNanItem l;
+  infinite = any (isInfinite false) l || any (isInfinite true) l;
+  zero = any (isZero false) l || any (isZero true) l;
+}
+
+abbrev pub seenOf : List ℕ → Seen
+seenOf l = seenAmong (spec.pageItems l)
+
+-- what is seen in two lists together
+abbrev pub both : Seen → Seen → Seen
+both s t = record {
+  top = max (s .top) (t .top);
+  nan = s .nan || t .nan;
+  infinite = s .infinite || t .infinite;
+  zero = s .zero || t .zero;
+}
 
 pub record Summarized (values : List ℕ) (s : Summary) : Type 0 where
   pub bytes : toBytes 8 (s .extent) ++ toBytes 4 (s .class) ≡ spec.summary values

@@ -1,15 +1,15 @@
 // Career pages, as bytes: values, a summary of each group of 64 of them, a trailer. A page opens where it is the page of its own values.
+use arithmetic::Item;
+use arithmetic::item_of;
 use arithmetic::looked_term;
+use binary::operand;
 use format::Format;
 use format::Named;
 use format::env::Settings;
 use format::env::flag;
-use limbs::word::either;
+use limbs::word::larger;
 use limbs::word::smaller;
-use scan::walk::scan;
 use values::LIMIT;
-use values::Source;
-use values::Walk;
 use values::put_word;
 use values::word_at;
 ghost use mathlib.Core.Path.{_≡_};
@@ -27,7 +27,7 @@ ghost use Rattle.totals_spec.specs.Settings as env;
 ghost use Rattle.totals_spec.specs.Pages as spec;
 ghost use Rattle.totals_spec.proofs.PageParts.{Stands};
 ghost use Rattle.format.specs.Joined.{formatOf, settingsOf};
-ghost use Rattle.page.specs.Paged.{Tells, AllStand, Summarized, Counts, ShortSizes, LongSizes, Trails, Opens, Fills, laidOver};
+ghost use Rattle.page.specs.Paged.{seenOf, both, Tells, AllStand, Summarized, Counts, ShortSizes, LongSizes, Trails, Opens, Fills, laidOver};
 
 const GROUP: usize = 64;
 
@@ -107,6 +107,62 @@ fn position(at: u64) -> u64
     (HALF + at - 2098) % HALF
 }
 
+// Some values: where the highest bit lies, 0 where no value has one, and what is among them.
+struct Seen {
+    top: u64,
+    nan: bool,
+    infinite: bool,
+    zero: bool,
+}
+
+// One value more.
+fn noted(s: Seen, x: u64) -> Seen
+    ensures { λ r. ⌜ r ≡ both s (seenOf (x ∷ [])) ⌝ }
+{
+    let o = operand(binary64(), no_settings(), x);
+    let v = o.value;
+    let mut r = s;
+    match item_of(0, v) {
+        Item::Nan => {
+            r.nan = true;
+            r
+        }
+        Item::Invalid => r,
+        Item::Infinite(_) => {
+            r.infinite = true;
+            r
+        }
+        Item::Zero(_) => {
+            r.zero = true;
+            r
+        }
+        Item::Top(at) => {
+            r.top = larger(r.top, at);
+            r
+        }
+    }
+}
+
+// A loop of its own: with a second caller the scan of the totals would be a call in their walk, which every sum would pay for.
+fn seen_in(values: &[u8]) -> Seen
+    ensures { λ r. ⌜ r ≡ seenOf (valuesIn (now (values .entry))) ⌝ }
+{
+    let n = values.len() / 8;
+    let mut s = Seen {
+        top: 0,
+        nan: false,
+        infinite: false,
+        zero: false,
+    };
+    let mut i: usize = 0;
+    while i < n {
+        let next = noted(s, word_at(values, i));
+        s = next;
+        i += 1;
+    }
+    s
+}
+
 // A summary: the word of the highest and the lowest set bit, and the class.
 struct Summary {
     extent: u64,
@@ -116,23 +172,8 @@ struct Summary {
 fn summary_of(values: &[u8]) -> Summary
     ensures { λ r. ⌜ Summarized (valuesIn (now (values .entry))) r ⌝ }
 {
-    let f = binary64();
-    let c = no_settings();
-    let none = [0u64; 1];
-    let k = Walk {
-        summand: 0,
-        source: Source {
-            layout: 1,
-            start: 0,
-            step: 1,
-            count: values.len() / 8,
-        },
-    };
-    let s = scan(f, c, k, &none, values, &none, values);
-    let n = s.nan;
-    let class = flag(1, n.some)
-        + flag(2, either(s.positive_infinity, s.negative_infinity))
-        + flag(4, either(s.positive_zero, s.negative_zero));
+    let s = seen_in(values);
+    let class = flag(1, s.nan) + flag(2, s.infinite) + flag(4, s.zero);
     if s.top == 0 {
         return Summary { extent: 0, class };
     }

@@ -110,13 +110,13 @@ plain-pairs f c =
     plain-both (decode f) (pairItem f c)
     (λ x h k. unfold pairItem in plain-pair (operand f c (x .0)) (operand f c (x .1)) (number-operand f c (x .0) h) (number-operand f c (x .1) k))
 
--- a test of the elements of either list is one of the pairs
-or-mix : (a b x y : Bool) → ((a || b) || (x || y)) ≡ ((a || x) || (b || y))
+pub or-mix : (a b x y : Bool) → ((a || b) || (x || y)) ≡ ((a || x) || (b || y))
 or-mix true b x y = refl
 or-mix false true true y = refl
 or-mix false true false y = refl
 or-mix false false x y = refl
 
+-- a test of the elements of either list is one of the pairs
 pub pairs-any : (t : ℕ → Bool) (xs ys : List ℕ) → length xs ≡ length ys → any (λ x. t (x .0) || t (x .1)) (pairs xs ys) ≡ (any t xs || any t ys)
 pairs-any t [] [] e = refl
 pairs-any t [] (y ∷ ys) e = absurd (suc-ne-zero (length ys) (sym e))
