@@ -1,6 +1,6 @@
 // The byte entries, for callers in other languages.
 use crate::dot_bytes;
-use crate::pages::page_sum;
+use crate::pages::span_refusal;
 use crate::pence::pence_of_sum;
 use crate::range::range_total;
 use crate::sum_bytes;
@@ -83,7 +83,7 @@ fn settings(
     }
 }
 
-// What both entries of a total do: the lengths first, then the total. They hand numbers over and no records, which would be stored and read again on the
+// What the entries of a total do: the lengths first, then the total. They hand numbers over and no records, which would be stored and read again on the
 // way: of a call with one element that is a quarter.
 fn enter_sum(
     kind: u64,
@@ -437,7 +437,7 @@ pub extern "C" fn totals_range(
     0
 }
 
-// The total of a span of a career page.
+// The total of a span of a career page, by `enter_sum` and not by `page_sum`: a second caller of `sum_bytes` in the archive would keep it from being inlined.
 #[no_mangle]
 pub extern "C" fn totals_page_sum(
     page: &[u8],
@@ -459,7 +459,18 @@ pub extern "C" fn totals_page_sum(
     if answer.len() < 24 {
         return 2;
     }
-    let c = settings(
+    let number = span_refusal(page, start, end);
+    if number != 0 {
+        return number;
+    }
+    let from = 8 * start;
+    let to = 8 * end;
+    enter_sum(
+        0,
+        11,
+        64,
+        false,
+        0,
         rounding,
         tininess,
         nan_propagation,
@@ -468,8 +479,10 @@ pub extern "C" fn totals_page_sum(
         denormals_are_zero,
         saturate,
         precision,
-    );
-    enter(page_sum(c, summand, page, start, end), answer)
+        summand,
+        &page[from..to],
+        answer,
+    )
 }
 
 // The career page of some values.
