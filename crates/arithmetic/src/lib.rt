@@ -210,14 +210,14 @@ fn operand_pair(v: Unpacked, w: Unpacked) -> Term
         return no_term();
     };
     let Unpacked::Finite {
-        negative: minus,
+        negative: other,
         shift: j,
         significand: n,
     } = w
     else {
         return no_term();
     };
-    product(negative != minus, shift, significand, j, n)
+    product(negative != other, shift, significand, j, n)
 }
 
 // The term of a pair that takes a closer look.
