@@ -31,10 +31,10 @@ module _ (f : Format) (b : RangeBounds f) (s : Bool) (x m : ℕ) (hx : x < 2 ^ (
   one-sign true = sym (one-mul (2 ^ (f .W - 1)))
   one-sign false = sym (zero-mul (2 ^ (f .W - 1)))
 
-  body : x * 2 ^ fractionBits f + m < 2 ^ (f .W - 1)
+  pub body : x * 2 ^ fractionBits f + m < 2 ^ (f .W - 1)
   body = rw top (digits-lt hx hm)
 
-  by-sign : assembled f s x m ≡ flag 1 s * 2 ^ (f .W - 1) + (x * 2 ^ fractionBits f + m)
+  pub by-sign : assembled f s x m ≡ flag 1 s * 2 ^ (f .W - 1) + (x * 2 ^ fractionBits f + m)
   by-sign = omega (arith, one-sign s)
 
   by-field : assembled f s x m ≡ (flag 1 s * 2 ^ (f .E) + x) * 2 ^ fractionBits f + m

@@ -28,7 +28,7 @@ use Rattle.totals_spec.specs.Side.{sideOf, roundedSide}
 use Rattle.totals_spec.proofs.Lean.{sum-leans}
 
 -- one rounding has one side, whether it is held to the exact sum or to what the chain ends with
-same-side : (f : Format) (c : Settings) (g : ℕ) (towards : Bool) (x y : Signed) → RangeBounds f → 1 ≤ precisionOf f c → precisionOf f c ≤ digits f
+pub same-side : (f : Format) (c : Settings) (g : ℕ) (towards : Bool) (x y : Signed) → RangeBounds f → 1 ≤ precisionOf f c → precisionOf f c ≤ digits f
     → sumRounded f c g towards x ≡ sumRounded f c g towards y
     → sideOf g (decode f (encode f (sumRounded f c g towards x .value))) x ≡ sideOf g (decode f (encode f (sumRounded f c g towards y .value))) y
 same-side f c g towards x y b q0 qp e =

@@ -89,7 +89,7 @@ not-both a b {A} {B} h k = (part-fails a b (λ t. inl (h .0 t)) (λ t. inr (k .0
 
 -- ---- 1 and 2
 
-uneven-found : (bytes : List ℕ) → T (uneven bytes) ↔ Uneven bytes
+pub uneven-found : (bytes : List ℕ) → T (uneven bytes) ↔ Uneven bytes
 uneven-found bytes = different (length bytes % 8) 0
 
 pub short-found : (old : List ℕ) → T (short old) ↔ Short old
@@ -105,7 +105,7 @@ far-back : (n : Option ℤ) → FarBias n → Offered n → ⊥
 far-back none h k = h
 far-back (some b) h k = omega (arith, h, k)
 
-format-fails : (f : Format) → T (not (validFormat f)) ↔ BadFormat f
+pub format-fails : (f : Format) → T (not (validFormat f)) ↔ BadFormat f
 unfolding validFormat
 format-fails f = (forth, λ p. not-T (validFormat f) (λ t. back p (format-bounds f t)))
   where
@@ -221,7 +221,7 @@ module _ {A : Type 0} (t : A → Bool) (P : A → Type 0) (each : (x : A) → T 
 pub stray-bit : (f : Format) (b : ℕ) → T (stray f b) ↔ StrayBit f b
 stray-bit f b = (leb→le (2 ^ (f .W)) b, le→leb (2 ^ (f .W)) b)
 
-stray-found : (f : Format) (l : List ℕ) → T (any (stray f) l) ↔ Stray f l
+pub stray-found : (f : Format) (l : List ℕ) → T (any (stray f) l) ↔ Stray f l
 stray-found f = some-found (stray f) (StrayBit f) (stray-bit f) 0
 
 -- ---- sums and dots
@@ -234,7 +234,7 @@ sum-tests f c u l =
     (test (ltb limit (length l)) (many-found l)
     (test (any (stray f) l) (stray-found f l) last)))
 
-dot-tests : (f : Format) (c : Settings) (xs ys : List ℕ) → Tests (dotConditions f c xs ys) (dotRefusal f c xs ys)
+pub dot-tests : (f : Format) (c : Settings) (xs ys : List ℕ) → Tests (dotConditions f c xs ys) (dotRefusal f c xs ys)
 unfolding dotRefusal
 dot-tests f c xs ys =
     test (not (validFormat f)) (format-fails f)
@@ -352,7 +352,7 @@ both : (a b : Bool) {A B : Type 0} → T a ↔ A → T b ↔ B → T (a && b) �
 both true b h k = ((λ t. (h .0 tt, k .0 t)), λ p. k .1 (p .1))
 both false b h k = (absurd, λ p. absurd (h .1 (p .0)))
 
-misnamed-found : (named : ℕ) (b : ℤ) → T (misnamed named b) ↔ Misnamed named b
+pub misnamed-found : (named : ℕ) (b : ℤ) → T (misnamed named b) ↔ Misnamed named b
 misnamed-found named b =
     either (ltb 1 named) (eqb named 0 && not (eqb (natAbs b) 0)) (ltb→lt 1 named, lt→ltb 1 named)
     (both (eqb named 0) (not (eqb (natAbs b) 0)) (eqb→eq named 0, λ e. T-of (eq-eqb named 0 e)) (different (natAbs b) 0))

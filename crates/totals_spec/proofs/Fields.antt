@@ -35,7 +35,7 @@ leans-less r x = go (ltb (plusOf r + minusOf x) (plusOf x + minusOf r)) (eqb (pl
     go false true = omega arith
     go false false = omega arith
 
-side-less : (g : ℕ) (v : Unpacked) (x : Signed) → sideOf g v x < 4
+pub side-less : (g : ℕ) (v : Unpacked) (x : Signed) → sideOf g v x < 4
 unfolding sideOf
 side-less g (zeroOf s) x = leans-less _ x
 side-less g (finite s k m) x = leans-less _ x
@@ -75,7 +75,7 @@ few-finished f c q g s tiny d up y = go (tiny && isSet (c .flushToZero)) (overfl
     go false true = few-overflow f c q s
     go false false = omega (arith, flag-less 32 tiny, flag-less 16 (inexact d), flag-less 8 (tiny && inexact d), flag-less 64 up)
 
-few-sum : (f : Format) (c : Settings) (g : ℕ) (towards : Bool) (x : Signed) → Few (sumRounded f c g towards x)
+pub few-sum : (f : Format) (c : Settings) (g : ℕ) (towards : Bool) (x : Signed) → Few (sumRounded f c g towards x)
 unfolding sumRounded round roundTo
 few-sum f c g towards x = go (eqb (x .mag) 0)
   where

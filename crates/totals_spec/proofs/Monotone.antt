@@ -3,7 +3,7 @@ use mathlib.Core.Path.{_≡_, refl, sym, ap, ap₂, _∙_, subst}
 use mathlib.Core.Bool.{Bool, true, false, not, _&&_, cond}
 use Prim.Native.Nat.{ℕ, zero, suc, _+_, _*_, _/_, _%_, _^_, _≤_, _<_, zero-le}
 use native.Mathlib.Nat.{le-refl, le-of-lt, le-antisymm, lt-of-lt-of-le, le-trans, mul-le-mul-left, mul-le-mul-right, mul-lt-mul-of-pos-right, mul-one}
-use native.Mathlib.Nat.{mul-assoc, div-add-mod', mod-lt, pow-succ', add-zero, zero-add}
+use native.Mathlib.Nat.{mul-assoc, div-add-mod', mod-lt, pow-succ', add-zero, zero-add, zero-div, zero-mod}
 use native.Mathlib.Omega.{arith}
 use lib.Dec.{T, eqb, leb, ltb}
 use lib.Pow.{pow-pos, pow-mono, shr-mono, field, mod-mod-pow}
@@ -37,7 +37,7 @@ number-minus t s (suc x) m = refl
 
 module _ (t : ℕ) where
   -- a field of x stays below 2^(t + x), and the next one begins there
-  below : (x m : ℕ) → m < 2 ^ t → magnitudeAt t x m < 2 ^ t * 2 ^ x
+  pub below : (x m : ℕ) → m < 2 ^ t → magnitudeAt t x m < 2 ^ t * 2 ^ x
   below zero m h = rw (mul-one (2 ^ t)) h
   below (suc k) m h = subst (λ (n : ℕ). (2 ^ t + m) * 2 ^ k < n) twice (mul-lt-mul-of-pos-right more (pow-pos k))
     where
@@ -147,16 +147,19 @@ orderedBits true true u v = leb v u
 orderedBits true false u v = true
 orderedBits false true u v = eqb u 0 && eqb v 0
 
-bits-ordered : (s t : Bool) (u v : ℕ) → (let x = magnitudeOf 52 u in let y = magnitudeOf 52 v in
+pub bits-ordered : (n : ℕ) (s t : Bool) (u v : ℕ) → (let x = magnitudeOf n u in let y = magnitudeOf n v in
     leb (cond s 0 x + cond t y 0) (cond t 0 y + cond s x 0) ≡ orderedBits s t u v)
-bits-ordered false false u v = ap₂ leb (add-zero (magnitudeOf 52 u)) (add-zero (magnitudeOf 52 v)) ∙ in-order 52 u v
-bits-ordered true true u v = ap₂ leb (zero-add (magnitudeOf 52 v)) (zero-add (magnitudeOf 52 u)) ∙ in-order 52 v u
-bits-ordered true false u v = le-leb 0 (magnitudeOf 52 v + magnitudeOf 52 u) zero-le
-bits-ordered false true u v = both (magnitudeOf 52 u) (magnitudeOf 52 v) ∙ ap₂ _&&_ (none u) (none v)
+bits-ordered n false false u v = ap₂ leb (add-zero (magnitudeOf n u)) (add-zero (magnitudeOf n v)) ∙ in-order n u v
+bits-ordered n true true u v = ap₂ leb (zero-add (magnitudeOf n v)) (zero-add (magnitudeOf n u)) ∙ in-order n v u
+bits-ordered n true false u v = le-leb 0 (magnitudeOf n v + magnitudeOf n u) zero-le
+bits-ordered n false true u v = both (magnitudeOf n u) (magnitudeOf n v) ∙ ap₂ _&&_ (none u) (none v)
   where
-    none : (w : ℕ) → leb (magnitudeOf 52 w) 0 ≡ eqb w 0
-    none w = in-order 52 w 0 ∙ go (ltb 0 w) refl
+    none : (w : ℕ) → leb (magnitudeOf n w) 0 ≡ eqb w 0
+    none w = ap (leb (magnitudeOf n w)) (sym nought) ∙ in-order n w 0 ∙ go (ltb 0 w) refl
       where
+        nought : magnitudeOf n 0 ≡ 0
+        nought = ap₂ (magnitudeAt n) (zero-div (2 ^ n)) (zero-mod (2 ^ n))
+
         go : (b : Bool) → ltb 0 w ≡ b → leb w 0 ≡ eqb w 0
         go true e = let h = ltb-true 0 w e in lt-leb w 0 h ∙ sym (ne-eqb w 0 (λ i. omega (arith, h, i)))
         go false e = let h = ltb-false 0 w e in le-leb w 0 h ∙ sym (eq-eqb w 0 (omega (arith, h)))
@@ -178,7 +181,7 @@ pub figures-ordered : (a b : ℕ) → T (goodFigure a) → T (goodFigure b)
 unfolding figureWorth
 figures-ordered a b h k =
     ap₂ leb (ap₂ _+_ (plus a h) (minus b k)) (ap₂ _+_ (plus b k) (minus a h))
-    ∙ bits-ordered (signBit binary64 a) (signBit binary64 b) (a % 2 ^ 63) (b % 2 ^ 63)
+    ∙ bits-ordered 52 (signBit binary64 a) (signBit binary64 b) (a % 2 ^ 63) (b % 2 ^ 63)
   where
     is-number : (n : ℕ) → T (goodFigure n) → T (isNumber (decode binary64 n))
     is-number n h = and-right (not (stray binary64 n)) (isNumber (decode binary64 n)) h

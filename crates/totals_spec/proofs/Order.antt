@@ -24,11 +24,11 @@ use Rattle.totals_spec.proofs.Valid.{and-left, and-right}
 -- ---- the chain and the finite totals are the same for a rearrangement of the terms
 
 module _ {ts us : List Term} (d : List·Permᴰ ts us) where
-  look-perm : (w : ℕ) → lookAt ts w ≡ lookAt us w
+  pub look-perm : (w : ℕ) → lookAt ts w ≡ lookAt us w
   unfolding lookAt
   look-perm w = λ i. record { plus = total-perm (cutPlus w) d i; minus = total-perm (cutMinus w) d i; lost = greatest-perm (lostOf w) d i }
 
-  top-perm : topOf ts ≡ topOf us
+  pub top-perm : topOf ts ≡ topOf us
   unfolding topOf
   top-perm = greatest-perm topOfTerm d
 
@@ -40,7 +40,7 @@ module _ {ts us : List Term} (d : List·Permᴰ ts us) where
   unfolding minusSum
   minus-perm = total-perm minusPart d
 
-  chain-perm : (p : ℕ) → chain p ts ≡ chain p us
+  pub chain-perm : (p : ℕ) → chain p ts ≡ chain p us
   unfolding chain
   chain-perm p = cc (fun-ext look-perm, top-perm)
 

@@ -1,32 +1,35 @@
 -- Document 02, A.7: a format that names its kind's own bias answers as the format that names none. It is valid where that one is, and its bias is the
 -- same; all else is read from the kind and the widths alone, and so is the same layer by layer.
-use mathlib.Core.Path.{_≡_, refl, ap, fun-ext}
+use mathlib.Core.Path.{_≡_, refl, ap, ap₂, _∙_, fun-ext}
 use mathlib.Core.Bool.{Bool, true, false, _&&_}
-use mathlib.Core.List.{List, [], _∷_}
+use mathlib.Core.List.{List, [], _∷_, _++_, map}
 use Prim.Native.Nat.{ℕ, _+_, _-_, _^_, _≤_}
 use native.Mathlib.Omega.{arith}
-use lib.Dec.{T, leb, leb→le}
+use lib.Dec.{T, leb, eqb, leb→le}
 use lib.Pow.{pow-mono}
 use borrow.Author.Tests.{le-leb}
 use Rattle.totals_spec.specs.Basics.{Signed, any}
 use Rattle.totals_spec.specs.Format.{Format, Kind, ieee, noInf, fnuz, finiteOnly, kindOf, offered, validFormat, biasOf, bias, lift, exponentRange}
-use Rattle.totals_spec.specs.Format.{depth, origin, fall, grid, rise}
+use Rattle.totals_spec.specs.Format.{digits, depth, origin, fall, grid, rise}
 use Rattle.totals_spec.specs.Settings.{Settings, noSettings, validSettings, precisionOf, Summand, value, summandOf}
 use Rattle.totals_spec.specs.Decode.{Unpacked, zeroOf, finite, infinity, nan, decodeFields, decode, isSubnormal, operand}
-use Rattle.totals_spec.specs.Terms.{Item, item, pairItem}
-use Rattle.totals_spec.specs.Chain.{Run}
+use Rattle.totals_spec.specs.Terms.{Item, Term, item, pairItem, terms}
+use Rattle.totals_spec.specs.Chain.{Boundary, noBoundary, boundary, Run}
 use Rattle.totals_spec.specs.Round.{Rounded, overflows, largest, overflow, numberOf, finished, tinySum, roundTo, round}
 use Rattle.totals_spec.specs.Encode.{zeroBits, nanBits, encode}
 use Rattle.totals_spec.specs.Totals.{Answer, special, reported, sumRounded, finiteTotal, withoutNan, accepted, sumRefusal, sumAccepted, sumAnswer}
-use Rattle.totals_spec.specs.Totals.{pairs, operands, dotRefusal, dotPlace, dotAccepted, dotAnswer}
+use Rattle.totals_spec.specs.Totals.{isSquare, pairs, operands, dotRefusal, dotPlace, dotAccepted, dotAnswer}
 use Rattle.totals_spec.specs.Bytes.{valuesIn, sumEntry, dotEntry}
 use Rattle.totals_spec.specs.Pence.{penceAnswer, notNumber, sumFigure, sumPence}
 use Rattle.totals_spec.specs.Table.{tableRefusal, tableAnswer}
+use Rattle.totals_spec.specs.Several.{readingWith, roundedInto, printed, printedItems, targetRefusal, targetAnswer}
+use Rattle.totals_spec.specs.Contribution.{rankOf, numberAt, firstRank, lastRank, rankWith, reaches, leastRank, found, contributionRefusal, contribution}
+use Rattle.totals_spec.specs.Estimate.{passOf, positionOf, unitOf, unfinishedAt, within, allowed, sumWithin, dotWithin}
 use Rattle.totals_spec.specs.Promises.{namingOwn, namingNone, Named-own}
 
 -- ---- the definitions that read the name: the kind's own bias may be named, and is the bias
 
-own-le : (k : Kind) (e : ℕ) → e ≤ 28 → biasOf k e ≤ 268435456
+pub own-le : (k : Kind) (e : ℕ) → e ≤ 28 → biasOf k e ≤ 268435456
 own-le k e h = go k
   where
     half : 2 ^ (e - 1) ≤ 2 ^ 28
@@ -173,6 +176,58 @@ module _ (f : Format) where
   unfolding tableAnswer tableRefusal validSettings
   table-own c rows columns cells old other = cc (valid-own, sum-own c 0 cells, fun-ext (λ (l : List ℕ). ap (λ (a : Answer). a .result) (sum-own c 0 l)))
 
+  -- ---- targets, by the list's format and by the target's
+
+  target-own : (d : ℕ) (l : List ℕ) (t : Format) (c : Settings) → targetAnswer (namingOwn f) d l t c ≡ targetAnswer (namingNone f) d l t c
+  unfolding targetAnswer targetRefusal printedItems printed roundedInto origin fall depth
+  target-own d l t c = cc (valid-own, bias-own, lift-own, numbers-own l, fun-ext subnormal-own, fun-ext (item-own (readingWith d) value))
+
+  into-own : (h : Format) (d : ℕ) (l : List ℕ) (c : Settings) → targetAnswer h d l (namingOwn f) c ≡ targetAnswer h d l (namingNone f) c
+  unfolding targetAnswer targetRefusal validSettings printedItems printed roundedInto depth
+  into-own h d l c = simp (special-own, rounded-own, encode-own, decode-own) (cc (valid-own, bias-own, lift-own))
+
+  -- ---- contributions
+
+  reaches-own : (c : Settings) (l : List ℕ) (wanted r : ℕ) → reaches (namingOwn f) c l wanted r ≡ reaches (namingNone f) c l wanted r
+  unfolding reaches rankWith rankOf numberAt
+  reaches-own c l wanted r =
+      ap (λ (a : Answer). eqb (rankOf (namingNone f) (a .result)) (rankOf (namingNone f) wanted)) (sum-own c 0 (l ++ (numberAt (namingNone f) r ∷ [])))
+
+  contribution-own : (c : Settings) (l : List ℕ) (wanted : ℕ) → contribution (namingOwn f) c l wanted ≡ contribution (namingNone f) c l wanted
+  unfolding contribution contributionRefusal validSettings found leastRank numberAt firstRank lastRank
+  contribution-own c l wanted = cc (valid-own, numbers-own (l ++ (wanted ∷ [])), fun-ext (reaches-own c l wanted))
+
+  -- ---- within an allowance
+
+  position-own : (products : Bool) (w : ℕ) → positionOf (namingOwn f) products w ≡ positionOf (namingNone f) products w
+  unfolding origin fall depth
+  position-own products w = cc (bias-own, lift-own)
+
+  unit-own : (products : Bool) (b : Boundary) → unitOf (namingOwn f) products b ≡ unitOf (namingNone f) products b
+  unit-own products noBoundary = refl
+  unit-own products (boundary s m e) = position-own products e
+
+  within-own : (products : Bool) (ts : List Term) (k : ℕ) (a : Answer) → within (namingOwn f) products ts k a ≡ within (namingNone f) products ts k a
+  unfolding within unfinishedAt
+  within-own products ts k a =
+      let s = passOf (digits f) ts k in
+      rw (position-own products (s .edge), unit-own products (s .bound))
+
+  sum-within-own : (c : Settings) (u : ℕ) (l : List ℕ) (k : ℕ) → sumWithin (namingOwn f) c u l k ≡ sumWithin (namingNone f) c u l k
+  unfolding sumWithin
+  sum-within-own c u l k =
+      let s = summandOf u in
+      ap (allowed k)
+      (within-own (isSquare s) _ k _
+      ∙ ap₂ (λ (i : ℕ → Item) (a : Answer). within (namingNone f) (isSquare s) (terms (map i l)) k a) (fun-ext (item-own c s)) (sum-own c u l))
+
+  dot-within-own : (c : Settings) (xs ys : List ℕ) (k : ℕ) → dotWithin (namingOwn f) c xs ys k ≡ dotWithin (namingNone f) c xs ys k
+  unfolding dotWithin
+  dot-within-own c xs ys k =
+      ap (allowed k)
+      (within-own true _ k _
+      ∙ ap₂ (λ (i : ℕ × ℕ → Item) (a : Answer). within (namingNone f) true (terms (map i (pairs xs ys))) k a) (fun-ext (pair-own c)) (dot-own c xs ys))
+
 pub named-own : Named-own
 named-own f = record {
   sum = sum-own f;
@@ -182,4 +237,9 @@ named-own f = record {
   pence = pence-own f;
   sum-pence = sum-pence-own f;
   table = table-own f;
+  target = target-own f;
+  into-target = into-own f;
+  contributes = contribution-own f;
+  sum-within = sum-within-own f;
+  dot-within = dot-within-own f;
 }

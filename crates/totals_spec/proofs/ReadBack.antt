@@ -38,7 +38,7 @@ zero-bytes (suc n) (suc i) = zero-bytes n i
 -- ---- the buffer that an accepted call leaves
 
 module _ (r : Answer) (old : List ℕ) where
-  written-back : r .result < 2 ^ 64 → r .flags < 256 → r .side < 4 → r .passes < 2 ^ 64 → 24 ≤ length old → ReadsBack r old (written r old)
+  pub written-back : r .result < 2 ^ 64 → r .flags < 256 → r .side < 4 → r .passes < 2 ^ 64 → 24 ≤ length old → ReadsBack r old (written r old)
   unfolding written
   written-back fits flags side passes long = record {
     result = bytes-back 8 (r .result) fits;

@@ -157,7 +157,7 @@ pub small-number : (b : Bool) (n rest : ℕ) → n < 256 → rest < 256 → refu
 small-number true n rest h k = h
 small-number false n rest h k = k
 
-sum-number : (f : Format) (c : Settings) (u : ℕ) (l : List ℕ) → sumRefusal f c u l < 256
+pub sum-number : (f : Format) (c : Settings) (u : ℕ) (l : List ℕ) → sumRefusal f c u l < 256
 unfolding sumRefusal
 sum-number f c u l =
     small-number (not (validFormat f)) 3 _ (omega arith)
@@ -165,7 +165,7 @@ sum-number f c u l =
     (small-number (ltb limit (length l)) 6 _ (omega arith)
     (small-number (any (stray f) l) 7 _ (omega arith) (omega arith))))
 
-dot-number : (f : Format) (c : Settings) (xs ys : List ℕ) → dotRefusal f c xs ys < 256
+pub dot-number : (f : Format) (c : Settings) (xs ys : List ℕ) → dotRefusal f c xs ys < 256
 unfolding dotRefusal
 dot-number f c xs ys =
     small-number (not (validFormat f)) 3 _ (omega arith)

@@ -1,11 +1,11 @@
 -- Signed numbers as differences of two whole numbers.
-use mathlib.Core.Path.{_≡_, refl, subst}
+use mathlib.Core.Path.{_≡_, refl, sym, ap, _∙_, subst}
 use mathlib.Core.Bool.{Bool, true, false}
 use Prim.Native.Nat.{ℕ, _+_, _-_, _*_, _^_, _≤_, _<_}
-use native.Mathlib.Nat.{add-mul, mul-pos, mul-one}
+use native.Mathlib.Nat.{add-mul, mul-assoc, mul-pos, mul-one}
 use native.Mathlib.Omega.{arith}
 use lib.Dec.{ltb}
-use lib.Pow.{pow-pos}
+use lib.Pow.{pow-add, pow-pos}
 use borrow.Author.Tests.{ltb-true, ltb-false}
 use Rattle.totals_spec.specs.Basics.{Signed, plusOf, minusOf, difference, raised}
 use Rattle.totals_spec.proofs.Alike.{diff-plus, diff-minus}
@@ -54,3 +54,8 @@ difference-raised n =
 pub raised-none : (x : Signed) → raised 0 x ≡ x
 unfolding raised
 raised-none x = λ i. record { neg = x .neg; mag = mul-one (x .mag) i }
+
+-- and lower again
+pub raised-twice : (m n : ℕ) (x : Signed) → raised m (raised n x) ≡ raised (n + m) x
+unfolding raised
+raised-twice m n x = λ i. record { neg = x .neg; mag = (mul-assoc (x .mag) (2 ^ n) (2 ^ m) ∙ ap (λ (k : ℕ). x .mag * k) (sym (pow-add 2 n m))) i }

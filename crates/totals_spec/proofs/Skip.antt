@@ -23,9 +23,10 @@ use Rattle.totals_spec.specs.Chain.{lostEnd, lostOf, cutPlus, cutMinus, 
 use Rattle.totals_spec.specs.Chain.{sumOf, pass}
 use Rattle.totals_spec.proofs.Limit.{fair-look}
 use Rattle.totals_spec.proofs.Margin.{terms-max}
+use Rattle.totals_spec.proofs.Alike.{diff-plus}
 use Rattle.totals_spec.proofs.Invariant.{Placed, Inv}
 use Rattle.totals_spec.proofs.Exact.{sum-is}
-use Rattle.totals_spec.proofs.Reached.{Reached, at-next}
+use Rattle.totals_spec.proofs.Reached.{Reached, Onward, at-next, at-onward}
 
 -- ---- one magnitude, at an edge w and at a lower one, v, that is not below its lost bit
 
@@ -190,7 +191,7 @@ module _ (p : ℕ) (ts : List Term) (hp : p ≤ 64) (good : AllGood ts) (len : l
   once : (i : ℕ) (b : Boundary) (w lost : ℕ) → Reached p ts i b w → Empty ts b w lost → 0 < lost → lost + 63 < w → Reached p ts (suc i) b (w - 766)
   once i b w lost r e k h = at-next p ts hp good len i b w b (w - 766) r (pass-empty b w lost e k h)
 
-  steps : (j i : ℕ) (b : Boundary) (w lost : ℕ) → Reached p ts i b w → Empty ts b w lost → 0 < lost → 766 * j + lost + 63 < w → Skipped p ts i b w (suc j)
+  pub steps : (j i : ℕ) (b : Boundary) (w lost : ℕ) → Reached p ts i b w → Empty ts b w lost → 0 < lost → 766 * j + lost + 63 < w → Skipped p ts i b w (suc j)
   steps zero i b w lost r e k h = record {
     reached = subst (λ (x : ℕ). Reached p ts x b (w - 766)) (first i) (once i b w lost r e k (omega arith));
     above = omega (arith, high b w lost e k);
@@ -217,3 +218,36 @@ module _ (p : ℕ) (ts : List Term) (hp : p ≤ 64) (good : AllGood ts) (len : l
     where
       one-more : suc ((w - lost + 702) / 766 - 1) ≡ (w - lost + 702) / 766
       one-more = omega arith
+
+  -- S of an empty pass is 0, without a sign
+  pub empty-sum : (b : Boundary) (w lost : ℕ) → Inv p (plusSum ts) (minusSum ts) b w → Empty ts b w lost
+      → sumOf b w (lookAt ts w) ≡ record { neg = false; mag = 0 }
+  empty-sum b w lost i e =
+      sum-is p ts hp good len b w i
+      ∙ diff-plus _ _ 0 (equal-sides _ _ (ap (λ (x : Signed). x .mag) (sym (sum-is p ts hp good len b w i)) ∙ e .none) ∙ sym (add-zero _))
+
+  -- an empty pass inside the stretch: pass number i + j + 1 stands 766 × j lower, with S = 0 and the same boundary, and goes on
+  pub record EmptyAt (k : ℕ) (b : Boundary) (w : ℕ) : Type 0 where
+    pub onward : Onward p ts hp good len k b w
+    pub none : sumOf b w (lookAt ts w) ≡ record { neg = false; mag = 0 }
+
+  pub inside : (j i : ℕ) (b : Boundary) (w lost : ℕ) → Reached p ts i b w → Empty ts b w lost → 0 < lost → 766 * j + lost + 63 < w
+      → EmptyAt (suc (i + j)) b (w - 766 * j)
+  inside zero i b w lost r e k h =
+      subst₂ (λ (n v : ℕ). EmptyAt (suc n) b v) (sym (add-zero i)) (sym same)
+      (record {
+        onward = at-onward p ts hp good len i b w b (w - 766) r (pass-empty b w lost e k (omega arith));
+        none = empty-sum b w lost (r .inv) e;
+      })
+    where
+      same : w - 766 * 0 ≡ w
+      same = omega arith
+  inside (suc j) i b w lost r e k h =
+      let s : Skipped p ts i b w (suc j) = steps j i b w lost r e k (omega arith) in
+      let below = still-empty b (w - 766 * suc j) w lost (r .inv) (s .reached .inv) e in
+      let d : Empty ts b (w - 766 * suc j) lost = below (omega arith) (omega arith) (omega arith) in
+      record {
+        onward = at-onward p ts hp good len (i + suc j) b (w - 766 * suc j) b (w - 766 * suc j - 766) (s .reached)
+            (pass-empty b (w - 766 * suc j) lost d k (omega arith));
+        none = empty-sum b (w - 766 * suc j) lost (s .reached .inv) d;
+      }

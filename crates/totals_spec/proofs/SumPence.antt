@@ -126,7 +126,9 @@ pub pence-entry-refused : Pence-entry-refused
 unfolding penceEntry
 pence-entry-refused k e w named b l old = go (misnamed named b) (sumPence (formatBy k e w named b) l)
   where
-    written : (t : Bool) (p : Pence) → let r : FigureEntry = cond t (record { code = 0; figure = p .figure }) (record { code = p .refusal + 256 * p .place; figure = old }) in r .code ≢ 0 → r .figure ≡ old
+    written : (t : Bool) (p : Pence)
+        → let r : FigureEntry = cond t (record { code = 0; figure = p .figure }) (record { code = p .refusal + 256 * p .place; figure = old }) in
+        r .code ≢ 0 → r .figure ≡ old
     written true p h = absurd (h refl)
     written false p h = refl
 

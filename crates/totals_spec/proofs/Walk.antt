@@ -61,7 +61,7 @@ module _ {A : Type 0} where
       ap (any f) (sym (take-append-drop (suc i) l)) ∙ any-append f (take (suc i) l) (drop (suc i) l)
       ∙ ap (λ b. b || any f (drop (suc i) l)) (any-take f l i d h ∙ ap₂ _||_ p q)
 
-keep-append : {B : Type 0} (o : Option B) (s t : List B) → keep o s ++ t ≡ keep o (s ++ t)
+pub keep-append : {B : Type 0} (o : Option B) (s t : List B) → keep o s ++ t ≡ keep o (s ++ t)
 keep-append none s t = refl
 keep-append (some b) s t = refl
 

@@ -22,7 +22,7 @@ use Rattle.totals_spec.proofs.Alone.{zero-told}
 use Rattle.totals_spec.proofs.Finite.{sum-finite, dot-finite}
 
 -- a zero, encoded and decoded again, lies beside a sum of 0
-zero-record : (f : Format) (sub minus : Bool) → RangeBounds f → special f sub (zeroOf minus) false ≡ zeroAnswer f sub minus
+pub zero-record : (f : Format) (sub minus : Bool) → RangeBounds f → special f sub (zeroOf minus) false ≡ zeroAnswer f sub minus
 unfolding special roundedSide
 zero-record f sub minus b = λ i. record {
   result = encode f (zeroOf minus);

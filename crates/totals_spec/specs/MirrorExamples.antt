@@ -39,7 +39,7 @@ unfoldable pub with : (tininess denormalsAreZero saturate precision mode : ℕ) 
 with t d s p m =
     record { rounding = m; tininess = t; nanPropagation = 0; defaultNanSign = 0; flushToZero = 0; denormalsAreZero = d; saturate = s; precision = p }
 
-abbrev reads : (result flags passes : ℕ) → ℤ → (side : ℕ) → Answer → Bool
+abbrev pub reads : (result flags passes : ℕ) → ℤ → (side : ℕ) → Answer → Bool
 reads result flags passes edge side a =
     eqb (a .result) result && eqb (a .flags) flags && eqb (a .passes) passes && sameInt (a .lastEdge) edge && eqb (a .side) side
     && eqb (a .refusal) 0 && eqb (a .place) 0
