@@ -240,6 +240,45 @@ static void doubles(void)
     }
 }
 
+static int same(totals_double_record x, totals_double_record y)
+{
+    return x.bits == y.bits && x.passes == y.passes && x.place == y.place && x.flags == y.flags && x.refusal == y.refusal && x.side == y.side;
+}
+
+/*
+ * Of finite values the negated ones, in a dot those of the left list alone, have the negated record in the other directed mode; a square sum has that
+ * of the dot product of the list with itself.
+ */
+static void habits(void)
+{
+    const double list[3] = {1, power(-53), power(-1000)}, negated[3] = {-1, -power(-53), -power(-1000)};
+    const double prices[3] = {3, 1, -1};
+    const double squared[3] = {1.5, -power(-600), -0.0}, infinite[2] = {number(0xfff0000000000000), 1};
+    totals_settings up = TOTALS_SETTINGS_INIT, down = TOTALS_SETTINGS_INIT;
+    totals_double_record record, other;
+    up.rounding = TOTALS_TOWARD_POSITIVE;
+    down.rounding = TOTALS_TOWARD_NEGATIVE;
+
+    record = totals_sum_double(list, 3, &up);
+    other = totals_sum_double(negated, 3, &down);
+    CHECK(record.bits == 0x3ff0000000000001 && other.bits == 0xbff0000000000001 && record.passes == 2 && other.passes == 2);
+    CHECK(record.flags == TOTALS_INEXACT + TOTALS_ROUNDED_UP && other.flags == record.flags);
+    CHECK(record.side == TOTALS_ABOVE && other.side == TOTALS_BELOW);
+
+    record = totals_dot_double(list, 3, prices, 3, &down);
+    other = totals_dot_double(negated, 3, prices, 3, &up);
+    CHECK(record.bits == 0x4008000000000000 && other.bits == 0xc008000000000000 && other.passes == record.passes);
+    CHECK(record.flags == TOTALS_INEXACT && other.flags == record.flags);
+    CHECK(record.side == TOTALS_BELOW && other.side == TOTALS_ABOVE);
+
+    record = totals_square_sum_double(squared, 3, NULL);
+    CHECK(record.result == 2.25 && record.flags == TOTALS_INEXACT && record.side == TOTALS_BELOW);
+    CHECK(same(record, totals_dot_double(squared, 3, squared, 3, NULL)));
+    record = totals_square_sum_double(infinite, 2, NULL);
+    CHECK(record.bits == 0x7ff0000000000000 && record.side == TOTALS_NO_COMPARISON);
+    CHECK(same(record, totals_dot_double(infinite, 2, infinite, 2, NULL)));
+}
+
 static void floats(void)
 {
     const float list[3] = {16777216, 1, -16777216};
@@ -2142,6 +2181,265 @@ static void pages_without_pointers(void)
 }
 
 /* The raw entry writes nothing where it refuses, and the inline functions lend it a buffer of their own: no list is touched. */
+/* A value of ten bytes by its parts. */
+typedef struct x87 {
+    unsigned head;
+    uint64_t significand;
+} x87;
+
+#define LEADING 0x8000000000000000
+#define QUIET 0xc000000000000000
+#define X87S 3
+
+/* 2^n, for a normal number. */
+#define X87_POWER(n) {(unsigned)(16383 + (n)), LEADING}
+#define X87_MINUS_POWER(n) {0x8000u + (unsigned)(16383 + (n)), LEADING}
+
+/* A total of ten-byte values, and what it must be. */
+typedef struct x87_total {
+    int pairs;
+    uint64_t summand;
+    size_t count;
+    x87 left[X87S], right[X87S], result;
+    unsigned flags, side;
+    uint64_t passes;
+} x87_total;
+
+static void lay_out_x87(uint8_t *at, const x87 *values, size_t count)
+{
+    size_t i;
+    for (i = 0; i < count; i++) {
+        put(at + TOTALS_X87_BYTES * i, 8, values[i].significand);
+        put(at + TOTALS_X87_BYTES * i + 8, 2, values[i].head);
+    }
+}
+
+/* Every byte of the buffer that the entry leaves, and the record over it. The lists lie at odd addresses. */
+static int x87_is(const x87_total *t, const totals_settings *c)
+{
+    uint8_t left[TOTALS_X87_BYTES * X87S + 1], right[TOTALS_X87_BYTES * X87S + 1], wanted[ROOM];
+    const size_t size = TOTALS_X87_BYTES * t->count;
+    totals_x87_record record;
+    uint64_t code;
+
+    lay_out_x87(left + 1, t->left, t->count);
+    lay_out_x87(right + 1, t->right, t->count);
+    memset(wanted, 0, TOTALS_X87_ANSWER_BYTES);
+    memset(wanted + TOTALS_X87_ANSWER_BYTES, UNTOUCHED, ROOM - TOTALS_X87_ANSWER_BYTES);
+    lay_out_x87(wanted, &t->result, 1);
+    wanted[10] = (uint8_t)t->flags;
+    wanted[11] = (uint8_t)t->side;
+    put(wanted + 24, 8, t->passes);
+    clear();
+    if (t->pairs) {
+        code = totals_dot(TOTALS_EXTENDED, c->rounding, c->tininess, c->nan_propagation, c->default_nan_negative, c->flush_to_zero,
+                          c->denormals_are_zero, c->saturate, c->precision, left + 1, size, right + 1, size, answer, ROOM);
+        record = totals_dot_x87(left + 1, t->count, right + 1, t->count, c);
+    } else {
+        code = totals_sum(TOTALS_EXTENDED, c->rounding, c->tininess, c->nan_propagation, c->default_nan_negative, c->flush_to_zero,
+                          c->denormals_are_zero, c->saturate, c->precision, t->summand, left + 1, size, answer, ROOM);
+        record = t->summand == TOTALS_VALUE       ? totals_sum_x87(left + 1, t->count, c)
+                 : t->summand == TOTALS_MAGNITUDE ? totals_magnitude_sum_x87(left + 1, t->count, c)
+                                                  : totals_square_sum_x87(left + 1, t->count, c);
+    }
+    return code == TOTALS_ACCEPTED && memcmp(answer, wanted, ROOM) == 0 && record.refusal == TOTALS_ACCEPTED
+           && memcmp(record.result, wanted, TOTALS_X87_BYTES) == 0 && record.head == t->result.head
+           && record.significand == t->result.significand && record.flags == t->flags && record.side == t->side
+           && record.passes == t->passes;
+}
+
+/* Exact totals by hand; the passes are those of the chain. */
+static void x87_totals(void)
+{
+    static const x87_total totals[] = {
+        {0, TOTALS_VALUE, 0, {{0, 0}}, {{0, 0}}, {0, 0}, 0, TOTALS_EQUAL, 0},
+        {0, TOTALS_VALUE, 2, {X87_POWER(0), X87_POWER(-63)}, {{0, 0}}, {0x3fff, LEADING + 1}, 0, TOTALS_EQUAL, 1},
+        {0, TOTALS_VALUE, 2, {X87_POWER(0), X87_POWER(-64)}, {{0, 0}}, X87_POWER(0), TOTALS_INEXACT, TOTALS_BELOW, 1},
+        {0, TOTALS_VALUE, 3, {X87_POWER(16000), X87_POWER(0), X87_MINUS_POWER(16000)}, {{0, 0}}, X87_POWER(0), 0, TOTALS_EQUAL, 21},
+        {0, TOTALS_MAGNITUDE, 2, {X87_MINUS_POWER(1), X87_POWER(0)}, {{0, 0}}, {0x4000, QUIET}, 0, TOTALS_EQUAL, 1},
+        {0, TOTALS_SQUARE, 2, {X87_POWER(-8222), X87_POWER(-8222)}, {{0, 0}}, {0, 4}, TOTALS_TINY, TOTALS_EQUAL, 1},
+        /* the largest number twice; times itself, less the same, and the square of the least */
+        {0, TOTALS_VALUE, 2, {{0x7ffe, UINT64_MAX}, {0x7ffe, UINT64_MAX}}, {{0, 0}}, {0x7fff, LEADING},
+         TOTALS_OVERFLOW + TOTALS_INEXACT + TOTALS_ROUNDED_UP, TOTALS_NO_COMPARISON, 1},
+        {1, TOTALS_VALUE, 3, {{0x7ffe, UINT64_MAX}, {0xfffe, UINT64_MAX}, {0, 1}}, {{0x7ffe, UINT64_MAX}, {0x7ffe, UINT64_MAX}, {0, 1}},
+         {0, 0}, TOTALS_SUBNORMAL_INPUT + TOTALS_TINY + TOTALS_INEXACT + TOTALS_UNDERFLOW, TOTALS_BELOW, 86},
+        {1, TOTALS_VALUE, 2, {X87_POWER(8000), X87_MINUS_POWER(-8000)}, {X87_POWER(8000), X87_POWER(0)}, X87_POWER(16000),
+         TOTALS_INEXACT + TOTALS_ROUNDED_UP, TOTALS_ABOVE, 32},
+        {0, TOTALS_VALUE, 2, {{0x7fff, LEADING + 5}, {0xffff, QUIET}}, {{0, 0}}, {0x7fff, QUIET + 5}, TOTALS_INVALID, TOTALS_NO_COMPARISON, 0},
+    };
+    size_t i;
+    for (i = 0; i < sizeof totals / sizeof *totals; i++) {
+        CHECK(x87_is(&totals[i], &plain));
+    }
+}
+
+/* Unnormals, pseudo-infinities and pseudo-NaNs come before all else in a list: the default NaN, of either sign. */
+static void x87_unsupported(void)
+{
+    static const x87 unsupported[] = {{1, 0},      {0x3fff, 1},          {0xfffe, LEADING - 1}, {0x7fff, 0},
+                                      {0xffff, 0}, {0x7fff, LEADING / 2}, {0xffff, LEADING - 1}};
+    static const x87 others[] = {{0, 0},              X87_POWER(0),          {0x7fff, LEADING}, {0xffff, LEADING},
+                                 {0x7fff, QUIET + 9}, {0x7fff, LEADING + 9}, {0, 1},            {0, LEADING}};
+    totals_settings c = TOTALS_SETTINGS_INIT;
+    size_t i, k;
+
+    for (c.nan_propagation = 0; c.nan_propagation < 4; c.nan_propagation++) {
+        for (i = 0; i < sizeof unsupported / sizeof *unsupported; i++) {
+            for (k = 0; k < sizeof others / sizeof *others; k++) {
+                x87_total t = {0, TOTALS_VALUE, 2, {{0, 0}}, {{0, 0}}, {0x7fff, QUIET}, TOTALS_INVALID, TOTALS_NO_COMPARISON, 0};
+                t.flags += k < 6 ? 0 : TOTALS_SUBNORMAL_INPUT;
+                c.default_nan_negative = k % 2;
+                t.result.head += k % 2 == 0 ? 0 : 0x8000;
+                for (t.summand = 0; t.summand < 3; t.summand++) {
+                    t.left[0] = unsupported[i];
+                    t.left[1] = others[k];
+                    CHECK(x87_is(&t, &c));
+                    t.left[0] = others[k];
+                    t.left[1] = unsupported[i];
+                    CHECK(x87_is(&t, &c));
+                }
+                t.pairs = 1;
+                t.count = 1;
+                t.right[0] = unsupported[i];
+                CHECK(x87_is(&t, &c));
+                t.left[0] = unsupported[i];
+                t.right[0] = others[k];
+                CHECK(x87_is(&t, &c));
+            }
+        }
+    }
+}
+
+/* A pseudo-denormal: its number, or a zero under denormals-are-zero, and subnormal in both. */
+static void x87_pseudo_denormals(void)
+{
+    static const x87_total totals[] = {
+        {0, TOTALS_VALUE, 1, {{0, LEADING}}, {{0, 0}}, {1, LEADING}, TOTALS_SUBNORMAL_INPUT, TOTALS_EQUAL, 1},
+        {0, TOTALS_VALUE, 1, {{0x8000, UINT64_MAX}}, {{0, 0}}, {0x8001, UINT64_MAX}, TOTALS_SUBNORMAL_INPUT, TOTALS_EQUAL, 1},
+        {0, TOTALS_MAGNITUDE, 1, {{0x8000, LEADING}}, {{0, 0}}, {1, LEADING}, TOTALS_SUBNORMAL_INPUT, TOTALS_EQUAL, 1},
+        {0, TOTALS_SQUARE, 1, {{0, LEADING}}, {{0, 0}}, {0, 0},
+         TOTALS_SUBNORMAL_INPUT + TOTALS_TINY + TOTALS_INEXACT + TOTALS_UNDERFLOW, TOTALS_BELOW, 1},
+        {1, TOTALS_VALUE, 1, {{0, LEADING}}, {X87_POWER(100)}, {101, LEADING}, TOTALS_SUBNORMAL_INPUT, TOTALS_EQUAL, 1},
+    };
+    totals_settings c = TOTALS_SETTINGS_INIT;
+    size_t i;
+
+    c.denormals_are_zero = 1;
+    for (i = 0; i < sizeof totals / sizeof *totals; i++) {
+        x87_total zero = totals[i];
+        CHECK(x87_is(&totals[i], &plain));
+        zero.result.head = totals[i].summand == TOTALS_VALUE ? totals[i].result.head & 0x8000 : 0;
+        zero.result.significand = 0;
+        zero.flags = TOTALS_SUBNORMAL_INPUT;
+        zero.side = TOTALS_EQUAL;
+        zero.passes = 0;
+        CHECK(x87_is(&zero, &c));
+    }
+}
+
+static uint64_t sum_x87(uint64_t exponent_bits, uint64_t width, uint64_t precision, uint64_t summand, size_t size, size_t room)
+{
+    static const uint8_t zeros[TOTALS_X87_BYTES * X87S] = {0};
+    clear();
+    return totals_sum(TOTALS_X87, exponent_bits, width, 0, 0, 0, 0, 0, 0, 0, precision, summand, zeros, size, answer, room);
+}
+
+static uint64_t dot_x87(uint64_t width, uint64_t precision, size_t left, size_t right, size_t room)
+{
+    static const uint8_t zeros[TOTALS_X87_BYTES * X87S] = {0};
+    clear();
+    return totals_dot(TOTALS_X87, 15, width, 0, 0, 0, 0, 0, 0, 0, precision, zeros, left, zeros, right, answer, room);
+}
+
+/* Lengths by tens, 32 bytes of answer, and the lowest number of several. */
+static void x87_refused(void)
+{
+    static const uint8_t zeros[TOTALS_X87_BYTES] = {0};
+    static const size_t uneven[] = {1, 8, 9, 11, 15, 16, 24, 29};
+    size_t i;
+
+    for (i = 0; i < sizeof uneven / sizeof *uneven; i++) {
+        CHECK(sum_x87(11, 64, 65, 3, uneven[i], 31) == TOTALS_UNEVEN_LENGTH && untouched_from(0));
+        CHECK(dot_x87(80, 0, uneven[i], 10, 40) == TOTALS_UNEVEN_LENGTH && untouched_from(0));
+        CHECK(dot_x87(80, 0, 10, uneven[i], 40) == TOTALS_UNEVEN_LENGTH && untouched_from(0));
+    }
+    CHECK(sum_x87(11, 64, 65, 3, 10, 31) == TOTALS_SHORT_BUFFER && untouched_from(0));
+    CHECK(dot_x87(80, 0, 10, 20, 31) == TOTALS_SHORT_BUFFER && untouched_from(0));
+    CHECK(sum_x87(15, 80, 64, TOTALS_SQUARE, 30, 32) == TOTALS_ACCEPTED && word(24) == 0 && untouched_from(32));
+    CHECK(dot_x87(80, 64, 30, 30, 33) == TOTALS_ACCEPTED && untouched_from(32));
+    CHECK(sum_x87(14, 80, 65, 3, 10, 32) == TOTALS_NO_SUCH_FORMAT && untouched_from(0));
+    CHECK(sum_x87(15, 79, 65, 3, 10, 32) == TOTALS_NO_SUCH_FORMAT && untouched_from(0));
+    CHECK(dot_x87(64, 65, 10, 20, 32) == TOTALS_NO_SUCH_FORMAT && untouched_from(0));
+    CHECK(sum_x87(15, 80, 65, 0, 10, 32) == TOTALS_SETTING_OUT_OF_RANGE && untouched_from(0));
+    CHECK(sum_x87(15, 80, 0, 3, 10, 32) == TOTALS_SETTING_OUT_OF_RANGE && untouched_from(0));
+    CHECK(dot_x87(80, 65, 10, 20, 32) == TOTALS_SETTING_OUT_OF_RANGE && untouched_from(0));
+    CHECK(dot_x87(80, 0, 10, 20, 32) == TOTALS_DIFFERENT_LENGTHS && untouched_from(0));
+    /* no bias can be named, the format's own neither */
+    CHECK(totals_sum_biased(TOTALS_EXTENDED, 16383, TOTALS_DEFAULTS, TOTALS_VALUE, zeros, 10, answer, ROOM) == TOTALS_NO_SUCH_FORMAT);
+    CHECK(totals_dot_biased(TOTALS_EXTENDED, 16383, TOTALS_DEFAULTS, zeros, 10, zeros, 0, answer, ROOM) == TOTALS_NO_SUCH_FORMAT);
+    CHECK(totals_sum_biased(TOTALS_EXTENDED, 16383, TOTALS_DEFAULTS, TOTALS_VALUE, zeros, 8, answer, ROOM) == TOTALS_UNEVEN_LENGTH);
+    CHECK(totals_dot_biased(TOTALS_EXTENDED, 16383, TOTALS_DEFAULTS, zeros, 10, zeros, 10, answer, 31) == TOTALS_SHORT_BUFFER);
+    CHECK(untouched_from(0));
+}
+
+/* Nothing is set but the refusal. */
+static int is_bare_x87(totals_x87_record record, unsigned refusal)
+{
+    totals_x87_record wanted;
+    memset(&wanted, 0, sizeof wanted);
+    return record.refusal == refusal && memcmp(record.result, wanted.result, TOTALS_X87_BYTES) == 0 && record.significand == 0
+           && record.head == 0 && record.passes == 0 && record.flags == 0 && record.side == 0;
+}
+
+static void x87_records_refused(void)
+{
+    const size_t most = TOTALS_MOST_ELEMENTS;
+    const uint8_t one[TOTALS_X87_BYTES] = {0, 0, 0, 0, 0, 0, 0, 0x80, 0xff, 0x3f};
+    const uint8_t *unread = (const uint8_t *)addresses(2 * (most + 2));
+    totals_settings bad = TOTALS_SETTINGS_INIT;
+
+    bad.precision = 65;
+    CHECK(is_bare_x87(totals_sum_x87(one, 1, &bad), TOTALS_SETTING_OUT_OF_RANGE));
+    CHECK(is_bare_x87(totals_sum_x87(unread, SIZE_MAX, &bad), TOTALS_SETTING_OUT_OF_RANGE));
+    CHECK(is_bare_x87(totals_dot_x87(NULL, 1, one, 0, &bad), TOTALS_SETTING_OUT_OF_RANGE));
+    bad.precision = 64;
+    CHECK(totals_sum_x87(one, 1, &bad).head == 0x3fff && totals_sum_x87(one, 1, NULL).significand == LEADING);
+    CHECK(is_bare_x87(totals_dot_x87(one, 1, one, 0, NULL), TOTALS_DIFFERENT_LENGTHS));
+    CHECK(is_bare_x87(totals_dot_x87(unread, most + 1, unread, most, NULL), TOTALS_DIFFERENT_LENGTHS));
+    CHECK(is_bare_x87(totals_dot_x87(NULL, 2, one, 1, NULL), TOTALS_DIFFERENT_LENGTHS));
+    CHECK(is_bare_x87(totals_sum_x87(unread, most + 1, NULL), TOTALS_TOO_MANY_ELEMENTS));
+    CHECK(is_bare_x87(totals_magnitude_sum_x87(unread, SIZE_MAX, NULL), TOTALS_TOO_MANY_ELEMENTS));
+    CHECK(is_bare_x87(totals_square_sum_x87(NULL, SIZE_MAX / 10 + 2, NULL), TOTALS_TOO_MANY_ELEMENTS));
+    CHECK(is_bare_x87(totals_dot_x87(unread, most + 1, unread, most + 1, NULL), TOTALS_TOO_MANY_ELEMENTS));
+    CHECK(is_bare_x87(totals_sum_x87(NULL, 1, NULL), TOTALS_NO_LIST));
+    CHECK(is_bare_x87(totals_dot_x87(one, 1, NULL, 1, NULL), TOTALS_NO_LIST));
+    CHECK(is_bare_x87(totals_sum_x87(NULL, 0, NULL), TOTALS_ACCEPTED));
+    CHECK(is_bare_x87(totals_dot_x87(NULL, 0, NULL, 0, NULL), TOTALS_ACCEPTED));
+    /* the entry, too, reads nothing of a list that is too long */
+    clear();
+    CHECK(totals_sum(TOTALS_EXTENDED, TOTALS_DEFAULTS, TOTALS_VALUE, unread, 10 * (most + 1), answer, ROOM) == TOTALS_TOO_MANY_ELEMENTS);
+    CHECK(untouched_from(0));
+    munmap((void *)unread, 16 * (most + 2));
+}
+
+/* Words, pence and tables have no kind 4, however many there are. */
+static void x87_elsewhere(void)
+{
+    const totals_format formats[2] = {{TOTALS_EXTENDED, TOTALS_OWN_BIAS}, {TOTALS_EXTENDED, TOTALS_BIAS(16383)}};
+    const uint64_t list[5] = {1, 2, 3, 4, 5};
+    uint64_t rows[1], columns[5];
+    size_t i, k;
+
+    for (i = 0; i < 2; i++) {
+        for (k = 0; k <= 5; k++) {
+            CHECK(REFUSED(totals_sum_words(formats[i], TOTALS_VALUE, list, k, NULL), TOTALS_NO_SUCH_FORMAT, 0));
+            CHECK(REFUSED(totals_dot_words(formats[i], list, k, list, 5, NULL), TOTALS_NO_SUCH_FORMAT, 0));
+            CHECK(totals_pence_words(formats[i], list, k).refusal == TOTALS_NO_SUCH_FORMAT);
+            CHECK(REFUSED(totals_table_words(formats[i], list, k, 1, k, rows, 1, columns, 5, NULL), TOTALS_NO_SUCH_FORMAT, 0));
+        }
+    }
+}
+
 static void lists_are_only_read(void)
 {
     const double before[2] = {1, 2};
@@ -2175,7 +2473,7 @@ static void version(void)
 {
     char text[32];
     sprintf(text, "%d.%d.%d", TOTALS_VERSION_MAJOR, TOTALS_VERSION_MINOR, TOTALS_VERSION_PATCH);
-    CHECK(strcmp(text, TOTALS_VERSION) == 0 && TOTALS_VERSION_NUMBER == 600);
+    CHECK(strcmp(text, TOTALS_VERSION) == 0 && TOTALS_VERSION_NUMBER == 700);
 }
 
 int main(void)
@@ -2184,6 +2482,7 @@ int main(void)
     refused();
     formats();
     doubles();
+    habits();
     floats();
     words();
     biases();
@@ -2219,6 +2518,12 @@ int main(void)
     trailers_refused();
     pages_beyond();
     pages_without_pointers();
+    x87_totals();
+    x87_unsupported();
+    x87_pseudo_denormals();
+    x87_refused();
+    x87_records_refused();
+    x87_elsewhere();
     lists_are_only_read();
     refusals_in_words();
     version();

@@ -5,7 +5,8 @@
  *
  *   totals_sum_double  totals_magnitude_sum_double  totals_square_sum_double  totals_dot_double
  *   totals_sum_float   totals_magnitude_sum_float   totals_square_sum_float   totals_dot_float
- *   totals_sum_words   totals_dot_words     encodings of any format
+ *   totals_sum_words   totals_dot_words     encodings of any format of up to 64 bits
+ *   totals_sum_x87     totals_magnitude_sum_x87     totals_square_sum_x87     totals_dot_x87     values of ten bytes
  *   totals_pence_double  totals_pence_float  totals_pence_words   the exact sum in whole pence
  *   totals_table_double  totals_table_float  totals_table_words   the sums of the rows and columns of a table
  *   totals_range_double  totals_range_words   the lower and the upper total of amounts known within a range
@@ -17,7 +18,7 @@
  *   totals_pence       totals_table   totals_range   and over words
  *   totals_page_sum    totals_page_write    and of a page
  *
- * The first twenty-one count elements, but of a page its bytes, and answer with a record. They are inline,
+ * The first twenty-five count elements, but of a page its bytes, and answer with a record. They are inline,
  * plain C, and call the last nine, which are proved. docs/LINKING.md has each with its special cases and an example.
  * What is claimed of the library stands in docs/PROMISES.md, the exact meaning of each number below
  * in docs/SPECIFICATION.md. No function keeps a state, and all may be called from several threads.
@@ -32,9 +33,9 @@
 
 /* The version of this header and of the archive that it was written for. */
 #define TOTALS_VERSION_MAJOR 0
-#define TOTALS_VERSION_MINOR 6
+#define TOTALS_VERSION_MINOR 7
 #define TOTALS_VERSION_PATCH 0
-#define TOTALS_VERSION "0.6.0"
+#define TOTALS_VERSION "0.7.0"
 #define TOTALS_VERSION_NUMBER (TOTALS_VERSION_MAJOR * 10000 + TOTALS_VERSION_MINOR * 100 + TOTALS_VERSION_PATCH)
 
 #ifdef __cplusplus
@@ -46,7 +47,8 @@ enum {
     TOTALS_IEEE = 0,   /* as in IEEE 754 */
     TOTALS_NO_INF = 1, /* no infinity; a NaN has every bit but the sign set */
     TOTALS_FNUZ = 2,   /* no infinity and no -0, whose pattern is the NaN */
-    TOTALS_FINITE = 3  /* neither infinity nor NaN */
+    TOTALS_FINITE = 3, /* neither infinity nor NaN */
+    TOTALS_X87 = 4     /* infinities and NaNs as in IEEE 754, in ten bytes: of TOTALS_EXTENDED alone */
 };
 
 /*
@@ -65,6 +67,18 @@ enum {
 #define TOTALS_E3M2 TOTALS_FINITE, 3, 6
 #define TOTALS_E2M3 TOTALS_FINITE, 2, 6
 #define TOTALS_E2M1 TOTALS_FINITE, 2, 4
+
+/*
+ * The 80 bits of the x87, the long double of x86-64: 64 digits. A value takes ten bytes, little end first: the significand in 0..7, its leading
+ * digit in the highest bit, and in 8..9 the head, a sign above 15 bits of exponent field. totals_sum and totals_dot have it, and the functions
+ * that end in _x87; anywhere else, and with a named bias, it is TOTALS_NO_SUCH_FORMAT.
+ *
+ * A field above 0 over a leading digit of 0 stands for nothing: a list with such an encoding has the default NaN for each total, and
+ * TOTALS_INVALID, whatever else it holds. A leading digit of 1 over a field of 0 is read as its number, which counts as subnormal; no result
+ * is written so.
+ */
+#define TOTALS_EXTENDED TOTALS_X87, 15, 80
+#define TOTALS_X87_BYTES 10
 
 /* A named bias lies at most so far from 0, on either side. */
 #define TOTALS_FARTHEST_BIAS 268435456
@@ -150,9 +164,10 @@ enum {
     TOTALS_MISSING = 2  /* it lies between zero and the ceiling, or is one of them */
 };
 
-/* Flags: byte 8 of an answer is a sum of these. */
+/* Flags: byte 8 of an answer, of TOTALS_X87 byte 10, is a sum of these. */
 enum {
-    TOTALS_INVALID = 1,          /* a signaling NaN, infinities of both signs, or an infinity times zero */
+    TOTALS_INVALID = 1,          /* a signaling NaN, infinities of both signs, an infinity times zero, or an encoding of
+                                    TOTALS_X87 that stands for nothing */
     TOTALS_OVERFLOW = 4,         /* the sum is too large for the format */
     TOTALS_UNDERFLOW = 8,        /* the sum is tiny, and the result is not exact */
     TOTALS_INEXACT = 16,         /* the result is not the exact sum */
@@ -161,7 +176,7 @@ enum {
     TOTALS_SUBNORMAL_INPUT = 128 /* a value of the list is subnormal */
 };
 
-/* Side: where the result lies beside the exact sum, as numbers. Byte 10 of an answer is one of these. */
+/* Side: where the result lies beside the exact sum, as numbers. Byte 10 of an answer, of TOTALS_X87 byte 11, is one of these. */
 enum {
     TOTALS_EQUAL = 0,
     TOTALS_BELOW = 1,
@@ -178,11 +193,11 @@ enum {
  */
 enum {
     TOTALS_ACCEPTED = 0,
-    TOTALS_UNEVEN_LENGTH = 1,        /* a length that is not a multiple of 8; a page may have such a length */
-    TOTALS_SHORT_BUFFER = 2,         /* an answer buffer under 24 bytes; range: a pair under two words; page: a destination shorter
-                                        than the page would be */
+    TOTALS_UNEVEN_LENGTH = 1,        /* a length that is not a multiple of 8, of TOTALS_X87 of 10; a page may have such a length */
+    TOTALS_SHORT_BUFFER = 2,         /* an answer buffer under 24 bytes, of TOTALS_X87 under 32; range: a pair under two words;
+                                        page: a destination shorter than the page would be */
     TOTALS_NO_SUCH_FORMAT = 3,       /* kind above 3, exponent bits outside 2..28, width below these + 2 or above 64,
-                                        or a named bias outside -268,435,456..268,435,456 */
+                                        or a named bias outside -268,435,456..268,435,456; TOTALS_X87 as it is said above */
     TOTALS_SETTING_OUT_OF_RANGE = 4, /* a setting or the summand out of its range */
     TOTALS_DIFFERENT_LENGTHS = 5,    /* dot, range: the lists differ in length */
     TOTALS_TOO_MANY_ELEMENTS = 6,    /* over 268,435,456 elements (of a dot: pairs; of a table: cells; of a range: entries; of a page: values) */
@@ -205,8 +220,9 @@ enum {
  */
 #define TOTALS_PLACE(code) ((code) / 256)
 
-/* An answer takes 24 bytes. */
+/* An answer takes 24 bytes, one of TOTALS_X87 32. */
 #define TOTALS_ANSWER_BYTES 24
+#define TOTALS_X87_ANSWER_BYTES 32
 
 /*
  * The sum of the values, of their magnitudes or of their squares.
@@ -222,6 +238,9 @@ enum {
  * Returns 0 and writes bytes 0 to 23 of the answer: the result in 0..7, the flags in 8, the side in
  * 10, the passes in 16..23, little end first, and zeros between them. Later bytes stay as they were.
  * Or returns a refusal, plus 256 times a place for TOTALS_STRAY_BIT, and writes nothing.
+ *
+ * In TOTALS_EXTENDED a value has ten bytes, and an answer at least 32: the result lies in 0..9, the flags
+ * in 10, the side in 11, zeros in 12..23, the passes in 24..31. There is no TOTALS_STRAY_BIT.
  */
 uint64_t totals_sum(uint64_t kind, uint64_t exponent_bits, uint64_t width,
                     uint64_t rounding, uint64_t tininess, uint64_t nan_propagation, uint64_t default_nan_negative,
@@ -433,6 +452,16 @@ typedef struct totals_float_record {
     unsigned side;
 } totals_float_record;
 
+typedef struct totals_x87_record {
+    uint8_t result[TOTALS_X87_BYTES]; /* as a list has it */
+    uint64_t significand;             /* bytes 0..7 of the result, and */
+    unsigned head;                    /* bytes 8..9, sign and exponent field */
+    uint64_t passes;
+    unsigned flags;
+    unsigned refusal;
+    unsigned side;
+} totals_x87_record;
+
 typedef struct totals_pence_record {
     int64_t figure; /* in pence, where there is no refusal */
     uint64_t place;
@@ -461,9 +490,9 @@ static inline const char *totals_strerror(uint64_t refusal)
 {
     switch (TOTALS_REFUSAL(refusal)) {
     case TOTALS_ACCEPTED: return "accepted";
-    case TOTALS_UNEVEN_LENGTH: return "the length in bytes is not a multiple of 8";
+    case TOTALS_UNEVEN_LENGTH: return "the length in bytes is not a multiple of 8, or of 10 for X87";
     case TOTALS_SHORT_BUFFER:
-        return "the answer buffer has fewer than 24 bytes, the pair fewer than two words, or the destination fewer than the page";
+        return "the answer buffer has fewer than 24 bytes, or 32 for X87, the pair fewer than two words, or the destination fewer than the page";
     case TOTALS_NO_SUCH_FORMAT: return "there is no such format, or the bias that it names is out of its range";
     case TOTALS_SETTING_OUT_OF_RANGE: return "a setting or the summand is out of its range";
     case TOTALS_DIFFERENT_LENGTHS: return "the lists differ in length";
@@ -499,7 +528,7 @@ static inline const char *totals_strerror(uint64_t refusal)
 typedef struct totals_list_ {
     const void *values;
     size_t count;
-    size_t size; /* of an element: 4 or 8 bytes */
+    size_t size; /* of an element: 4, 8 or 10 bytes */
 } totals_list_;
 
 static inline totals_list_ totals_list_of_(const void *values, size_t count, size_t size)
@@ -597,12 +626,12 @@ static inline int totals_is_missing_(totals_list_ list)
 
 /*
  * A sum of `left`, for which `right` is empty and `pairs` 0, or a dot. A format whose last two fields do not fit each other was not
- * set up as a whole, and a total in either reading would be a guess.
+ * set up as a whole, and a total in either reading would be a guess. Of TOTALS_X87 there are no encodings in words.
  */
 static inline uint64_t totals_call_(totals_format f, const totals_settings *c, uint64_t summand, int pairs, const uint8_t *left,
                                     size_t left_count, const uint8_t *right, size_t right_count, uint8_t *answer)
 {
-    if (f.bias_named > 1 || (f.bias_named == 0 && f.bias != 0)) {
+    if (f.bias_named > 1 || (f.bias_named == 0 && f.bias != 0) || f.kind == TOTALS_X87) {
         return TOTALS_NO_SUCH_FORMAT;
     }
     if (pairs && f.bias_named) {
@@ -672,6 +701,56 @@ static inline totals_record totals_take_(totals_format f, const totals_settings 
         TOTALS_FREE(right_owned);
     }
     return totals_record_of_(code, answer);
+}
+
+/* As totals_take_, of lists of ten bytes an element, which are read where they lie. */
+static inline totals_x87_record totals_take_x87_(const totals_settings *settings, uint64_t summand, int pairs, totals_list_ left,
+                                                 totals_list_ right)
+{
+    static const totals_settings defaults = TOTALS_SETTINGS_INIT;
+    static const uint8_t none = 0;
+    const totals_settings *c = settings == NULL ? &defaults : settings;
+    const int is_refused = left.count > TOTALS_MOST_ELEMENTS || right.count > TOTALS_MOST_ELEMENTS || totals_is_missing_(left)
+                           || totals_is_missing_(right);
+    const size_t left_size = is_refused ? 0 : left.size * left.count, right_size = is_refused ? 0 : right.size * right.count;
+    const uint8_t *left_bytes = left_size == 0 ? &none : (const uint8_t *)left.values;
+    const uint8_t *right_bytes = right_size == 0 ? &none : (const uint8_t *)right.values;
+    totals_x87_record record;
+    uint8_t answer[TOTALS_X87_ANSWER_BYTES];
+    uint64_t code;
+
+    if (pairs) {
+        code = totals_dot(TOTALS_EXTENDED, c->rounding, c->tininess, c->nan_propagation, c->default_nan_negative, c->flush_to_zero,
+                          c->denormals_are_zero, c->saturate, c->precision, left_bytes, left_size, right_bytes, right_size, answer,
+                          TOTALS_X87_ANSWER_BYTES);
+    } else {
+        code = totals_sum(TOTALS_EXTENDED, c->rounding, c->tininess, c->nan_propagation, c->default_nan_negative, c->flush_to_zero,
+                          c->denormals_are_zero, c->saturate, c->precision, summand, left_bytes, left_size, answer,
+                          TOTALS_X87_ANSWER_BYTES);
+    }
+    if (code == TOTALS_ACCEPTED && is_refused) {
+        code = pairs && left.count != right.count ? TOTALS_DIFFERENT_LENGTHS
+               : left.count > TOTALS_MOST_ELEMENTS ? TOTALS_TOO_MANY_ELEMENTS
+                                                   : TOTALS_NO_LIST;
+    }
+    memset(&record, 0, sizeof record);
+    record.refusal = (unsigned)TOTALS_REFUSAL(code);
+    if (code == TOTALS_ACCEPTED) {
+        memcpy(record.result, answer, TOTALS_X87_BYTES);
+        record.significand = totals_get_(answer);
+        record.head = answer[8] | (unsigned)answer[9] << 8;
+        record.flags = answer[10];
+        record.side = answer[11];
+        record.passes = totals_get_(answer + 24);
+    }
+    return record;
+}
+
+static inline totals_x87_record totals_of_x87s_(uint64_t summand, int pairs, const uint8_t *left, size_t left_count, const uint8_t *right,
+                                                size_t right_count, const totals_settings *settings)
+{
+    return totals_take_x87_(settings, summand, pairs, totals_list_of_(left, left_count, TOTALS_X87_BYTES),
+                            totals_list_of_(right, right_count, TOTALS_X87_BYTES));
 }
 
 static inline totals_pence_record totals_take_pence_(totals_format f, totals_list_ list)
@@ -924,6 +1003,31 @@ static inline totals_record totals_dot_words(totals_format format, const uint64_
 {
     return totals_take_(format, settings, TOTALS_VALUE, 1, totals_list_of_(left, left_count, sizeof *left),
                         totals_list_of_(right, right_count, sizeof *right));
+}
+
+/*
+ * The same of `count` values of ten bytes, in TOTALS_EXTENDED, read where they lie, at any address. The long double of x86-64 Linux takes
+ * sixteen bytes, of which the first ten are such a value.
+ */
+static inline totals_x87_record totals_sum_x87(const uint8_t *values, size_t count, const totals_settings *settings)
+{
+    return totals_of_x87s_(TOTALS_VALUE, 0, values, count, NULL, 0, settings);
+}
+
+static inline totals_x87_record totals_magnitude_sum_x87(const uint8_t *values, size_t count, const totals_settings *settings)
+{
+    return totals_of_x87s_(TOTALS_MAGNITUDE, 0, values, count, NULL, 0, settings);
+}
+
+static inline totals_x87_record totals_square_sum_x87(const uint8_t *values, size_t count, const totals_settings *settings)
+{
+    return totals_of_x87s_(TOTALS_SQUARE, 0, values, count, NULL, 0, settings);
+}
+
+static inline totals_x87_record totals_dot_x87(const uint8_t *left, size_t left_count, const uint8_t *right, size_t right_count,
+                                               const totals_settings *settings)
+{
+    return totals_of_x87s_(TOTALS_VALUE, 1, left, left_count, right, right_count, settings);
 }
 
 /* The pence of the exact sum of `count` elements, as totals_pence has them. A list may be NULL where its count is 0. */

@@ -103,7 +103,7 @@ column  0      g
        79      start, end, 16 digits each
       113      the page, two digits for each byte
 
-At last come the rows of pages that are written, again in two parts. Such a row has 791 or 4,279 bytes:
+Then come the rows of pages that are written, again in two parts. Such a row has 791 or 4,279 bytes:
 
 column  0      w
         2      number of values, two digits
@@ -112,6 +112,20 @@ column  0      w
        11      the first byte of the buffer before the call, two digits; each of the others is one more than the byte before it, modulo 256
        14      what the entry returns, six digits
        21      the values, 16 digits each, and a space; then the destination after the call, two digits for each byte
+
+At last come the rows of values of ten bytes, their number first. Such a row has 496 bytes, with the format, the settings, the summand and the length of the
+buffer where a sum's row has them; and else:
+
+column  0      s a sum, d a dot
+       23      length of a sum's list, or of a dot's left one, in bytes, two digits
+       26      length of a dot's right list in bytes, two digits
+       32      1 where a bias is named, else 0
+       34      the bias: a sign and 16 digits
+       52      a note of what the row is, 20 bytes
+       73      what the byte entry returns, three digits
+       77      forty bytes of buffer before the call, two digits each, of which the entry is lent as many as the row says
+      158      the same after the call
+      239      128 bytes, two digits each: a sum's list from the first on; a dot's left list from the first on, its right one from the 65th on
 """
 
 import os
@@ -176,7 +190,9 @@ class Case:
         self.kind, self.e, self.w, self.named = (*f, None)[:4] if isinstance(f, tuple) else (f.kind, f.e, f.w, f.named)
         self.c, self.left, self.right, self.summand = {**PLAIN, **c}, left, right, summand
         self.more, self.room = more, room
-        self.holds = conditions(self.kind, self.e, self.w, self.named, self.c, summand, left, right, more, room)
+        # the byte entries read kind 4 by tens
+        sizes = (10, 32) if self.kind == 4 else (8, 24)
+        self.holds = conditions(self.kind, self.e, self.w, self.named, self.c, summand, left, right, more, room, *sizes)
         self.refusal = min([n for n in self.holds if n > 2], default=0)
         self.place = 0
         if self.refusal == 7:
@@ -260,8 +276,7 @@ def widths(e):
 
 def power(f, n, negative=0, rest=0):
     """The number of the exponent n and these fraction bits, or of the nearest exponent that there is."""
-    field = min(max(n + f.bias, 1), f.ones - 1)
-    return f.sign * negative + (field << f.fraction) + rest
+    return f.normal(negative, min(max(n + f.bias, 1), f.ones - 1), rest)
 
 
 def flipped(f, values, negative=1):
@@ -911,7 +926,7 @@ def each_refusal():
 
 def spoiled(numbers, dot, turn, bias=None):
     """A call of which exactly the conditions of these numbers hold: 3 by the bias, where one is named."""
-    f = ((4, 5, 16), (0, 1, 16), (1, 29, 40), (2, 11, 12))[turn % 4] if 3 in numbers and bias is None else (turn % 4, 5, 16)
+    f = ((5, 5, 16), (0, 1, 16), (1, 29, 40), (2, 11, 12))[turn % 4] if 3 in numbers and bias is None else (turn % 4, 5, 16)
     c = ({'rounding': 8}, {'nan': 4}, {'saturate': 2}, {'tininess': 15})[turn // 2 % 4] if 4 in numbers else {}
     summand = 0
     if numbers.isdisjoint({1, 2, 3}) and turn % 3 == 2 and 4 in numbers:
@@ -1135,6 +1150,115 @@ def bias_refusals():
     return cases
 
 
+# ---- mirror and square
+
+def negative(f, b):
+    """Fnuz's zero is its own negative."""
+    return b if f.kind == FNUZ and b == 0 else b ^ f.sign
+
+
+def is_finite_in(f, values):
+    return all(f.decode(v)[0] in ('zero', 'number') for v in values)
+
+
+def mirrored(case):
+    """All values negated, or those of a dot's left list, and the two directed modes exchanged."""
+    f = case.format()
+    mode = case.c['rounding']
+    return Case(f, {**case.c, 'rounding': {UP: DOWN, DOWN: UP}.get(mode, mode)}, [negative(f, b) for b in case.left], case.right)
+
+
+def mirrors(draw, format_of):
+    """In every kind and rounding a sum and a dot of finite values with another trait each, and its mirror: the negated result with the same flags,
+    passes and last edge, on the other side."""
+    traits = [lambda c: True, lambda c: c.passes > 1, lambda c: c.flags & OVERFLOW, lambda c: c.flags & TINY, lambda c: c.flags & SUBNORMAL and c.c['daz'],
+              lambda c: any(c.format().decode(b)[0] == 'zero' for b in c.left), lambda c: c.side in ('on', 'on odd')]
+    cases = []
+    for kind, mode, dot in product(range(4), range(8), (False, True)):
+        trait = traits[len(cases) // 2 % 7]
+        while True:
+            made = drawn(draw, format_of(kind), (mixed, near_tie, cancelling, staircase))
+            case = Case(made.format(), {**made.c, 'rounding': mode}, made.left, made.right)
+            f = case.format()
+            if dot == (case.right is not None) and made.summand == VALUE and is_finite_in(f, case.left + (case.right or [])) and trait(case) \
+                    and f.decode(case.result)[0] in ('number', 'infinity'):
+                break
+        other = mirrored(case)
+        assert (other.result, other.flags, other.passes, other.edge) == (negative(f, case.result), case.flags, case.passes, case.edge)
+        assert other.leans == {BELOW: ABOVE, ABOVE: BELOW}.get(case.leans, case.leans)
+        cases += [case, other]
+    return cases
+
+
+def squares(draw, format_of, refused):
+    """In every kind and rounding the square sum of a list without a NaN, and its dot product with itself: one record. Then refused calls of both, in a
+    format of less than 64 bits."""
+    cases = []
+    while len(cases) < 64:
+        kind, mode = len(cases) // 16, len(cases) // 2 % 8
+        made = drawn(draw, format_of(kind), (mixed, near_tie, cancelling))
+        f, left = made.format(), made.left[:6]
+        if left and not any(f.decode(b)[0] == 'nan' for b in left):
+            cases += squared(f, {**made.c, 'rounding': mode}, left)
+    beyond = 1 << refused[2]
+    bad = (refused[0], 29, *refused[2:])
+    for f, c, left in ((refused, {}, [0, beyond + 1, beyond]), (refused, {'rounding': 8}, [1]), (bad, {}, [1, 2]), (bad, {'rounding': 8}, [beyond])):
+        cases += squared(f, c, left)
+    return cases
+
+
+def squared(f, c, left):
+    """The square sum of a list, and its dot product with itself."""
+    pair = [Case(f, c, left, None, SQUARE), Case(f, c, left, left)]
+    assert pair[0].answer() == pair[1].answer()
+    return pair
+
+
+def mirror_examples():
+    """C7, Fnuz's zero, and the largest number of Fnuz twice; then what the mirror is not claimed of: the NaN of such a sum, and a sum of 0."""
+    half, fnuz = Format(IEEE, 5, 16), Format(FNUZ, 4, 8)
+    rows = [
+        (DOUBLE, {'rounding': UP}, [0x3ff0000000000000, 0x3ca0000000000000, 0x0170000000000000], 0x3ff0000000000001, 0xbff0000000000001, 0x50, 2, -1403),
+        (fnuz, {}, [0, 0x38], 0x38, 0xb8, 0, 1, -703),
+        (fnuz, {'saturate': 1}, [0x7f, 0x7f], 0x7f, 0xff, 0x14, 1, -695),
+        (fnuz, {}, [0x7f, 0x7f], 0x80, 0x80, 0x14, 1, -695),
+        (half, {}, [ONE, ONE ^ half.sign], 0, 0, 0, 1, -702),
+    ]
+    cases = []
+    for f, c, left, result, other, flags, passes, edge in rows:
+        case = Case(f, c, left)
+        pair = [case, mirrored(case)]
+        assert [(made.result, made.flags, made.passes, made.edge) for made in pair] == [(r, flags, passes, edge) for r in (result, other)]
+        cases += pair
+    return cases
+
+
+def square_examples():
+    """-infinity beside the least number; zeros; a subnormal number taken as zero. With a NaN behind an infinity the two differ."""
+    f = Format(IEEE, 5, 16)
+    rows = [([0xfc00, 1], {}, 0x7c00, 0x80), ([0x8000, 0], {'rounding': DOWN}, 0, 0), ([0x8001], {'daz': 1}, 0, 0x80), ([0x7c00, 0xfc00], {}, 0x7c00, 0)]
+    cases = []
+    for left, c, result, flags in rows:
+        cases += squared(f, c, left)
+        assert (cases[-1].result, cases[-1].flags) == (result, flags)
+    left = [0xfc00, 0x7e00]
+    cases += [Case(f, {}, left, None, SQUARE), Case(f, {}, left, left)]
+    assert [case.result for case in cases[-2:]] == [0x7c00, 0x7e00]
+    return cases
+
+
+def mirror_sections():
+    draw = Draw(11)
+    plain = lambda kind: Format(kind, *draw.choice(PAIRS if draw.chance(60) else FAR))
+    named = lambda kind: Format(kind, *draw.choice(PRODUCTS))
+    return [
+        ('a list and its mirror', mirror_examples() + mirrors(draw, plain)),
+        ('a square sum and the dot with itself', square_examples() + squares(draw, plain, (IEEE, 5, 16))),
+        ('a named bias: a list and its mirror', mirrors(draw, named)),
+        ('a named bias: a square sum and the dot', squares(draw, named, (FNUZ, 8, 32, -40))),
+    ]
+
+
 # ---- the list
 
 def sections():
@@ -1180,6 +1304,7 @@ def sections():
         ('a named bias: the same list in five orders', bias_orders(draw)),
         ('a named bias: refusals', bias_refusals()),
     ]
+    made += mirror_sections()
     # every eighth accepted call gets a buffer of another length
     accepted = [case for _, cases in made for case in cases if not case.holds]
     for i, case in enumerate(accepted):
@@ -1218,6 +1343,9 @@ def texts(made):
     for name, rows, most, _ in page_parts():
         stdin += '%04x\n' % len(rows) + ''.join(r.row(most) for r in rows)
         stdout += dots(name) + ' %d of %d agree\n' % (len(rows), len(rows))
+    rows = tens()
+    stdin += '%04x\n' % len(rows) + ''.join(t.row() for t in rows)
+    stdout += dots('values of ten bytes') + ' %d of %d agree\n' % (len(rows), len(rows))
     return stdin, stdout
 
 
@@ -1241,8 +1369,8 @@ def asked(binary, cases):
     return answers
 
 
-def differs(case, answer):
-    return answer != '%x %d %d' % (case.result, case.flags, case.passes)
+def differs(record, answer):
+    return answer != '%x %d %d' % (record.result, record.flags, record.passes)
 
 
 def write(binary):
@@ -1256,11 +1384,16 @@ def write(binary):
             sys.exit('%s, row %d: %s\n  oracle %s, model %x %d %d' % (name, i, case.line(), answer, case.result, case.flags, case.passes))
         result, flags, _ = answer.split()
         case.result, case.flags = int(result, 16), int(flags)
+    of_tens = [(i + 1, t) for i, t in enumerate(tens()) if not t.holds]
+    for (i, t), answer in zip(of_tens, asked(binary, [t for _, t in of_tens])):
+        if differs(t.record, answer):
+            sys.exit('values of ten bytes, row %d: %s\n  oracle %s, model %x %d %d' % (
+                i, t.line(), answer, t.record.result, t.record.flags, t.record.passes))
     for file, text in zip(('stdin', 'stdout'), texts(made)):
         with open(os.path.join(HERE, file), 'w') as out:
             out.write(text)
     print(len(accepted), 'accepted rows with the answers of the oracle,', sum(len(cases) for _, cases in made) - len(accepted),
-          'refused ones;', len(totals), 'totals of tables;', len(of_spans), 'of spans of pages')
+          'refused ones;', len(totals), 'totals of tables;', len(of_spans), 'of spans of pages;', len(of_tens), 'of values of ten bytes')
 
 
 def check():
@@ -1284,7 +1417,8 @@ def check():
                         ('pence of lists', lambda row: list_of(row, False).row()), ('pence of lists, a bias named', lambda row: list_of(row, True).row()),
                         ('tables', lambda row: table_of(row, False).row()), ('tables, a bias named', lambda row: table_of(row, True).row()),
                         ('amounts known within a range', lambda row: range_of(row).row()),
-                        *((name, again(read, most)) for name, _, most, read in page_parts())):
+                        *((name, again(read, most)) for name, _, most, read in page_parts()),
+                        ('values of ten bytes', lambda row: tens_of(row).row())):
         n = int(lines[at], 16)
         for i, row in enumerate(lines[at + 1:at + 1 + n]):
             rows += 1
@@ -1306,9 +1440,12 @@ def draw_more(binary, seed, count):
     draw = Draw(seed)
     cases = [drawn(draw, Format(*draw.choice(known)), (mixed, near_tie, cancelling, staircase, descent)) for _ in range(count)]
     wrong = [(case, answer) for case, answer in zip(cases, asked(binary, cases)) if differs(case, answer)]
+    more = ten_drawn(draw, count // 4)
+    wrong += [(t, answer) for t, answer in zip(more, asked(binary, more)) if differs(t.record, answer)]
     for case, answer in wrong:
-        print(case.line(), '| oracle', answer, '| model %x %d %d' % (case.result, case.flags, case.passes))
-    print(len(cases), 'cases,', len(wrong), 'wrong')
+        record = case.record if isinstance(case, Tens) else case
+        print(case.line(), '| oracle', answer, '| model %x %d %d' % (record.result, record.flags, record.passes))
+    print(len(cases), 'cases, and', len(more), 'with values of ten bytes,', len(wrong), 'wrong')
     sys.exit(wrong != [])
 
 
@@ -1326,14 +1463,18 @@ def fewest(label, cases, keys, *sides):
 
 
 def cover():
-    rows = [case for _, cases in sections() for case in cases]
+    made = sections()
+    pairs = len(mirror_sections())
+    rows = [case for _, cases in made[:-pairs] for case in cases]
     cover_plain([case for case in rows if case.named is None])
     cover_biased([case for case in rows if case.named is not None])
+    cover_mirrors(*(cases for _, cases in made[-pairs:]))
     cover_pence(pence_lists())
     cover_biased_pence(biased_pence_lists())
     cover_tables(tables() + biased_tables())
     cover_ranges(ranges())
     cover_pages(spans() + long_spans(), written_pages() + long_written())
+    cover_tens(tens())
 
 
 def cover_plain(every):
@@ -1401,6 +1542,27 @@ def cover_biased(every):
            lambda c: (tuple(sorted(c.holds - {3})),), [(), (1,), (2,), (4,), (5,), (7,), (1, 2), (4, 5, 7), (1, 2, 4, 5, 7)])
     fewest('1, 2, 3, 4, 5 and 7 beside a bias in its range', [c for c in every if abs(c.named) <= LARGEST_BIAS],
            lambda c: tuple(c.holds), (1, 2, 3, 4, 5, 7))
+
+
+def cover_mirrors(mirror, square, biased_mirror, biased_square):
+    modes, two, kinds = range(8), range(2), range(4)
+    every = mirror + biased_mirror
+    where = lambda test: [case for case in every if test(case)]
+    print('%5d  rows of lists and their mirrors' % len(every))
+    fewest('mirrors by kind, rounding, sum or dot', every, lambda c: (c.kind, c.c['rounding'], c.right is not None), kinds, modes, (False, True))
+    fewest('mirrors by sign, side', every, lambda c: (c.below_zero, c.leans), two, range(4))
+    fewest('mirrors by passes, 1 to 3', every, lambda c: (c.passes,), range(1, 4))
+    fewest('mirrors with an overflow, by kind', where(lambda c: c.flags & OVERFLOW), lambda c: (c.kind,), kinds)
+    fewest('tiny mirrors, by tininess', where(lambda c: c.flags & TINY), lambda c: (c.c['tininess'],), two)
+    fewest('mirrors with a subnormal operand, by denormals-are-zero', where(lambda c: c.flags & SUBNORMAL), lambda c: (c.c['daz'],), two)
+    fewest('mirrors with a zero, by kind', where(lambda c: any(c.format().decode(b)[0] == 'zero' for b in c.left)), lambda c: (c.kind,), kinds)
+    every = square + biased_square
+    print('%5d  rows of square sums and dots of a list with itself' % len(every))
+    fewest('squares by kind, rounding', where(lambda c: c.refusal == 0), lambda c: (c.kind, c.c['rounding']), kinds, modes)
+    fewest('squares refused with 3, 4 and 7', where(lambda c: c.refusal), lambda c: (c.refusal,), (3, 4, 7))
+    fewest('squares with an infinity, a zero, a subnormal number', where(lambda c: c.refusal == 0),
+           lambda c: (next((what for what in ('infinity', 'zero') if any(c.format().decode(b)[0] == what for b in c.left)), c.flags & SUBNORMAL),),
+           ('infinity', 'zero', SUBNORMAL))
 
 
 def cover_pence_of(every):
@@ -2879,6 +3041,315 @@ def page_parts():
     """The parts of pages, each with its name, its rows, the most bytes of a page in them, and what reads one."""
     return [('spans of pages', spans(), PAGE, span_of), ('spans of longer pages', long_spans(), LONG_PAGE, span_of),
             ('pages written', written_pages(), PAGE, written_of), ('longer pages written', long_written(), LONG_PAGE, written_of)]
+
+
+# ---- values of ten bytes
+
+TEN = Extended()
+TEN_FORMAT = 4, 15, 80, None
+TEN_ROW, TEN_BYTES, TEN_BUFFER = 496, 128, 40
+
+
+def laid_tens(values):
+    return b''.join(v.to_bytes(10, 'little') for v in values)
+
+
+class Tens:
+    """A call of a byte entry with lists of bytes, and what it answers. A right list makes it a dot."""
+
+    def __init__(self, note, c, left, right=None, summand=VALUE, f=TEN_FORMAT, room=32, first=0xa0):
+        as_bytes = lambda given: laid_tens(given) if isinstance(given, list) else given
+        self.note, self.c, self.summand, self.f, self.room, self.first = note, {**PLAIN, **c}, summand, f, room, first
+        self.left, self.right = as_bytes(left), as_bytes(right)
+        self.holds = ten_conditions(f, self.c, summand, self.left, self.right, room)
+        self.returned = min(self.holds, default=0)
+        self.record = None if self.holds else self.worked()
+
+    def worked(self):
+        assert self.f == TEN_FORMAT
+        values = lambda given: [int.from_bytes(given[i:i + 10], 'little') for i in range(0, len(given), 10)]
+        self.values = values(self.left), values(self.right or b'')
+        return sum_record(TEN, self.c, self.summand, self.values[0]) if self.right is None else dot_record(TEN, self.c, *self.values)
+
+    def before(self):
+        return bytes((self.first + 7 * i) % 256 for i in range(TEN_BUFFER))
+
+    def after(self):
+        if self.holds:
+            return self.before()
+        r = self.record
+        return r.result.to_bytes(10, 'little') + bytes([r.flags, r.leans]) + bytes(12) + r.passes.to_bytes(8, 'little') + self.before()[32:]
+
+    def row(self):
+        dot = self.right is not None
+        kind, e, w, bias = self.f
+        half = TEN_BYTES // 2 if dot else TEN_BYTES
+        assert len(self.left) <= half and len(self.right or b'') <= half and len(self.note) <= 20
+        head = '%s %x %02x %02x %s %02x %x %02x %02x %02x %x %s %s %03x' % (
+            'd' if dot else 's', kind, e, w, ''.join('%x' % self.c[name] for name in SETTINGS[:7]), self.c['precision'], self.summand, len(self.left),
+            len(self.right or b''), self.room, bias is not None, signed(bias or 0, 16), self.note.ljust(20, '.'), self.returned)
+        lists = self.left.ljust(half, b'\x5c') + (self.right or b'').ljust(TEN_BYTES - half, b'\x5c')
+        text = ' '.join([head, self.before().hex(), self.after().hex(), lists.hex()]) + '\n'
+        assert len(text) == TEN_ROW
+        return text
+
+    def line(self):
+        """An accepted call as the oracle reads it."""
+        head = ['dot' if self.right is not None else 'sum', 4, 15, 80] + [self.c[name] for name in SETTINGS] + [self.summand, len(self.values[0])]
+        return ' '.join([str(h) for h in head] + ['%x' % v for v in self.values[0] + self.values[1]])
+
+
+def tens_of(row):
+    """The call of a row, with the model's answer."""
+    number = lambda at, digits: int(row[at:at + digits], 16)
+    c = {name: number(10 + i, 1) for i, name in enumerate(SETTINGS[:7])}
+    c['precision'] = number(18, 2)
+    lists = bytes.fromhex(row[239:239 + 2 * TEN_BYTES])
+    left, right = lists[:number(23, 2)], lists[TEN_BYTES // 2:TEN_BYTES // 2 + number(26, 2)] if row[0] == 'd' else None
+    f = number(2, 1), number(4, 2), number(7, 2), number(34, 17) if number(32, 1) else None
+    return Tens(row[52:72].rstrip('.'), c, left, right, number(21, 1), f, number(29, 2), number(77, 2))
+
+
+# the exponent of a power of two, and its sign
+ten = lambda n, negative=0, rest=0: power(TEN, n, negative, rest)
+field = lambda x, m, negative=0: TEN.sign * negative + (x << 64) + m
+TEN_ONE, TEN_MOST, TEN_NORMAL = ten(0), TEN.largest(0, 64), field(1, 1 << 63)
+TEN_INFINITE = TEN.infinity(0)
+QUIET, TEN_SIGNALING = TEN.nan(0, 5), TEN_INFINITE + 9
+# unnormals, a pseudo-infinity and pseudo-NaNs: a field above 0 over a leading bit of 0
+UNNORMALS = [field(1, 0), field(1, 1), field(1, 2 ** 63 - 1), field(16383, 0), field(16383, 1 << 62), field(32766, 2 ** 63 - 1)]
+PSEUDO_INFINITY, PSEUDO_NANS = field(32767, 0), [field(32767, 1), field(32767, 1 << 62), field(32767, 2 ** 63 - 1)]
+STRAYED = UNNORMALS + [PSEUDO_INFINITY] + PSEUDO_NANS
+# a field of 0 under a leading bit
+PSEUDO_DENORMALS = [field(0, 1 << 63), field(0, 2 ** 63 + 1), field(0, 2 ** 64 - 1), field(0, 3 << 62)]
+
+
+def ten_examples():
+    """Worked out by hand: the answers stand here."""
+    minus = TEN.sign
+    rows = [
+        ('least normal', {}, [PSEUDO_DENORMALS[0]], None, 0x00018000000000000000, 0x80, 1, 0),
+        ('1 and 2^-64', {}, [TEN_ONE, ten(-64)], None, TEN_ONE, 0x10, 1, 1),
+        ('1, 2^-64 and a trace', {}, [TEN_ONE, ten(-64), ten(-16382)], None, TEN_ONE + 1, 0x50, 22, 2),
+        ('2^16000, 1, -2^16000', {}, [ten(16000), TEN_ONE, ten(16000, 1)], None, TEN_ONE, 0, 21, 0),
+        ('an unnormal', {}, [UNNORMALS[3]], None, 0x7fffc000000000000000, 1, 0, 3),
+        ('an unnormal', {'negative': 1}, [UNNORMALS[3]], None, 0xffffc000000000000000, 1, 0, 3),
+        ('most and least', {}, [TEN_MOST, TEN_MOST + minus, 1], [TEN_MOST, TEN_MOST, 1], 0, 0xb8, 86, 1),
+        ('2^16000 - 2^-8000', {}, [ten(8000), ten(-8000, 1)], [ten(8000), TEN_ONE], 0x7e7f8000000000000000, 0x50, 32, 2),
+        ('no values', {}, [], None, 0, 0, 0, 0),
+        ('no values, downward', {'rounding': DOWN}, [], [], 0, 0, 0, 0),
+        ('1 and -1', {}, [TEN_ONE, TEN_ONE + minus], None, 0, 0, 1, 0),
+        ('1 and -1, downward', {'rounding': DOWN}, [TEN_ONE, TEN_ONE + minus], None, minus, 0, 1, 0),
+        ('most, twice', {}, [TEN_MOST] * 2, None, TEN_INFINITE, 0x54, 1, 3),
+        ('most, twice, to zero', {'rounding': TO_ZERO}, [TEN_MOST] * 2, None, TEN_MOST, 0x14, 1, 1),
+        ('the least number', {}, [1], None, 1, 0xa0, 1, 0),
+        ('square of 2^-9000', {}, [ten(-9000)], None, 0, 0x38, 1, 1),
+        ('magnitude of -inf', {}, [TEN_INFINITE + minus, QUIET], None, TEN_INFINITE, 0, 0, 3),
+    ]
+    made = []
+    for note, c, left, right, result, flags, passes, side in rows:
+        summand = SQUARE if note.startswith('square') else MAGNITUDE if note.startswith('magnitude') else VALUE
+        t = Tens(note, c, left, right, summand)
+        r = t.record
+        assert (r.result, r.flags, r.passes, r.leans) == (result, flags, passes, side), (note, '%x' % r.result, r.flags, r.passes, r.leans)
+        made.append(t)
+    return made
+
+
+def ten_unsupported():
+    """Each alone, in every total; before, after and beside NaNs, infinities, zeros and numbers; in a dot on either side and in a pair with each."""
+    others = [QUIET, TEN_SIGNALING + TEN.sign, TEN_INFINITE, TEN_INFINITE + TEN.sign, 0, TEN_ONE, 1, PSEUDO_DENORMALS[1]]
+    made = []
+    for i, b in enumerate(STRAYED):
+        c = {'nan': i % 4, 'negative': i % 2, 'rounding': i % 8}
+        made += [Tens('unsupported', c, [b ^ TEN.sign * (i % 3 == 0)], None, i % 3), Tens('unsupported', {'daz': 1}, [b + TEN.sign], [TEN_ONE])]
+        other, next_ = others[i % 8], others[(i + 3) % 8]
+        made += [Tens('unsupported first', c, [b, other], None, i % 3), Tens('unsupported last', c, [other, next_, b])]
+        made += [Tens('unsupported, a pair', c, [other, next_], [b, TEN_ONE]), Tens('unsupported, a pair', {'daz': i % 2}, [TEN_ONE, b], [next_, other])]
+    for other in others:
+        made += [Tens('unsupported between', {'nan': 1}, [other, PSEUDO_NANS[0], other]), Tens('unsupported, a pair', {}, [PSEUDO_INFINITY], [other])]
+    # an infinity times zero, infinities of both signs and a signaling NaN beside it
+    made += [Tens('unsupported, inf * 0', {}, [TEN_INFINITE, UNNORMALS[0]], [0, TEN_ONE]), Tens('unsupported, inf', {}, [*others[2:4], UNNORMALS[5]]),
+             Tens('unsupported, two', {'negative': 1}, [UNNORMALS[1], PSEUDO_NANS[2]], [PSEUDO_INFINITY, UNNORMALS[4]])]
+    return made
+
+
+def ten_subnormal():
+    """Pseudo-denormals and subnormal numbers in the four totals, taken as zeros and not."""
+    made = []
+    for daz in range(2):
+        c = {'daz': daz}
+        for i, b in enumerate(PSEUDO_DENORMALS + [1, 2 ** 63 - 1]):
+            made += [Tens('field 0', {**c, 'rounding': (3 * i + u) % 8}, [b + TEN.sign * (u == 0)], None, u) for u in range(3)]
+            made += [Tens('field 0', c, [b, TEN_ONE], [ten(16000), ten(-500)]), Tens('field 0', c, [b], [PSEUDO_DENORMALS[i % 4]])]
+        made += [Tens('field 0 cancels', c, [PSEUDO_DENORMALS[0], TEN_NORMAL + TEN.sign]), Tens('field 0 and 1', c, [PSEUDO_DENORMALS[2], TEN_NORMAL, 1]),
+                 Tens('field 0, both signs', c, [PSEUDO_DENORMALS[0] + TEN.sign, PSEUDO_DENORMALS[0]]),
+                 Tens('inf by field 0', c, [TEN_INFINITE], [PSEUDO_DENORMALS[0]]), Tens('-field 0 alone', c, [PSEUDO_DENORMALS[1] + TEN.sign])]
+    return made
+
+
+def ten_roundings():
+    """Each rounding, sign and side of a tie, at the least digit; then below, on and above a tie by a term that the first window does not reach."""
+    made = []
+    for mode, negative in product(range(8), range(2)):
+        c = {'rounding': mode}
+        number = lambda odd: ten(3, negative, 2 + odd)
+        half = ten(3 - 64, negative)
+        for odd, more in ((0, [ten(3 - 65, negative)]), (0, [half]), (1, [half]), (1, [half, ten(3 - 70, negative)])):
+            made.append(Tens('tie at 64 digits', c, [number(odd)] + more))
+        far = ten(-8000)
+        for more in ([far, far ^ TEN.sign], [far ^ TEN.sign * negative], [far ^ TEN.sign * (1 - negative)]):
+            made.append(Tens('beside a boundary', c, [number(mode % 2), half] + more))
+        made.append(Tens('tie of magnitudes', c, [number(1), half ^ TEN.sign], None, MAGNITUDE) if negative else
+                    Tens('tie of squares', c, [TEN_ONE, ten(-32)], None, SQUARE))
+    return made
+
+
+def ten_overflows():
+    """Far beyond the largest number, and half a unit of it, and less."""
+    made = []
+    half = 16383 - 64
+    for mode, negative, saturate in product(range(8), range(2), range(2)):
+        c = {'rounding': mode, 'saturate': saturate}
+        signs = TEN.sign * negative
+        made.append(Tens('overflow', c, [TEN_MOST + signs, TEN_MOST + signs]))
+        made.append(Tens('largest and half', c, [TEN_MOST + signs, ten(half, negative)] + [[], [ten(half - 1000, 1 - negative)]][mode % 2]))
+    made += [Tens('overflow of squares', {'rounding': mode}, [ten(9000)], None, SQUARE) for mode in (EVEN, DOWN, TO_ZERO)]
+    return made
+
+
+def ten_tiny():
+    """Results among the subnormal numbers and beside the least normal one; flushed and not."""
+    made = []
+    for mode, tininess in product(range(8), range(2)):
+        c = {'rounding': mode, 'tininess': tininess}
+        negative = mode % 2
+        # the least normal number less a quarter of the least one, as a product; and products that fall between two least numbers
+        made.append(Tens('just below normal', c, [TEN_NORMAL + TEN.sign * negative, ten(-16382, 1 - negative)], [TEN_ONE, ten(-65)]))
+        made.append(Tens('tiny product', c, [ten(-16000, negative, 12345), ten(-8000)], [ten(-400), ten(-8440)]))
+        made.append(Tens('tiny, flushed', {**c, 'flush': 1}, [TEN_NORMAL + TEN.sign * negative, ten(-16382, 1 - negative)], [TEN_ONE, ten(-1)]))
+    made += [Tens('subnormal sum', {'daz': d}, [TEN_NORMAL, field(1, 2 ** 63 + 5, 1), 3]) for d in range(2)]
+    return made
+
+
+def ten_precisions():
+    """Every precision: a tie at q digits, or a trace beside it."""
+    made = []
+    for q in range(1, 65):
+        c = {'rounding': q % 8, 'precision': q}
+        last = [ten(-q, q % 3 == 0)] + [[], [ten(-q - 700, 1)], [ten(-9000)]][q % 3]
+        made.append(Tens('precision', c, [ten(0, q % 3 == 0)] + last) if q % 5 else Tens('precision', c, [TEN_ONE, ten(-q)], [ten(16383 - 1), ten(16383 - 1)]))
+    return made
+
+
+def ten_specials():
+    """NaNs by each rule, of either sign and with payloads; infinities; zeros."""
+    minus = TEN.sign
+    lists = [[QUIET, TEN_SIGNALING], [TEN_SIGNALING + minus, QUIET], [TEN.nan(1, 7), TEN.nan(0, 2 ** 62 - 1)], [TEN.nan(0, 3), TEN.nan(1, 3)],
+             [TEN_ONE, TEN_INFINITE + (1 << 62) - 1, QUIET], [TEN_INFINITE, TEN.nan(0, 0)]]
+    made = []
+    for rule in range(4):
+        c = {'nan': rule, 'negative': rule % 2}
+        made += [Tens('NaNs', c, values, None, i % 3) for i, values in enumerate(lists)]
+        made += [Tens('NaNs, a dot', c, [TEN_ONE, TEN_INFINITE], [TEN_SIGNALING, 0]), Tens('NaNs, a dot', c, [TEN.nan(1, 1)], [TEN.nan(0, 2)])]
+    infinite, zeros = [TEN_INFINITE, TEN_INFINITE + minus], [0, minus]
+    for summand in range(3):
+        made += [Tens('infinities', {'saturate': 1}, some, None, summand) for some in (infinite, infinite[1:], [TEN_ONE, infinite[1], TEN_MOST])]
+        made += [Tens('infinity and NaN', {}, [infinite[1], nan], None, summand) for nan in (QUIET, TEN_SIGNALING)]
+    made += [Tens('inf by 0', {}, [x], [y]) for x, y in (
+        (infinite[0], minus), (0, infinite[1]), (infinite[1], TEN_ONE + minus), (infinite[0], TEN_ONE + minus))]
+    for mode in (EVEN, UP, DOWN):
+        made += [Tens('zeros', {'rounding': mode}, some, None, u) for u, some in (
+            (0, zeros), (0, zeros[1:]), (1, zeros[1:]), (0, [TEN_ONE, minus, TEN_ONE + minus]))]
+        made.append(Tens('zeros, a dot', {'rounding': mode}, zeros, [TEN_ONE + minus, TEN_ONE]))
+    return made
+
+
+def ten_refusals():
+    """Lists and buffers of every length near the limits; each wrong E, W and setting; a bias; lists of different lengths; several at once."""
+    made = []
+    values = laid_tens([TEN_ONE, QUIET, TEN_MOST])
+    for n in (0, 1, 8, 9, 10, 11, 16, 19, 20, 21, 24, 29, 30):
+        made += [Tens('length', {}, values[:n], first=n), Tens('length', {}, values[:n], values[:n]), Tens('length', {}, values[:10], values[:n]),
+                 Tens('length', {}, values[:n], values[:20])]
+    for room in (0, 8, 10, 12, 23, 24, 25, 30, 31, 32, 33, 39, 40):
+        made += [Tens('room', {}, [TEN_ONE, ten(-64)], room=room, first=5 * room), Tens('room', {}, [TEN_ONE], [UNNORMALS[0]], room=room)]
+    others = [(4, e, 80, None) for e in (0, 2, 11, 14, 16, 28, 79, 255)] + [(4, 15, w, None) for w in (0, 16, 64, 79, 81, 96, 128, 255)]
+    others += [(4, 15, 80, b) for b in (0, 16383, -1, 2 ** 28, -2 ** 28, 2 ** 28 + 1, 2 ** 63 - 1)] + [(4, 14, 80, 16383), (4, 11, 64, None)]
+    for i, f in enumerate(others):
+        made += [Tens('no format', {}, [TEN_ONE], f=f, room=(32, 31)[i % 5 == 4]),
+                 Tens('no format', {'precision': 65 * (i % 3 == 2)}, [TEN_ONE], [TEN_ONE] * (i % 4), f=f)]
+    # kind 4 alone takes ten bytes
+    for kind, e, w in ((0, 15, 80), (0, 15, 79), (3, 15, 80), (5, 15, 80), (12, 15, 80)):
+        made += [Tens('another kind', {}, (values + values)[:n], f=(kind, e, w, None), room=room) for n, room in ((10, 32), (40, 24), (40, 23))]
+    for i, (name, most) in enumerate(zip(SETTINGS, RANGES + (65,))):
+        made += [Tens('setting', {name: most}, [TEN_ONE, 1]), Tens('setting', {name: most + 1}, [TEN_ONE], [UNNORMALS[2]] * (1 + i % 2))]
+    made += [Tens('summand', {}, [TEN_ONE], None, u) for u in (3, 4, 15)] + [Tens('precision', {'precision': q}, [TEN_ONE]) for q in (66, 80, 255)]
+    made += [Tens('1, 2 and 3', {}, values[:9], room=31, f=(4, 15, 64, None)), Tens('2 and 3', {}, [TEN_ONE], room=31, f=(4, 11, 80, None)),
+             Tens('3 and 4', {'rounding': 8}, [TEN_ONE], f=(4, 15, 64, None)), Tens('4 and 5', {'precision': 65}, [TEN_ONE], [TEN_ONE, TEN_ONE]),
+             Tens('2, 4 and 5', {'precision': 65}, [TEN_ONE], [TEN_ONE, TEN_ONE], room=24), Tens('1 and 5', {}, values[:11], values[:20]),
+             Tens('3 and 5', {}, [TEN_ONE], [], f=(4, 15, 80, 0))]
+    return made
+
+
+def any_ten(draw, near):
+    """A value of any sort, many of them near an exponent field."""
+    if draw.chance(4):
+        return draw.choice(STRAYED + [QUIET, TEN_SIGNALING, TEN_INFINITE]) ^ TEN.sign * draw.bits(1)
+    if draw.chance(8):
+        return field(0, draw.choice([0, 1, 1 << 63, draw.bits(64)]), draw.bits(1))
+    far = draw.choice([0, 0, 1, -1, 64, -64, -128, -70, -700, -1400, draw.between(-80, 80), draw.between(-9000, 9000)])
+    return power(TEN, near + far - 16383, draw.bits(1), draw.choice([0, 1, 2 ** 63 - 1, 1 << 62, draw.bits(63)]))
+
+
+def mixed_tens(draw, f):
+    near = draw.choice([1, 16383, 24000, 32766, draw.between(1, 32766)])
+    left = [any_ten(draw, near) for _ in range(draw.between(1, 5))]
+    if draw.chance(40):
+        left.append(draw.choice(left) ^ f.sign)
+    right = [any_ten(draw, draw.choice([16383, 32767 - near])) for _ in left] if draw.chance(40) else None
+    return settings(draw, f), left, right, draw.choice([0, 0, 1, 2]) if right is None else VALUE
+
+
+def ten_drawn(draw, n):
+    makers = mixed_tens, near_tie, cancelling, staircase, descent
+    return [Tens('drawn', *made, room=draw.between(32, 40), first=draw.bits(8)) for made in (makers[i % 5](draw, TEN) for i in range(n))]
+
+
+def tens():
+    return (ten_examples() + ten_unsupported() + ten_subnormal() + ten_roundings() + ten_overflows() + ten_tiny() + ten_precisions() + ten_specials()
+            + ten_refusals() + ten_drawn(Draw(80), 60))
+
+
+def cover_tens(every):
+    accepted = [t for t in every if not t.holds]
+    print('%5d  calls with values of ten bytes, %d of them accepted' % (len(every), len(accepted)))
+    total = lambda t: 3 if t.right is not None else t.summand
+    where = lambda holds: [t for t in accepted if holds(t)]
+    has = lambda t, test: any(test(v) for values in t.values for v in values)
+    sort = lambda t: {TEN.decode(v)[0] for values in t.values for v in values}
+    fewest('sum, magnitudes, squares, dot; rounding', accepted, lambda t: (total(t), t.c['rounding']), range(4), range(8))
+    fewest('an unsupported encoding, in each total', where(lambda t: 'unsupported' in sort(t)), lambda t: (total(t),), range(4))
+    fewest('an unsupported encoding beside a NaN, an infinity, a zero, a number', [(t, k) for t in accepted for k in sort(t) if 'unsupported' in sort(t)],
+           lambda pair: (pair[1],), ('nan', 'infinity', 'zero', 'number'))
+    pseudo = lambda v: v >> 64 & TEN.ones == 0 and v & TEN.leading
+    fewest('a pseudo-denormal by denormals-are-zero, in each total', where(lambda t: has(t, pseudo)), lambda t: (t.c['daz'], total(t)), range(2), range(4))
+    fewest('lists with a NaN and none unsupported, by rule', where(lambda t: sort(t) >= {'nan'} and 'unsupported' not in sort(t)),
+           lambda t: (t.c['nan'],), range(4))
+    fewest('rounding, sign, side of a tie (below, on even, on odd, above)', accepted,
+           lambda t: (t.c['rounding'], t.record.negative, t.record.side), range(8), range(2), ('below', 'on', 'on odd', 'above'))
+    fewest('rounding, sign, side of a boundary (below, on, above)', accepted,
+           lambda t: (t.c['rounding'], t.record.negative, t.record.end), range(8), range(2), ('below', 'on', 'above'))
+    fewest('overflow by rounding, sign, saturation', where(lambda t: t.record.flags & OVERFLOW),
+           lambda t: (t.c['rounding'], t.record.negative, t.c['saturate']), range(8), range(2), range(2))
+    fewest('tiny by rounding, tininess', where(lambda t: t.record.flags & TINY), lambda t: (t.c['rounding'], t.c['tininess']), range(8), range(2))
+    fewest('precision, 0 to 64', accepted, lambda t: (t.c['precision'],), range(65))
+    fewest('side', accepted, lambda t: (t.record.leans,), range(4))
+    print('%5d  passes of the longest chain' % max(t.record.passes for t in accepted))
+    fewest('length of the buffer, 23 to 25, 30 to 33, 39, 40', every, lambda t: (t.room,), (23, 24, 25, 30, 31, 32, 33, 39, 40))
+    fewest('one refusal alone', [t for t in every if len(t.holds) == 1 and t.f[0] == 4], lambda t: tuple(t.holds), range(1, 6))
+    fewest('3 for E, for W, for a bias', [t for t in every if t.returned == 3 and t.f[0] == 4],
+           lambda t: ((t.f[1] != 15) + 2 * (t.f[2] != 80) + 4 * (t.f[3] is not None),), (1, 2, 4))
 
 
 def main():

@@ -1,5 +1,5 @@
 """What document 01 says of a total, and document 02 of which way its result leans, of a named bias, of a list's pence, of a table, of amounts known
-within a range, of career pages and of the most elements of a list, in whole numbers of any length.
+within a range, of career pages, of the most elements of a list and of values of ten bytes, in whole numbers of any length.
 
 Written from the text of document 01, and from the Rust's where document 01
 names a function of it (the choice among NaNs, overflow, the largest number).
@@ -63,6 +63,9 @@ class Format:
     def is_subnormal(self, v):
         return v[0] == 'number' and v[2] >> self.fraction == 0
 
+    def normal(self, negative, field, rest):
+        return self.sign * negative + (field << self.fraction) + rest
+
     def zero(self, negative):
         return self.sign * (negative and self.kind != FNUZ)
 
@@ -96,6 +99,58 @@ class Format:
         if self.kind == NOINF and q == self.p:
             m -= 1
         return self.number(negative, m, self.emax - q + 1)
+
+
+class Extended:
+    """Values of ten bytes: a sign, an exponent field of 15 bits and a significand of 64, whose leading bit is written out."""
+
+    # infinities, emax and overflow are Ieee's
+    kind, e, p, fraction, bias = IEEE, 15, 64, 63, 16383
+    emin, emax, ones = 1 - bias, bias, 2 ** e - 1
+    low = emin - fraction
+    sign, leading, quiet = 1 << 79, 1 << 63, 1 << 62
+
+    def decode(self, b):
+        """As of a format, or ('unsupported',): a field above 0 over a leading bit of 0. A number tells whether its field is 0."""
+        negative, field, m = b >> 79, b >> 64 & self.ones, b % (1 << 64)
+        if field and m < self.leading:
+            return 'unsupported',
+        if field == self.ones:
+            rest = m - self.leading
+            return ('nan', negative, rest < self.quiet, rest % self.quiet) if rest else ('infinity', negative)
+        if m == 0:
+            return 'zero', negative
+        return 'number', negative, m, self.low + max(field, 1) - 1, field == 0
+
+    def is_subnormal(self, v):
+        """By the field: a leading bit over a field of 0 does not make it a normal number."""
+        return v[0] == 'number' and v[4]
+
+    def normal(self, negative, field, rest):
+        return self.sign * negative + (field << 64) + self.leading + rest
+
+    def zero(self, negative):
+        return self.sign * negative
+
+    def infinity(self, negative):
+        return self.sign * negative + (self.ones << 64) + self.leading
+
+    def nan(self, negative, payload):
+        return self.infinity(negative) + self.quiet + payload
+
+    def number(self, negative, m, x):
+        """Encodes m * 2^x, which has at most 64 digits and none below the least. A leading bit stands over a field above 0 alone."""
+        value = Fraction(m) * Fraction(2) ** x
+        field = max(x + m.bit_length() - 1 - self.emin + 1, 0)
+        count = value / Fraction(2) ** (self.low + max(field, 1) - 1)
+        assert count.denominator == 1 and count < 2 ** 64 and field < self.ones
+        b = self.sign * negative + (field << 64) + int(count)
+        v = self.decode(b)
+        assert v[:2] == ('number', negative) and v[2] * Fraction(2) ** v[3] == value
+        return b
+
+    def largest(self, negative, q):
+        return self.number(negative, (1 << q) - 1, self.emax - q + 1)
 
 
 def own_bias(kind, e):
@@ -304,8 +359,18 @@ def sum_terms(summand, vs):
     return terms, max((position(v) for v in numbers), default=0)
 
 
+def has_unsupported(*lists):
+    return any(v[0] == 'unsupported' for vs in lists for v in vs)
+
+
+def default_nan(f, c, flags):
+    return without_terms(f, f.nan(c['negative'], 0), flags + INVALID)
+
+
 def sum_record(f, c, summand, values):
     vs, flags = operands(f, c, values)
+    if has_unsupported(vs):
+        return default_nan(f, c, flags)
     nans = [v for v in vs if v[0] == 'nan']
     signaling = any(v[2] for v in nans)
     infinite = any(v[0] == 'infinity' for v in vs)
@@ -326,6 +391,8 @@ def dot_terms(pairs):
 def dot_record(f, c, left, right):
     (xs, a), (ys, b) = operands(f, c, left), operands(f, c, right)
     flags = a | b
+    if has_unsupported(xs, ys):
+        return default_nan(f, c, flags)
     pairs = list(zip(xs, ys))
     invalid = any({x[0], y[0]} == {'infinity', 'zero'} for x, y in pairs)
     nans = [v for pair in pairs for v in pair if v[0] == 'nan']
@@ -345,14 +412,15 @@ def stray(w, values):
     return [i for i, v in enumerate(values) if v >> w]
 
 
-def conditions(kind, e, w, bias, c, summand, left, right, more, room):
+def conditions(kind, e, w, bias, c, summand, left, right, more, room, size=8, least=24):
     """The numbers of the table whose conditions hold. A right list makes it a
     dot; more is the number of bytes behind the values of either list, and
-    room the length of the answer buffer of a byte entry."""
+    room the length of the answer buffer of a byte entry, to which a value has
+    so many bytes, and an answer at least so many."""
     holds = set()
-    if any(more):
+    if any((8 * len(l) + n) % size for l, n in zip((left, right or []), more)):
         holds.add(1)
-    if room < 24:
+    if room < least:
         holds.add(2)
     if not valid_format(kind, e, w, bias):
         holds.add(3)
@@ -366,6 +434,23 @@ def conditions(kind, e, w, bias, c, summand, left, right, more, room):
         holds.add(6)
     if stray(w, left) or stray(w, right or []):
         holds.add(7)
+    return holds
+
+
+def ten_conditions(f, c, summand, left, right, room):
+    """The same of a call with lists of bytes, by a format (kind, E, W, bias): kind 4 alone takes them by tens, and has 32 bytes of answer. Of the other
+    kinds the numbers above 5 are left out."""
+    kind, e, w, bias = f
+    size, least, digits = (10, 32, 64) if kind == 4 else (8, 24, max(w - e, 0))
+    holds = {1} if len(left) % size or len(right or b'') % size else set()
+    if room < least:
+        holds.add(2)
+    if f != (4, 15, 80, None) if kind == 4 else not valid_format(*f):
+        holds.add(3)
+    if any(c[name] >= most for name, most in zip(SETTINGS, RANGES)) or c['precision'] > digits or right is None and summand > 2:
+        holds.add(4)
+    if right is not None and len(left) // size != len(right) // size:
+        holds.add(5)
     return holds
 
 

@@ -7,14 +7,23 @@ use std::process::ExitCode;
 use cases::{Answer, Case, Format, Operation, Options, Oracle};
 use floaty::oracle::{self, Table};
 
+fn operation(asked: Operation) -> oracle::Operation {
+    match asked {
+        Operation::Sum(summand) => oracle::Operation::Sum(summand),
+        Operation::Dot => oracle::Operation::Dot,
+    }
+}
+
 /// The original's total of an accepted case.
 fn total(table: &Table, case: &Case) -> Answer {
     let total = table.get(case.format.numbers, case.format.bias).expect("cases are drawn from the compiled formats");
-    let operation = match case.operation {
-        Operation::Sum(summand) => oracle::Operation::Sum(summand),
-        Operation::Dot => oracle::Operation::Dot,
-    };
-    let oracle::Answer { result, flags, passes } = total(operation, &case.left, &case.right, &case.settings);
+    let oracle::Answer { result, flags, passes } = total(operation(case.operation), &case.left, &case.right, &case.settings);
+    Answer { result, flags, passes }
+}
+
+/// The same of values of ten bytes.
+fn extended(case: &Case<u128>) -> Answer<u128> {
+    let oracle::WideAnswer { result, flags, passes } = oracle::extended(operation(case.operation), &case.left, &case.right, &case.settings);
     Answer { result, flags, passes }
 }
 
@@ -43,6 +52,6 @@ fn main() -> ExitCode {
     // a panic of the original is caught and reported as a difference
     std::panic::set_hook(Box::new(|_| {}));
     let formats = table.formats().into_iter().map(|(numbers, bias)| Format { numbers, bias }).collect();
-    let oracle = Oracle { formats, total: &|case| total(&table, case) };
+    let oracle = Oracle { formats, total: &|case| total(&table, case), extended: &extended };
     if cases::run(&options, &oracle) { ExitCode::SUCCESS } else { ExitCode::FAILURE }
 }

@@ -12,9 +12,12 @@ pub enum Kind {
     Fnuz = 2,
     /// Neither infinity nor NaN.
     Finite = 3,
+    /// Infinities and NaNs as in IEEE 754, in 80 bits that write the leading digit out: of
+    /// [`X87`](crate::X87) alone, in [`Format::EXTENDED`].
+    X87 = 4,
 }
 
-/// A binary floating-point format of at most 64 bits. What its encodings stand for is said in
+/// A binary floating-point format of at most 64 bits, or [`Format::EXTENDED`]. What its encodings stand for is said in
 /// `docs/SPECIFICATION.md` of the repository.
 ///
 /// Any numbers can be written down here: the library judges them at each call, and refuses a
@@ -46,7 +49,8 @@ pub struct Format {
     pub kind: Kind,
     /// The width of the exponent field, E: 2 to 28.
     pub exponent_bits: u8,
-    /// The whole width, W: E + 2 to 64. A significand has W − E digits.
+    /// The whole width, W: E + 2 to 64, or 80 of [`Kind::X87`]. A significand has W − E digits, of
+    /// [`Kind::X87`] one less.
     pub width: u8,
     /// The bias, where the format names one; `None` is the kind's own.
     pub named_bias: Option<i64>,
@@ -78,6 +82,11 @@ impl Format {
     /// OCP MX FP4 E2M1.
     pub const E2M1: Self = Self::new(Kind::Finite, 2, 4);
 
+    /// The format of [`X87`](crate::X87): 80 bits, 64 digits, and no bias that it names. Its encodings
+    /// fit no word, so that each total of [`Totals::of`](crate::Totals::of) it is refused with
+    /// [`Refusal::NoSuchFormat`](crate::Refusal::NoSuchFormat).
+    pub const EXTENDED: Self = Self::new(Kind::X87, 15, 80);
+
     /// The farthest from 0, on either side, that a named bias can be: 268,435,456.
     pub const FARTHEST_BIAS: i64 = 268_435_456;
 
@@ -95,7 +104,7 @@ impl Format {
     /// The same with a bias that it names.
     ///
     /// The least normal number is then 2^(1 − bias). The exponent of the greatest is 2^E − 2 − bias
-    /// in [`Kind::Ieee`] and 2^E − 1 − bias in the other kinds. 1 need not be a number of the format.
+    /// in [`Kind::Ieee`] and 2^E − 1 − bias in the other kinds. [`Kind::X87`] has no named bias. 1 need not be a number of the format.
     ///
     /// A bias that is farther from 0 than [`Format::FARTHEST_BIAS`] is refused when a total is taken,
     /// with [`Refusal::NoSuchFormat`](crate::Refusal::NoSuchFormat).
@@ -140,16 +149,23 @@ impl Format {
         }
     }
 
-    /// The digits of a significand, W − E: the most that a precision can be.
+    /// The digits of a significand, the most that a precision can be: W − E, and W − E − 1 of
+    /// [`Kind::X87`], whose encodings leave no digit out.
     ///
     /// ```
     /// use fermuzhai::Format;
     ///
     /// assert_eq!(Format::BINARY64.digits(), 53);
+    /// assert_eq!(Format::EXTENDED.digits(), 64);
     /// ```
     #[must_use]
     pub const fn digits(self) -> u8 {
-        self.width.saturating_sub(self.exponent_bits)
+        let beside = self.width.saturating_sub(self.exponent_bits);
+        match self.kind {
+            // the sign takes a bit, and no digit is left out
+            Kind::X87 => beside.saturating_sub(1),
+            _ => beside,
+        }
     }
 }
 

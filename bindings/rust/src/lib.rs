@@ -13,6 +13,7 @@ mod settings;
 mod table;
 mod totals;
 mod value;
+mod x87;
 
 pub use format::{Format, Kind};
 pub use page::Page;
@@ -22,20 +23,22 @@ pub use refusal::{List, Refusal};
 pub use settings::{NanPropagation, Rounding, Settings, Summand, Tininess};
 pub use table::Table;
 pub use totals::Totals;
-pub use value::{Float, Value};
+pub use value::{Float, Value, Word};
+pub use x87::X87;
 
 /// The most elements of a list, cells of a table, amounts of a range and values of a page.
 const MOST_ELEMENTS: usize = 1 << 28;
 
 /// The exact sum of the values, rounded once to the nearest, ties to even.
 ///
-/// A list of `f64` is read where it lies; one of `f32` is copied first, eight bytes a value.
+/// A list of `f64` or [`X87`] is read where it lies; one of `f32` is copied first, eight bytes a value.
 ///
 /// # Errors
 ///
 /// [`Refusal::TooManyElements`] where there are more than 268,435,456 values.
 ///
-/// Proved: `sum-exact`, `sum-entry-order` in `crates/totals_spec/proofs/Promises.antt`.
+/// Proved: `sum-exact`, `sum-entry-order`, and of [`X87`] `extended-exact`, `extended-call-order`, in
+/// `crates/totals_spec/proofs/Promises.antt`.
 ///
 /// ```
 /// use fermuzhai::sum;
@@ -45,6 +48,20 @@ const MOST_ELEMENTS: usize = 1 << 28;
 /// assert_eq!(sum(&[1e100, 1.0, -1e100])?.result, 1.0);
 /// # Ok::<(), fermuzhai::Refusal>(())
 /// ```
+///
+/// Of finite values whose total is neither zero nor NaN, the negated list has the negated total, with the same flags and passes. [`Totals::sum`]
+/// says how it is under other roundings.
+///
+/// ```
+/// use fermuzhai::sum;
+///
+/// let (total, negated) = (sum(&[0.1, 0.2])?, sum(&[-0.1, -0.2])?);
+/// assert_eq!(negated.result, -total.result);
+/// assert_eq!((negated.flags, negated.passes), (total.flags, total.passes));
+/// # Ok::<(), fermuzhai::Refusal>(())
+/// ```
+///
+/// Proved: `sum-mirror`, in the same file.
 pub fn sum<T: Float>(values: &[T]) -> Result<Record<T>, Refusal> {
     Totals::new().sum(values)
 }
@@ -55,7 +72,8 @@ pub fn sum<T: Float>(values: &[T]) -> Result<Record<T>, Refusal> {
 ///
 /// [`Refusal::TooManyElements`] where there are more than 268,435,456 values.
 ///
-/// Proved: `sum-exact`, `sum-entry-order` in `crates/totals_spec/proofs/Promises.antt`.
+/// Proved: `sum-exact`, `sum-entry-order`, and of [`X87`] `extended-exact`, `extended-call-order`, in
+/// `crates/totals_spec/proofs/Promises.antt`.
 ///
 /// ```
 /// assert_eq!(fermuzhai::magnitude_sum(&[1.5, -2.0])?.result, 3.5);
@@ -71,12 +89,25 @@ pub fn magnitude_sum<T: Float>(values: &[T]) -> Result<Record<T>, Refusal> {
 ///
 /// [`Refusal::TooManyElements`] where there are more than 268,435,456 values.
 ///
-/// Proved: `sum-exact`, `sum-entry-order` in `crates/totals_spec/proofs/Promises.antt`.
+/// Proved: `sum-exact`, `sum-entry-order`, and of [`X87`] `extended-exact`, `extended-call-order`, in
+/// `crates/totals_spec/proofs/Promises.antt`.
 ///
 /// ```
 /// assert_eq!(fermuzhai::square_sum(&[3.0, -4.0])?.result, 25.0);
 /// # Ok::<(), fermuzhai::Refusal>(())
 /// ```
+///
+/// Without a NaN it is the dot product of the list with itself, record for record:
+///
+/// ```
+/// use fermuzhai::{dot, square_sum};
+///
+/// let list = [0.1, -0.2, f64::NEG_INFINITY];
+/// assert_eq!(square_sum(&list)?, dot(&list, &list)?);
+/// # Ok::<(), fermuzhai::Refusal>(())
+/// ```
+///
+/// Proved: `square-dot`, in the same file.
 pub fn square_sum<T: Float>(values: &[T]) -> Result<Record<T>, Refusal> {
     Totals::new().square_sum(values)
 }
@@ -88,7 +119,8 @@ pub fn square_sum<T: Float>(values: &[T]) -> Result<Record<T>, Refusal> {
 /// [`Refusal::DifferentLengths`] where the lists have two lengths, else
 /// [`Refusal::TooManyElements`] where there are more than 268,435,456 pairs.
 ///
-/// Proved: `dot-exact`, `dot-entry-order` in `crates/totals_spec/proofs/Promises.antt`.
+/// Proved: `dot-exact`, `dot-entry-order`, and of [`X87`] `extended-exact`, `extended-call-order`, in
+/// `crates/totals_spec/proofs/Promises.antt`.
 ///
 /// ```
 /// let (left, right) = ([1e200, 3.0, -1e200], [1e200, 0.5, 1e200]);
@@ -128,7 +160,7 @@ pub fn dot<T: Float>(left: &[T], right: &[T]) -> Result<Record<T>, Refusal> {
 /// assert_eq!(pence(&[1.0, f64::NAN]), Err(Refusal::NoPence));
 /// # Ok::<(), fermuzhai::Refusal>(())
 /// ```
-pub fn pence<T: Float>(values: &[T]) -> Result<i64, Refusal> {
+pub fn pence<T: Float + Word>(values: &[T]) -> Result<i64, Refusal> {
     Totals::new().pence(values)
 }
 
@@ -164,6 +196,10 @@ pub fn pence<T: Float>(values: &[T]) -> Result<i64, Refusal> {
 /// assert_eq!(table(&cells, 3, 3), Err(Refusal::BadShape));
 /// # Ok::<(), fermuzhai::Refusal>(())
 /// ```
-pub fn table<T: Float>(cells: &[T], rows: usize, columns: usize) -> Result<Table<T>, Refusal> {
+pub fn table<T: Float + Word>(
+    cells: &[T],
+    rows: usize,
+    columns: usize,
+) -> Result<Table<T>, Refusal> {
     Totals::new().table(cells, rows, columns)
 }

@@ -2,7 +2,7 @@ use alloc::vec;
 use alloc::vec::Vec;
 use core::ops::{Bound, RangeBounds};
 
-use crate::value::sealed::Value as _;
+use crate::value::sealed::Word as _;
 use crate::{raw, Record, Refusal, Settings, Summand, Totals, MOST_ELEMENTS};
 
 /// The most values of a page with a short trailer.

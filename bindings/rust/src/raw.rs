@@ -174,6 +174,9 @@ mod entry {
 /// Returns 0 and writes bytes 0 to 23 of the answer, or returns a refusal's code, which
 /// [`Refusal::from_code`](crate::Refusal::from_code) reads, and writes nothing.
 ///
+/// Of kind 4, `[4, 15, 80]`, a value takes ten bytes and the answer 32: the result in 0..9, the flags
+/// in 10, the side in 11, zeros, the passes in 24..31.
+///
 /// Proved: the contract of `totals_sum` in `crates/totals/src/entry.rt`.
 ///
 /// ```
@@ -183,6 +186,11 @@ mod entry {
 /// let values = raw::bytes(&[1.0f64.to_bits(), 0.25f64.to_bits()]);
 /// assert_eq!(raw::sum([0, 11, 64], [0; 8], 0, &values, &mut answer), 0);
 /// assert_eq!(answer[..8], 1.25f64.to_le_bytes());
+///
+/// let (mut answer, one) = ([7; 33], b"\0\0\0\0\0\0\0\x80\xff\x3f");
+/// assert_eq!(raw::sum([4, 15, 80], [0; 8], 0, one, &mut answer), 0);
+/// assert_eq!(answer[..10], one[..]);
+/// assert_eq!(answer[24..], [1, 0, 0, 0, 0, 0, 0, 0, 7]);
 /// ```
 #[must_use = "the answer is written only where 0 is returned"]
 pub fn sum(f: Format, c: Settings, summand: u64, values: &[u8], answer: &mut [u8]) -> u64 {
@@ -249,7 +257,7 @@ pub fn dot(f: Format, c: Settings, left: &[u8], right: &[u8], answer: &mut [u8])
 }
 
 /// [`sum`] in a format that names its bias, from −268,435,456 to 268,435,456. One outside is
-/// refused with 3.
+/// refused with 3, and so is any of kind 4.
 ///
 /// Proved: the contract of `totals_sum_biased` in `crates/totals/src/entry.rt`; `named-own` in
 /// `crates/totals_spec/proofs/Promises.antt`: naming the kind's own bias is the same as naming none.

@@ -21,7 +21,8 @@ pub struct Flags(u8);
 impl Flags {
     /// No flag.
     pub const NONE: Self = Self(0);
-    /// A signaling NaN, infinities of both signs, or an infinity times zero.
+    /// A signaling NaN, infinities of both signs, an infinity times zero, or an
+    /// [`X87`](crate::X87) that is unsupported.
     pub const INVALID: Self = Self(1);
     /// The sum is too large for the format.
     pub const OVERFLOW: Self = Self(4);
@@ -171,7 +172,7 @@ pub enum Side {
 }
 
 impl Side {
-    /// The side of byte 10 of an answer.
+    /// The side of an answer's byte.
     pub(crate) const fn from_byte(byte: u8) -> Self {
         match byte {
             0 => Self::Equal,
@@ -184,8 +185,8 @@ impl Side {
 
 /// An accepted total: the result with its flags, the passes that it took, and which way it leans.
 ///
-/// It is shown as `result, flags FLAGS, passes N`: a float in decimal, by the precision that is asked for; an encoding in
-/// hexadecimal.
+/// It is shown as `result, flags FLAGS, passes N`: a float in decimal, by the precision that is asked for; an encoding, and
+/// an [`X87`](crate::X87), in hexadecimal.
 ///
 /// ```
 /// use fermuzhai::{sum, Format, Totals};

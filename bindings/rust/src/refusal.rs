@@ -27,7 +27,7 @@ impl Display for OfList {
 /// order is given, but that of a table 9 and 10 come before 7, and of a page 12 and 13 before 4. The
 /// numbers and their conditions stand in `docs/SPECIFICATION.md` of the repository.
 ///
-/// Proved: `sum-refusal`, `dot-refusal`, `sum-pence-refused-exactly`, `table-refused-exactly`,
+/// Proved: `sum-refusal`, `dot-refusal`, `extended-call-refused-exactly`, `sum-pence-refused-exactly`, `table-refused-exactly`,
 /// `range-refused-exactly`, `page-refused-exactly`, `page-span-refused-exactly` in
 /// `crates/totals_spec/proofs/Promises.antt`.
 ///
@@ -41,17 +41,17 @@ impl Display for OfList {
 #[derive(Clone, Copy, Debug, PartialEq, Eq, Hash)]
 #[non_exhaustive]
 pub enum Refusal {
-    /// 1: a list of bytes whose length is not a multiple of 8.
+    /// 1: a list of bytes whose length is not a multiple of 8, or, of [`X87`](crate::X87), of 10.
     UnevenLength {
         /// Which list of a dot, the left one where both are; `None` in a sum, and from
         /// [`Refusal::from_code`].
         list: Option<List>,
     },
     /// 2: a destination that is shorter than the page would be. Through [`raw`](crate::raw) also an
-    /// answer buffer under 24 bytes, or of a range a pair under two words.
+    /// answer buffer under 24 bytes, of [`X87`](crate::X87) under 32, or of a range a pair under two words.
     ShortBuffer,
     /// 3: the library has no such format, or the format names a bias outside −268,435,456 to
-    /// 268,435,456.
+    /// 268,435,456; or it is [`Format::EXTENDED`](crate::Format::EXTENDED), of encodings in words.
     NoSuchFormat,
     /// 4: a precision above the format's digits.
     PrecisionOutOfRange {
@@ -143,12 +143,12 @@ impl Display for Refusal {
             Self::UnevenLength { list } => {
                 write!(
                     out,
-                    "the length{} in bytes is not a multiple of 8",
+                    "the length{} in bytes is not a multiple of 8, or of 10 for X87",
                     OfList(*list)
                 )
             }
             Self::ShortBuffer => out.write_str(
-                "the destination is shorter than the page, the answer buffer has fewer than 24 bytes, or the pair fewer than two words",
+                "the destination is shorter than the page, the answer buffer has fewer than 24 bytes, or 32 for X87, or the pair fewer than two words",
             ),
             Self::NoSuchFormat => out.write_str(
                 "there is no such format, or the bias that it names is out of its range",
@@ -228,17 +228,17 @@ mod tests {
         for (refusal, words) in [
             (
                 Refusal::UnevenLength { list: None },
-                "the length in bytes is not a multiple of 8",
+                "the length in bytes is not a multiple of 8, or of 10 for X87",
             ),
             (
                 Refusal::UnevenLength {
                     list: Some(List::Right),
                 },
-                "the length of the right list in bytes is not a multiple of 8",
+                "the length of the right list in bytes is not a multiple of 8, or of 10 for X87",
             ),
             (
                 Refusal::ShortBuffer,
-                "the destination is shorter than the page, the answer buffer has fewer than 24 bytes, or the pair fewer than two words",
+                "the destination is shorter than the page, the answer buffer has fewer than 24 bytes, or 32 for X87, or the pair fewer than two words",
             ),
             (
                 Refusal::NoSuchFormat,

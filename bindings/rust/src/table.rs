@@ -1,6 +1,6 @@
 use alloc::vec::Vec;
 
-use crate::{Record, Value};
+use crate::{Record, Word};
 
 /// The totals of an accepted table: of each row and of each column the result, of all cells the
 /// record.
@@ -25,7 +25,7 @@ pub struct Table<T> {
     pub grand: Record<T>,
 }
 
-impl<T: Value> PartialEq for Table<T> {
+impl<T: Word> PartialEq for Table<T> {
     fn eq(&self, other: &Self) -> bool {
         T::encodings(&self.rows) == T::encodings(&other.rows)
             && T::encodings(&self.columns) == T::encodings(&other.columns)
@@ -33,7 +33,7 @@ impl<T: Value> PartialEq for Table<T> {
     }
 }
 
-impl<T: Value> Eq for Table<T> {}
+impl<T: Word> Eq for Table<T> {}
 
 #[cfg(test)]
 mod tests {

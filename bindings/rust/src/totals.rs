@@ -3,7 +3,7 @@ use core::marker::PhantomData;
 use core::ops::RangeBounds;
 
 use crate::{
-    raw, Flags, Float, Format, List, Page, Record, Refusal, Settings, Side, Summand, Table, Value,
+    raw, Float, Format, Kind, List, Page, Record, Refusal, Settings, Summand, Table, Value, Word,
 };
 
 /// The most rows, or columns, that [`Totals::table`] makes room for where there are no cells. A table
@@ -13,7 +13,8 @@ const MOST_EMPTY: usize = 1 << 20;
 /// The four totals in one format and under one choice of settings; the sums of the rows and columns
 /// of a table; those of a span of a page; and the pence of a sum, in which settings play no part.
 ///
-/// [`Totals::new`] is for the floats of Rust, [`Totals::of`] for encodings of any format.
+/// [`Totals::new`] is for the floats of Rust and for [`X87`](crate::X87), which has the four totals
+/// alone; [`Totals::of`] is for encodings of any other format.
 ///
 /// ```
 /// use fermuzhai::{Format, Rounding, Settings, Totals};
@@ -36,7 +37,7 @@ pub struct Totals<T> {
 }
 
 impl<T: Float> Totals<T> {
-    /// Totals of `f64` or `f32`, with the settings of [`Settings::new`].
+    /// Totals of `f64`, `f32` or [`X87`](crate::X87), with the settings of [`Settings::new`].
     #[must_use]
     pub const fn new() -> Self {
         Self {
@@ -137,7 +138,24 @@ impl<T: Value> Totals<T> {
     /// - [`Refusal::TooManyElements`], of more than 268,435,456 values
     /// - [`Refusal::StrayBit`], of an encoding that is wider than the format
     ///
-    /// Proved: `sum-exact`, `sum-entry-order` in `crates/totals_spec/proofs/Promises.antt`.
+    /// Of finite values, negating each of them and exchanging the two directed roundings gives the negated result with the same flags and
+    /// passes, and the other side, provided that the result is neither zero nor NaN. [`Kind::Fnuz`](crate::Kind::Fnuz)'s zero is its own
+    /// negative.
+    ///
+    /// ```
+    /// use fermuzhai::{Rounding, Settings, Side, Totals};
+    ///
+    /// let toward = |rounding| Totals::<f64>::new().with_settings(Settings::new().with_rounding(rounding));
+    /// let up = toward(Rounding::TowardPositive).sum(&[1.0, 1e-40])?;
+    /// let down = toward(Rounding::TowardNegative).sum(&[-1.0, -1e-40])?;
+    /// assert_eq!(down.result, -up.result);
+    /// assert_eq!((down.flags, down.passes), (up.flags, up.passes));
+    /// assert_eq!((up.side, down.side), (Side::Above, Side::Below));
+    /// # Ok::<(), fermuzhai::Refusal>(())
+    /// ```
+    ///
+    /// Proved: `sum-exact`, `sum-entry-order`, `sum-mirror`, and of [`X87`](crate::X87) `extended-exact`,
+    /// `extended-call-order`, `extended-mirror`, in `crates/totals_spec/proofs/Promises.antt`.
     pub fn sum(&self, values: &[T]) -> Result<Record<T>, Refusal> {
         self.sum_of(Summand::Value, values)
     }
@@ -148,7 +166,8 @@ impl<T: Value> Totals<T> {
     ///
     /// Those of [`Totals::sum`].
     ///
-    /// Proved: `sum-exact`, `sum-entry-order` in `crates/totals_spec/proofs/Promises.antt`.
+    /// Proved: `sum-exact`, `sum-entry-order`, and of [`X87`](crate::X87) `extended-exact`,
+    /// `extended-call-order`, in `crates/totals_spec/proofs/Promises.antt`.
     pub fn magnitude_sum(&self, values: &[T]) -> Result<Record<T>, Refusal> {
         self.sum_of(Summand::Magnitude, values)
     }
@@ -159,7 +178,10 @@ impl<T: Value> Totals<T> {
     ///
     /// Those of [`Totals::sum`].
     ///
-    /// Proved: `sum-exact`, `sum-entry-order` in `crates/totals_spec/proofs/Promises.antt`.
+    /// Without a NaN it is the dot product of the list with itself, record for record.
+    ///
+    /// Proved: `sum-exact`, `sum-entry-order`, `square-dot`, and of [`X87`](crate::X87) `extended-exact`,
+    /// `extended-call-order`, in `crates/totals_spec/proofs/Promises.antt`.
     pub fn square_sum(&self, values: &[T]) -> Result<Record<T>, Refusal> {
         self.sum_of(Summand::Square, values)
     }
@@ -171,11 +193,147 @@ impl<T: Value> Totals<T> {
     /// Those of [`Totals::sum`], and after the precision [`Refusal::DifferentLengths`], of lists of
     /// two lengths.
     ///
-    /// Proved: `dot-exact`, `dot-entry-order` in `crates/totals_spec/proofs/Promises.antt`.
+    /// Of finite values, negating those of the left list and exchanging the two directed roundings gives the negated record, as of a sum.
+    ///
+    /// ```
+    /// use fermuzhai::{Format, Totals};
+    ///
+    /// // 1 × 3 + 2 × 3, and −1 × 3 − 2 × 3, in half precision
+    /// let halves = Totals::of(Format::BINARY16);
+    /// assert_eq!(halves.dot(&[0x3c00, 0x4000], &[0x4200, 0x4200])?.result, 0x4880);
+    /// assert_eq!(halves.dot(&[0xbc00, 0xc000], &[0x4200, 0x4200])?.result, 0xc880);
+    /// # Ok::<(), fermuzhai::Refusal>(())
+    /// ```
+    ///
+    /// Proved: `dot-exact`, `dot-entry-order`, `dot-mirror`, and of [`X87`](crate::X87) `extended-exact`,
+    /// `extended-call-order`, `extended-mirror`, in `crates/totals_spec/proofs/Promises.antt`.
     pub fn dot(&self, left: &[T], right: &[T]) -> Result<Record<T>, Refusal> {
         self.dot_bytes(&T::bytes(left), &T::bytes(right))
     }
 
+    /// One of the three sums, chosen by its summand.
+    ///
+    /// # Errors
+    ///
+    /// Those of [`Totals::sum`].
+    ///
+    /// Proved: `sum-exact`, `sum-entry-order`, and of [`X87`](crate::X87) `extended-exact`,
+    /// `extended-call-order`, in `crates/totals_spec/proofs/Promises.antt`.
+    pub fn sum_of(&self, summand: Summand, values: &[T]) -> Result<Record<T>, Refusal> {
+        self.sum_bytes(summand, &T::bytes(values))
+    }
+
+    /// One of the three sums, of values in bytes: eight a value, or ten of [`X87`](crate::X87), the
+    /// least byte first.
+    ///
+    /// # Errors
+    ///
+    /// [`Refusal::UnevenLength`], of a length that is not a multiple of 8, or of 10; else those of
+    /// [`Totals::sum`].
+    ///
+    /// Proved: `sum-exact`, `sum-entry-order`, and of [`X87`](crate::X87) `extended-exact`,
+    /// `extended-call-order`, in `crates/totals_spec/proofs/Promises.antt`.
+    ///
+    /// ```
+    /// use fermuzhai::{Refusal, Summand, Totals};
+    ///
+    /// let file = [0, 0, 0, 0, 0, 0, 0xf0, 0x3f, 0, 0, 0, 0, 0, 0, 0xd0, 0x3f];
+    /// let totals = Totals::<f64>::new();
+    /// assert_eq!(totals.sum_bytes(Summand::Value, &file)?.result, 1.25);
+    /// let cut = totals.sum_bytes(Summand::Value, &file[..15]);
+    /// assert_eq!(cut, Err(Refusal::UnevenLength { list: None }));
+    /// # Ok::<(), fermuzhai::Refusal>(())
+    /// ```
+    pub fn sum_bytes(&self, summand: Summand, values: &[u8]) -> Result<Record<T>, Refusal> {
+        let summand = summand as u64;
+        self.answer(|f, c, answer| match self.format.named_bias {
+            None => raw::sum(f, c, summand, values, answer),
+            Some(bias) => raw::sum_biased(f, bias, c, summand, values, answer),
+        })
+        .map_err(|refusal| self.with_setting(refusal))
+    }
+
+    /// The dot product of values in bytes: eight a value, or ten of [`X87`](crate::X87), the least
+    /// byte first.
+    ///
+    /// # Errors
+    ///
+    /// [`Refusal::UnevenLength`], of a length that is not a multiple of 8, or of 10; else those of
+    /// [`Totals::dot`].
+    ///
+    /// Proved: `dot-exact`, `dot-entry-order`, and of [`X87`](crate::X87) `extended-exact`,
+    /// `extended-call-order`, in `crates/totals_spec/proofs/Promises.antt`.
+    pub fn dot_bytes(&self, left: &[u8], right: &[u8]) -> Result<Record<T>, Refusal> {
+        self.answer(|f, c, answer| match self.format.named_bias {
+            None => raw::dot(f, c, left, right, answer),
+            Some(bias) => raw::dot_biased(f, bias, c, left, right, answer),
+        })
+        .map_err(|refusal| self.with_list(self.with_setting(refusal), left))
+    }
+
+    /// Lends an entry the bytes of an answer and reads what it leaves there.
+    fn answer(
+        &self,
+        entry: impl FnOnce(raw::Format, raw::Settings, &mut [u8]) -> u64,
+    ) -> Result<Record<T>, Refusal> {
+        if self.format.kind == Kind::X87 && T::SIZE == 8 {
+            // its values take ten bytes, so no list of words has any
+            return Err(Refusal::NoSuchFormat);
+        }
+        let mut answer = [[0; 8]; 4];
+        let code = entry(
+            self.format.into(),
+            self.settings.into(),
+            &mut answer.as_flattened_mut()[..T::ANSWER],
+        );
+        match Refusal::from_code(code) {
+            Some(refusal) => Err(refusal),
+            None => Ok(T::record(&answer)),
+        }
+    }
+
+    /// Says which setting is out of its range. In the types of this crate that can be the precision
+    /// alone.
+    fn with_setting(&self, refusal: Refusal) -> Refusal {
+        match (refusal, self.settings.precision) {
+            (Refusal::SettingOutOfRange, Some(precision)) => Refusal::PrecisionOutOfRange {
+                precision: precision.get(),
+                digits: self.format.digits(),
+            },
+            _ => refusal,
+        }
+    }
+
+    /// Says which list of a dot is refused: the left one where that is at fault, else the right.
+    fn with_list(&self, refusal: Refusal, left: &[u8]) -> Refusal {
+        let which = |left_is: bool| Some(if left_is { List::Left } else { List::Right });
+        match refusal {
+            Refusal::UnevenLength { .. } => Refusal::UnevenLength {
+                list: which(left.len() % T::SIZE != 0),
+            },
+            Refusal::StrayBit { place, .. } => Refusal::StrayBit {
+                place,
+                list: which(self.is_stray(left, place)),
+            },
+            _ => refusal,
+        }
+    }
+
+    /// Whether the value at an index has a set bit at the format's width or above.
+    fn is_stray(&self, values: &[u8], place: usize) -> bool {
+        let word = values.chunks_exact(8).nth(place).map(|bytes| {
+            bytes
+                .iter()
+                .rev()
+                .fold(0, |word: u64, &byte| word << 8 | u64::from(byte))
+        });
+        word.and_then(|word| word.checked_shr(self.format.width.into()))
+            .is_some_and(|above| above != 0)
+    }
+}
+
+/// Pence and tables are taken of words.
+impl<T: Word> Totals<T> {
     /// The pence of the list: a hundred times the exact sum of its values, to the nearest whole
     /// number, a half away from zero.
     ///
@@ -324,122 +482,5 @@ impl<T: Value> Totals<T> {
             })
         })
         .map_err(|refusal| self.with_setting(refusal))
-    }
-
-    /// One of the three sums, chosen by its summand.
-    ///
-    /// # Errors
-    ///
-    /// Those of [`Totals::sum`].
-    ///
-    /// Proved: `sum-exact`, `sum-entry-order` in `crates/totals_spec/proofs/Promises.antt`.
-    pub fn sum_of(&self, summand: Summand, values: &[T]) -> Result<Record<T>, Refusal> {
-        self.sum_bytes(summand, &T::bytes(values))
-    }
-
-    /// One of the three sums, of values in bytes: eight a value, the least byte first.
-    ///
-    /// # Errors
-    ///
-    /// [`Refusal::UnevenLength`], of a length that is not a multiple of 8; else those of
-    /// [`Totals::sum`].
-    ///
-    /// Proved: `sum-exact`, `sum-entry-order` in `crates/totals_spec/proofs/Promises.antt`.
-    ///
-    /// ```
-    /// use fermuzhai::{Refusal, Summand, Totals};
-    ///
-    /// let file = [0, 0, 0, 0, 0, 0, 0xf0, 0x3f, 0, 0, 0, 0, 0, 0, 0xd0, 0x3f];
-    /// let totals = Totals::<f64>::new();
-    /// assert_eq!(totals.sum_bytes(Summand::Value, &file)?.result, 1.25);
-    /// let cut = totals.sum_bytes(Summand::Value, &file[..15]);
-    /// assert_eq!(cut, Err(Refusal::UnevenLength { list: None }));
-    /// # Ok::<(), fermuzhai::Refusal>(())
-    /// ```
-    pub fn sum_bytes(&self, summand: Summand, values: &[u8]) -> Result<Record<T>, Refusal> {
-        let summand = summand as u64;
-        self.answer(|f, c, answer| match self.format.named_bias {
-            None => raw::sum(f, c, summand, values, answer),
-            Some(bias) => raw::sum_biased(f, bias, c, summand, values, answer),
-        })
-        .map_err(|refusal| self.with_setting(refusal))
-    }
-
-    /// The dot product of values in bytes: eight a value, the least byte first.
-    ///
-    /// # Errors
-    ///
-    /// [`Refusal::UnevenLength`], of a length that is not a multiple of 8; else those of
-    /// [`Totals::dot`].
-    ///
-    /// Proved: `dot-exact`, `dot-entry-order` in `crates/totals_spec/proofs/Promises.antt`.
-    pub fn dot_bytes(&self, left: &[u8], right: &[u8]) -> Result<Record<T>, Refusal> {
-        self.answer(|f, c, answer| match self.format.named_bias {
-            None => raw::dot(f, c, left, right, answer),
-            Some(bias) => raw::dot_biased(f, bias, c, left, right, answer),
-        })
-        .map_err(|refusal| self.with_list(self.with_setting(refusal), left))
-    }
-
-    /// Lends an entry 24 bytes and reads what it leaves there.
-    fn answer(
-        &self,
-        entry: impl FnOnce(raw::Format, raw::Settings, &mut [u8]) -> u64,
-    ) -> Result<Record<T>, Refusal> {
-        let mut answer = [[0; 8]; 3];
-        let code = entry(
-            self.format.into(),
-            self.settings.into(),
-            answer.as_flattened_mut(),
-        );
-        if let Some(refusal) = Refusal::from_code(code) {
-            return Err(refusal);
-        }
-        let [result, [flags, _, side, ..], passes] = answer;
-        Ok(Record {
-            result: T::from_encoding(u64::from_le_bytes(result)),
-            flags: Flags::from_bits(flags),
-            passes: u64::from_le_bytes(passes),
-            side: Side::from_byte(side),
-        })
-    }
-
-    /// Says which setting is out of its range. In the types of this crate that can be the precision
-    /// alone.
-    fn with_setting(&self, refusal: Refusal) -> Refusal {
-        match (refusal, self.settings.precision) {
-            (Refusal::SettingOutOfRange, Some(precision)) => Refusal::PrecisionOutOfRange {
-                precision: precision.get(),
-                digits: self.format.digits(),
-            },
-            _ => refusal,
-        }
-    }
-
-    /// Says which list of a dot is refused: the left one where that is at fault, else the right.
-    fn with_list(&self, refusal: Refusal, left: &[u8]) -> Refusal {
-        let which = |left_is: bool| Some(if left_is { List::Left } else { List::Right });
-        match refusal {
-            Refusal::UnevenLength { .. } => Refusal::UnevenLength {
-                list: which(left.len() % 8 != 0),
-            },
-            Refusal::StrayBit { place, .. } => Refusal::StrayBit {
-                place,
-                list: which(self.is_stray(left, place)),
-            },
-            _ => refusal,
-        }
-    }
-
-    /// Whether the value at an index has a set bit at the format's width or above.
-    fn is_stray(&self, values: &[u8], place: usize) -> bool {
-        let word = values.chunks_exact(8).nth(place).map(|bytes| {
-            bytes
-                .iter()
-                .rev()
-                .fold(0, |word: u64, &byte| word << 8 | u64::from(byte))
-        });
-        word.and_then(|word| word.checked_shr(self.format.width.into()))
-            .is_some_and(|above| above != 0)
     }
 }

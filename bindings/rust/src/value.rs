@@ -1,12 +1,12 @@
-use crate::Format;
+use crate::{Format, X87};
 
-/// What a list holds: `f64`, `f32`, or `u64` for encodings of a format that
+/// What a list holds: `f64`, `f32`, [`X87`], or `u64` for encodings of a format that
 /// [`Totals::of`](crate::Totals::of) names.
 ///
 /// Sealed: no other type can have it.
 pub trait Value: sealed::Value {}
 
-/// A float of Rust, which has a format of its own.
+/// A value that has a format of its own: `f64`, `f32` or [`X87`].
 ///
 /// Sealed: no other type can have it.
 pub trait Float: Value {
@@ -14,9 +14,20 @@ pub trait Float: Value {
     const FORMAT: Format;
 }
 
+/// A value of which pence and tables are taken: its encoding fits a word of 64 bits, as that of each
+/// does but of [`X87`].
+///
+/// Sealed: no other type can have it.
+pub trait Word: Value + sealed::Word {}
+
 impl Value for u64 {}
 impl Value for f64 {}
 impl Value for f32 {}
+impl Value for X87 {}
+
+impl Word for u64 {}
+impl Word for f64 {}
+impl Word for f32 {}
 
 impl Float for f64 {
     const FORMAT: Format = Format::BINARY64;
@@ -26,20 +37,40 @@ impl Float for f32 {
     const FORMAT: Format = Format::BINARY32;
 }
 
+impl Float for X87 {
+    const FORMAT: Format = Format::EXTENDED;
+}
+
 pub(crate) mod sealed {
     use alloc::borrow::Cow;
     use alloc::vec::Vec;
     use core::fmt::{self, Display, Formatter, LowerHex};
+    use core::hash::Hash;
+
+    use crate::{Flags, Record, Side, X87};
 
     pub trait Value: Copy {
-        fn encoding(self) -> u64;
-        fn from_encoding(encoding: u64) -> Self;
+        /// What two equal values have in common, bit for bit.
+        type Encoding: Eq + Hash;
+
+        /// The bytes of a value, as the byte entries read it.
+        const SIZE: usize = 8;
+
+        /// The bytes of an answer.
+        const ANSWER: usize = 24;
+
+        fn encoding(self) -> Self::Encoding;
         fn show(&self, out: &mut Formatter<'_>) -> fmt::Result;
 
-        /// The encodings as the byte entries read them: eight bytes a value, the least byte first.
-        fn bytes(values: &[Self]) -> Cow<'_, [u8]> {
-            Cow::Owned(copied(values))
-        }
+        /// The encodings as the byte entries read them, the least byte of each first.
+        fn bytes(values: &[Self]) -> Cow<'_, [u8]>;
+
+        /// The record that an accepted call left in the first bytes of an answer.
+        fn record(answer: &[[u8; 8]; 4]) -> Record<Self>;
+    }
+
+    pub trait Word: Value<Encoding = u64> {
+        fn from_encoding(encoding: u64) -> Self;
 
         /// The encodings, one to a word.
         fn encodings(values: &[Self]) -> Cow<'_, [u64]> {
@@ -58,12 +89,10 @@ pub(crate) mod sealed {
     }
 
     impl Value for u64 {
+        type Encoding = u64;
+
         fn encoding(self) -> u64 {
             self
-        }
-
-        fn from_encoding(encoding: u64) -> Self {
-            encoding
         }
 
         fn show(&self, out: &mut Formatter<'_>) -> fmt::Result {
@@ -73,6 +102,16 @@ pub(crate) mod sealed {
 
         fn bytes(values: &[Self]) -> Cow<'_, [u8]> {
             words(values)
+        }
+
+        fn record(answer: &[[u8; 8]; 4]) -> Record<Self> {
+            word_record(answer)
+        }
+    }
+
+    impl Word for u64 {
+        fn from_encoding(encoding: u64) -> Self {
+            encoding
         }
 
         fn encodings(values: &[Self]) -> Cow<'_, [u64]> {
@@ -85,12 +124,10 @@ pub(crate) mod sealed {
     }
 
     impl Value for f64 {
+        type Encoding = u64;
+
         fn encoding(self) -> u64 {
             self.to_bits()
-        }
-
-        fn from_encoding(encoding: u64) -> Self {
-            Self::from_bits(encoding)
         }
 
         fn show(&self, out: &mut Formatter<'_>) -> fmt::Result {
@@ -99,6 +136,16 @@ pub(crate) mod sealed {
 
         fn bytes(values: &[Self]) -> Cow<'_, [u8]> {
             words(values)
+        }
+
+        fn record(answer: &[[u8; 8]; 4]) -> Record<Self> {
+            word_record(answer)
+        }
+    }
+
+    impl Word for f64 {
+        fn from_encoding(encoding: u64) -> Self {
+            Self::from_bits(encoding)
         }
 
         /// The list itself, with nothing copied: in memory a float is its encoding, in whatever
@@ -116,7 +163,7 @@ pub(crate) mod sealed {
             })
         }
 
-        /// As in [`Value::encodings`]: the list itself.
+        /// As in [`Word::encodings`]: the list itself.
         fn lend<R>(values: &mut [Self], call: impl FnOnce(&mut [u64]) -> R) -> R {
             // SAFETY: as there. The slice is borrowed for writing as long as the words are, and a
             // float, too, may have any bits.
@@ -127,21 +174,78 @@ pub(crate) mod sealed {
     }
 
     impl Value for f32 {
+        type Encoding = u64;
+
         fn encoding(self) -> u64 {
             self.to_bits().into()
-        }
-
-        /// An encoding of binary32 has its upper half clear.
-        fn from_encoding(encoding: u64) -> Self {
-            Self::from_bits(encoding as u32)
         }
 
         fn show(&self, out: &mut Formatter<'_>) -> fmt::Result {
             Display::fmt(self, out)
         }
+
+        fn bytes(values: &[Self]) -> Cow<'_, [u8]> {
+            Cow::Owned(copied(values))
+        }
+
+        fn record(answer: &[[u8; 8]; 4]) -> Record<Self> {
+            word_record(answer)
+        }
     }
 
-    fn copied<T: Value>(values: &[T]) -> Vec<u8> {
+    impl Word for f32 {
+        /// An encoding of binary32 has its upper half clear.
+        fn from_encoding(encoding: u64) -> Self {
+            Self::from_bits(encoding as u32)
+        }
+    }
+
+    impl Value for X87 {
+        type Encoding = [u8; 10];
+
+        const SIZE: usize = 10;
+
+        const ANSWER: usize = 32;
+
+        fn encoding(self) -> [u8; 10] {
+            self.to_bytes()
+        }
+
+        fn show(&self, out: &mut Formatter<'_>) -> fmt::Result {
+            Display::fmt(self, out)
+        }
+
+        /// The list itself, with nothing copied: a value is its bytes.
+        fn bytes(values: &[Self]) -> Cow<'_, [u8]> {
+            Cow::Borrowed(X87::bytes_of(values))
+        }
+
+        fn record(answer: &[[u8; 8]; 4]) -> Record<Self> {
+            let [significand, [head, sign, flags, side, ..], _, passes] = *answer;
+            Record {
+                result: X87::from_parts(
+                    u16::from_le_bytes([head, sign]),
+                    u64::from_le_bytes(significand),
+                ),
+                flags: Flags::from_bits(flags),
+                passes: u64::from_le_bytes(passes),
+                side: Side::from_byte(side),
+            }
+        }
+    }
+
+    /// The record of an answer of 24 bytes.
+    fn word_record<T: Word>(answer: &[[u8; 8]; 4]) -> Record<T> {
+        let [result, [flags, _, side, ..], passes, _] = *answer;
+        Record {
+            result: T::from_encoding(u64::from_le_bytes(result)),
+            flags: Flags::from_bits(flags),
+            passes: u64::from_le_bytes(passes),
+            side: Side::from_byte(side),
+        }
+    }
+
+    fn copied<T: Word>(values: &[T]) -> Vec<u8> {
         let words: Vec<[u8; 8]> = values.iter().map(|v| v.encoding().to_le_bytes()).collect();
         words.into_flattened()
     }
@@ -151,20 +255,20 @@ pub(crate) mod sealed {
     /// # Safety
     ///
     /// The type has no padding.
-    unsafe trait Word: Value {}
+    unsafe trait Plain: Word {}
 
     // SAFETY: every bit of an integer or a float is a bit of its value.
-    unsafe impl Word for u64 {}
+    unsafe impl Plain for u64 {}
     // SAFETY: as above.
-    unsafe impl Word for f64 {}
+    unsafe impl Plain for f64 {}
 
     /// On a little-endian platform the list itself, with nothing copied.
-    fn words<T: Word>(values: &[T]) -> Cow<'_, [u8]> {
+    fn words<T: Plain>(values: &[T]) -> Cow<'_, [u8]> {
         if cfg!(target_endian = "big") {
             return Cow::Owned(copied(values));
         }
         // SAFETY: the pointer and the size are those of one slice, which stays borrowed as long as
-        // the bytes are. A `Word` has no padding, so each byte has a value, and a `u8` may have any
+        // the bytes are. A `Plain` has no padding, so each byte has a value, and a `u8` may have any
         // value and any address.
         Cow::Borrowed(unsafe {
             core::slice::from_raw_parts(values.as_ptr().cast(), size_of_val(values))
@@ -202,7 +306,7 @@ pub(crate) mod sealed {
         /// The second of three is written; the first is a signaling NaN, and every bit of it stays.
         #[test]
         fn what_is_written_is_kept() {
-            fn written<T: Value>(mut list: [T; 3], encoding: u64) -> [u64; 3] {
+            fn written<T: Word>(mut list: [T; 3], encoding: u64) -> [u64; 3] {
                 let before = list[1].encoding();
                 let given = T::lend(&mut list, |words| {
                     assert_eq!(words.len(), 3);

@@ -178,15 +178,15 @@ fn refusals_of_a_sum() {
     let two = bytes(&[one(1.0), one(2.0)]);
     check_sum_refused(BINARY64, PLAIN, 0, &two[..7], 24, 1, 0);
     check_sum_refused(BINARY64, PLAIN, 0, &two, 23, 2, 0);
-    check_sum_refused([4, 11, 64], PLAIN, 0, &two, 24, 3, 0);
+    check_sum_refused([5, 11, 64], PLAIN, 0, &two, 24, 3, 0);
     check_sum_refused(BINARY64, [8, 0, 0, 0, 0, 0, 0, 0], 0, &two, 24, 4, 0);
     check_sum_refused(BINARY64, [0, 0, 0, 0, 0, 0, 0, 54], 0, &two, 24, 4, 0);
     check_sum_refused(BINARY64, PLAIN, 3, &two, 24, 4, 0);
     check_sum_refused(BINARY16, PLAIN, 0, &bytes(&[1, 1 << 16, 1 << 63]), 24, 7, 1);
     // the lower number comes first
-    check_sum_refused([4, 11, 64], [8; 8], 3, &two[..7], 23, 1, 0);
-    check_sum_refused([4, 11, 64], [8; 8], 3, &two, 23, 2, 0);
-    check_sum_refused([4, 11, 64], [8; 8], 3, &two, 24, 3, 0);
+    check_sum_refused([5, 11, 64], [8; 8], 3, &two[..7], 23, 1, 0);
+    check_sum_refused([5, 11, 64], [8; 8], 3, &two, 23, 2, 0);
+    check_sum_refused([5, 11, 64], [8; 8], 3, &two, 24, 3, 0);
     check_sum_refused(BINARY16, [8; 8], 3, &two, 24, 4, 0);
     check_sum_refused(BINARY64, PLAIN, 0, &[], 0, 2, 0);
 }

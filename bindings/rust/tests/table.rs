@@ -8,7 +8,7 @@ use common::ROUNDINGS;
 use draw::Draw;
 use fermuzhai::{
     raw, sum, table, Float, Format, Kind, NanPropagation, Refusal, Rounding, Settings, Side,
-    Tininess, Totals,
+    Tininess, Totals, Word,
 };
 
 const LIMIT: usize = 1 << 28;
@@ -366,7 +366,7 @@ fn rows_and_columns_are_plain_sums() {
 /// Floats have the totals of their encodings.
 #[test]
 fn floats_are_their_encodings() {
-    fn same<T: Float + std::fmt::Debug>(cells: &[T], encoding: impl Fn(T) -> u64) {
+    fn same<T: Float + Word + std::fmt::Debug>(cells: &[T], encoding: impl Fn(T) -> u64) {
         let encodings: Vec<u64> = cells.iter().map(|&x| encoding(x)).collect();
         let totals = Totals::<T>::new();
         for (rows, columns) in [(4, 6), (1, 24), (24, 1), (8, 3)] {

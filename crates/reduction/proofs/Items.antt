@@ -10,18 +10,23 @@ use lib.Dec.{leb, eqb, eqb·suc-zero}
 use lib.ListN.{length, getD, length-map}
 use Rattle.totals_spec.specs.Format.{Format, kindOf}
 use Rattle.totals_spec.specs.Settings.{Settings, Summand, summandOf}
-use Rattle.totals_spec.specs.Bounds.{FormatBounds, SettingsBounds}
+use Rattle.totals_spec.specs.Bounds.{SettingsBounds}
 use Rattle.totals_spec.specs.Decode.{operand}
 use Rattle.totals_spec.specs.Nan.{selectAll}
 use Rattle.totals_spec.specs.Terms.{Item, nanItem, item, pairItem, terms, topOf}
 use Rattle.totals_spec.specs.Hundredfold.{hundredItem}
-use Rattle.totals_spec.specs.Totals.{limit, pairs, isValue, isSquare, accepted, finiteTotal, sumAccepted, dotAccepted}
+use Rattle.totals_spec.specs.Totals.{Answer, limit, pairs, isValue, isSquare, accepted, finiteTotal, sumAccepted, dotAccepted}
 use Rattle.totals_spec.specs.Settled.{chainTotal}
 use Rattle.totals_spec.specs.Alone.{AllGive}
+use Rattle.totals_spec.specs.Extended.{extended, kind4, withSpread, extendedTerms, extendedSum, extendedDotTerms, extendedDot}
 use Rattle.totals_spec.proofs.Order.{pairs-length}
 use Rattle.totals_spec.proofs.Accepts.{sum-accepts, dot-accepts}
 use Rattle.totals_spec.proofs.Alone.{list-gives, pairs-give}
 use Rattle.totals_spec.proofs.ByChain.{sum-by-chain, dot-by-chain}
+use Rattle.totals_spec.proofs.Extended.{extended-sum-accepts, extended-dot-accepts, extended-by-chain}
+use Rattle.totals_spec.proofs.ExtendedTerms.{extended-top, extended-dot-top}
+use Rattle.totals_spec.proofs.Halves.{supported-record, ieee-give}
+use Rattle.totals_spec.proofs.Tops.{topProduct, sum-top, dot-top}
 use Rattle.arithmetic.specs.declared.Term.{Term}
 use Rattle.arithmetic.specs.Joined.{StandsFor}
 use Rattle.arithmetic.proofs.Elements.{none-stands, no-hundred}
@@ -30,11 +35,12 @@ use Rattle.binary.specs.Joined.{isBlank}
 use Rattle.binary.proofs.Blank.{operand-blank}
 use Rattle.values.specs.declared.Source.{Source}
 use Rattle.values.specs.Sources.{elements}
-use Rattle.values.specs.Walks.{itemsOf, addedBy}
+use Rattle.values.specs.Tens.{tensItems}
+use Rattle.values.specs.Walks.{Known, itemsOf, addedBy}
 use Rattle.values.proofs.Sources.{elements-length}
 use Rattle.scan.specs.Walked.{subnormalIn, signalingIn, operandsIn}
-use Rattle.reduction.specs.Answered.{productsIn, firstIn, Accepted, answerIn}
-use Rattle.reduction.proofs.Loop.{Base, sum-base, dot-base, hundred-base}
+use Rattle.reduction.specs.Answered.{givenAs, productsIn, firstIn, Accepted, answerIn}
+use Rattle.reduction.proofs.Loop.{Base, sum-base, dot-base, hundred-base, tens-base}
 use Rattle.reduction.proofs.Gather.{nothing, nothing-is}
 
 pub mapped : {A B : Type 0} (g : A → B) (l : List A) (i : ℕ) (d : A) (e : B) → i < length l → getD (map g l) i e ≡ g (getD l i d)
@@ -49,16 +55,25 @@ pairs-mapped g l r i e n h = mapped g (pairs l r) i (0, 0) e (rw (pairs-length l
 
 module _ (f : Format) (c : Settings) (u : Summand) (x y : List ℕ) where
   -- what the passes add up, by whether it is of pairs, and by whether it is a hundred times each value
-  pub added-base : {p : ℕ} → p ≤ 64 → FormatBounds f → length y ≡ length x → length x ≤ limit → (b t : Bool) → 0 < topOf (terms (addedBy b t f c u x y))
-      → Base p (terms (addedBy b t f c u x y))
-  added-base d h e n true t g = dot-base d f h c x y e n g
-  added-base d h e n false true g = hundred-base d f h c x n g
-  added-base d h e n false false g = sum-base d f h c u x n g
+  pub added-base : {p : ℕ} → p ≤ 64 → (w : Bool) → Known w f → length y ≡ length x → length x ≤ limit → (b t : Bool)
+      → 0 < topOf (terms (addedBy w b t f c u x y)) → Base p (terms (addedBy w b t f c u x y))
+  added-base d true h e n b t g = tens-base c u x y e d n b g
+  added-base d false h e n true t g = dot-base d f (h .range) c x y e n g
+  added-base d false h e n false true g = hundred-base d f (h .range) c x n g
+  added-base d false h e n false false g = sum-base d f (h .range) c u x n g
 
   -- a format's items are what its kind has
-  pub items-give : (b : Bool) → AllGive (kindOf (f .kind)) (itemsOf b f c u x y)
-  items-give true = pairs-give f c (pairs x y)
-  items-give false = list-gives f c u x
+  pub items-give : (w b : Bool) → Known w f → AllGive (kindOf (f .kind)) (itemsOf w b f c u x y)
+  unfolding extended
+  items-give true b e = subst (λ (g : Format). AllGive (kindOf (g .kind)) (tensItems b c u x y)) (sym e) (ieee-give (tensItems b c u x y))
+  items-give false true h = pairs-give f c (pairs x y)
+  items-give false false h = list-gives f c u x
+
+  pub items-top : (w b : Bool) → Known w f → topOf (terms (itemsOf w b f c u x y)) ≤ topProduct f
+  items-top true true e = subst (λ (g : Format). topOf (extendedDotTerms c x y) ≤ topProduct g) (sym e) (extended-dot-top c (pairs x y))
+  items-top true false e = subst (λ (g : Format). topOf (extendedTerms c u x) ≤ topProduct g) (sym e) (extended-top c u x)
+  items-top false true h = dot-top f c x y
+  items-top false false h = sum-top f c u x
 
 -- ---- the items of a source, of its elements or of the pairs of two lists that it gives
 
@@ -108,24 +123,37 @@ module _ (f : Format) (c : Settings) (s : Source) (lw lb : List ℕ) where
 -- ---- a walk that is accepted
 
 pub record Accepts (f : Format) (c : Settings) (n : ℕ) : Type 0 where
-  pub format : FormatBounds f
   pub settings : SettingsBounds f c
   pub few : n ≤ limit
 
 module _ (f : Format) (c : Settings) (u : ℕ) (x y : List ℕ) where
-  pub accepts : (b : Bool) → Accepted b f c u x y → Accepts f c (length x)
-  accepts true e = let a = dot-accepts f c x y e in record { format = a .format; settings = a .settings; few = a .few }
-  accepts false e = let a = sum-accepts f c u x e in record { format = a .format; settings = a .settings; few = a .few }
+  pub accepts : (w b : Bool) → Accepted w b f c u x y → Accepts f c (length x)
+  accepts true true (e, s, r) =
+      let a = extended-dot-accepts kind4 c x y r .0 in
+      record { settings = subst (λ (g : Format). SettingsBounds g c) (sym e) (a .settings); few = a .few }
+  accepts true false (e, s, r) =
+      let a = extended-sum-accepts kind4 c u x r .0 in
+      record { settings = subst (λ (g : Format). SettingsBounds g c) (sym e) (a .settings); few = a .few }
+  accepts false true e = let a = dot-accepts f c x y e in record { settings = a .settings; few = a .few }
+  accepts false false e = let a = sum-accepts f c u x e in record { settings = a .settings; few = a .few }
 
   -- its passes add up its items
-  pub added-items : (b : Bool) → addedBy b false f c (summandOf u) x y ≡ itemsOf b f c (summandOf u) x y
-  added-items true = refl
-  added-items false = refl
+  pub added-items : (w b : Bool) → addedBy w b false f c (summandOf u) x y ≡ itemsOf w b f c (summandOf u) x y
+  added-items true b = refl
+  added-items false true = refl
+  added-items false false = refl
 
-  pub by-chain : (b : Bool) → Accepted b f c u x y → (sub products minus : Bool)
-      → let ts = terms (itemsOf b f c (summandOf u) x y) in chainTotal f c sub products minus ts ≡ finiteTotal f c sub products minus ts
-  by-chain true e sub products minus = dot-by-chain f c x y sub products minus e
-  by-chain false e sub products minus = sum-by-chain f c u x sub products minus e
+  abbrev ByChain : Format → List Item → (sub products minus : Bool) → Type 0
+  ByChain g l sub products minus = chainTotal g c sub products minus (terms l) ≡ finiteTotal g c sub products minus (terms l)
+
+  pub by-chain : (w b : Bool) → Accepted w b f c u x y → (sub products minus : Bool)
+      → ByChain f (itemsOf w b f c (summandOf u) x y) sub products minus
+  by-chain true true (e, s, r) sub products minus =
+      subst (λ (g : Format). ByChain g (tensItems true c (summandOf u) x y) sub products minus) (sym e) (extended-by-chain .1 kind4 c x y sub products minus r)
+  by-chain true false (e, s, r) sub products minus =
+      subst (λ (g : Format). ByChain g (tensItems false c (summandOf u) x y) sub products minus) (sym e) (extended-by-chain .0 kind4 c u x sub products minus r)
+  by-chain false true e sub products minus = dot-by-chain f c x y sub products minus e
+  by-chain false false e sub products minus = sum-by-chain f c u x sub products minus e
 
 -- the summand's number in the code's tests
 square-is : (u : ℕ) → leb 2 u ≡ isSquare (summandOf u)
@@ -143,9 +171,16 @@ three u e = ap (leb 2) e
 
 -- the answer of an accepted walk, whatever it is over
 module _ (f : Format) (c : Settings) (u : ℕ) (x y : List ℕ) where
-  pub answer-is : (b : Bool) → eqb u 3 ≡ b
-      → accepted f c (subnormalIn b f x y) (productsIn u) (firstIn u) (signalingIn b f x y) (selectAll c (operandsIn b f x y))
-      (itemsOf b f c (summandOf u) x y) ≡ answerIn b f c (summandOf u) x y
-  unfolding sumAccepted dotAccepted
-  answer-is true e = rw (three u (eqb-true u 3 e), e)
-  answer-is false e = rw (square-is u, e, first-is u)
+  abbrev answerBy : (w b : Bool) → Format → Answer
+  answerBy w b g =
+      accepted g c (subnormalIn w b g x y) (productsIn u) (firstIn u) (signalingIn w b g x y) (selectAll c (operandsIn w b g x y))
+      (itemsOf w b g c (summandOf u) x y)
+
+  pub answer-is : (w b : Bool) → eqb u 3 ≡ b → Accepted w b f c u x y → givenAs w (answerBy w b f) ≡ answerIn w b f c (summandOf u) x y
+  unfolding sumAccepted dotAccepted extendedSum extendedDot
+  answer-is true true e (g, s, r) =
+      ap (λ (z : Format). withSpread (answerBy true true z)) g ∙ rw (three u (eqb-true u 3 e), e) (sym (supported-record c _ _ _ _ s))
+  answer-is true false e (g, s, r) =
+      ap (λ (z : Format). withSpread (answerBy true false z)) g ∙ rw (square-is u, e, first-is u) (sym (supported-record c _ _ _ _ s))
+  answer-is false true e a = rw (three u (eqb-true u 3 e), e)
+  answer-is false false e a = rw (square-is u, e, first-is u)

@@ -1,5 +1,6 @@
 -- What the loop of passes may count on, for the terms of an accepted list, of words or of bytes.
 use mathlib.Core.Path.{_≡_, sym, ap, _∙_}
+use mathlib.Core.Bool.{Bool, true, false}
 use mathlib.Core.List.{List, [], _∷_, map}
 use Prim.Native.Nat.{ℕ, _+_, _-_, _≤_, _<_}
 use native.Mathlib.Nat.{le-trans, not-suc-le-zero, zero-lt-suc}
@@ -9,16 +10,20 @@ use lib.ListN.{length, length-map}
 use lib.Pow.{pow-mono}
 use Rattle.totals_spec.specs.Format.{Format}
 use Rattle.totals_spec.specs.Settings.{Settings, Summand}
-use Rattle.totals_spec.specs.Bounds.{FormatBounds}
-use Rattle.totals_spec.specs.Terms.{Term, item, pairItem, termOf, topOf}
+use Rattle.totals_spec.specs.Bounds.{RangeBounds}
+use Rattle.totals_spec.specs.Terms.{Term, item, pairItem, termOf, terms, topOf}
 use Rattle.totals_spec.specs.Totals.{limit, sumTerms, pairs, dotTerms}
 use Rattle.totals_spec.specs.Hundredfold.{hundredTerms}
+use Rattle.totals_spec.specs.Extended.{extended, extendedItem, extendedPair}
+use Rattle.totals_spec.proofs.Spread.{extended-bounds}
+use Rattle.totals_spec.proofs.ExtendedTerms.{extended-good, extended-good-pairs, extended-top, extended-dot-top}
 use Rattle.totals_spec.proofs.Good.{AllGood, good-terms, good-pairs, picked-length}
 use Rattle.totals_spec.proofs.Hundredfold.{good-hundred, few-hundred}
 use Rattle.totals_spec.proofs.HundredTop.{top-most}
 use Rattle.totals_spec.proofs.Order.{pairs-length}
 use Rattle.totals_spec.proofs.Margin.{terms-max}
 use Rattle.totals_spec.proofs.Edges.{first-edge}
+use Rattle.values.specs.Tens.{tensItems}
 use Rattle.window.specs.declared.Pass.{Pass}
 use Rattle.window.specs.declared.Chain.{Chain}
 use Rattle.window.specs.declared.Step.{Step}
@@ -50,10 +55,10 @@ le-add h = omega (arith, h)
 most-product : (f : Format) → topMost f + 7 ≤ topProduct f + 7
 most-product f = omega arith
 
-top-small : (f : Format) {t : ℕ} → FormatBounds f → t ≤ topProduct f + 7 → t < 2147483648
-top-small f b h = omega (arith, b .e-ge, b .w-ge, b .w-le, pow-mono {j = 28} (b .e-le), h)
+pub top-small : (f : Format) {t : ℕ} → RangeBounds f → t ≤ topProduct f + 7 → t < 2147483648
+top-small f b h = omega (arith, b .e-ge, b .w-ge, b .p-le, pow-mono {j = 28} (b .e-le), h)
 
-module _ {p : ℕ} (d : p ≤ 64) (f : Format) (b : FormatBounds f) where
+module _ {p : ℕ} (d : p ≤ 64) (f : Format) (b : RangeBounds f) where
   base-of : (ts : List Term) → AllGood ts → length ts ≤ limit → topOf ts ≤ topProduct f + 7 → 0 < topOf ts → Base p ts
   base-of ts g n t h = record { digits-le = d; good = g; few = limit-le _ n; small = top-small f b t; some = some-of ts h }
 
@@ -71,6 +76,24 @@ module _ {p : ℕ} (d : p ≤ 64) (f : Format) (b : FormatBounds f) where
   pub hundred-base : (c : Settings) (l : List ℕ) → length l ≤ limit → 0 < topOf (hundredTerms f c l) → Base p (hundredTerms f c l)
   hundred-base c l n h =
       base-of (hundredTerms f c l) (good-hundred f c l) (le-trans (few-hundred f c l) n) (le-trans (top-most f c l) (most-product f)) h
+
+-- kind 4
+module _ (c : Settings) (u : Summand) (x y : List ℕ) (alike : length y ≡ length x) where
+  pub tens-length : (b : Bool) → length (tensItems b c u x y) ≡ length x
+  tens-length true = length-map (pairs x y) (extendedPair c) ∙ pairs-length x y (sym alike)
+  tens-length false = length-map x (extendedItem c u)
+
+  pub tens-base : {p : ℕ} → p ≤ 64 → length x ≤ limit → (b : Bool) → 0 < topOf (terms (tensItems b c u x y)) → Base p (terms (tensItems b c u x y))
+  tens-base d n b h =
+      base-of d extended extended-bounds _ (good b) (le-trans (picked-length termOf (tensItems b c u x y)) (rw (tens-length b) n)) (le-add (top b)) h
+    where
+      good : (b : Bool) → AllGood (terms (tensItems b c u x y))
+      good true = extended-good-pairs c (pairs x y)
+      good false = extended-good c u x
+
+      top : (b : Bool) → topOf (terms (tensItems b c u x y)) ≤ topProduct extended
+      top true = extended-dot-top c (pairs x y)
+      top false = extended-top c u x
 
 -- ---- the loop: its start, a turn, its end
 

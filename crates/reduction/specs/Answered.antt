@@ -4,10 +4,13 @@ use mathlib.Core.Bool.{Bool, true, false, not, _&&_}
 use mathlib.Core.List.{List}
 use Prim.Native.Nat.{ℕ, _<_}
 use lib.Dec.{leb, eqb}
-use Rattle.totals_spec.specs.Basics.{Signed}
+use Rattle.totals_spec.specs.Basics.{Signed, any}
 use Rattle.totals_spec.specs.Format as spec
 use Rattle.totals_spec.specs.Settings as env
 use Rattle.totals_spec.specs.Totals as totals
+use Rattle.totals_spec.specs.Extended.{unsupported, spread, kind4, extendedSumRefusal, extendedSum, extendedDotRefusal, extendedDot, extended}
+use Rattle.totals_spec.specs.Halves.{joined}
+use Rattle.values.specs.Tens.{allTens}
 use Rattle.format.specs.Joined.{unpackedOf}
 use Rattle.format.specs.Fits.{Encodes}
 use Rattle.exact.specs.declared.Rounded.{Rounded}
@@ -17,6 +20,16 @@ use Rattle.window.specs.declared.ExactSum.{ExactSum}
 use Rattle.window.specs.declared.Outcome.the-variants.{Zero}
 use Rattle.window.specs.Joined.{Leaves}
 use Rattle.reduction.specs.declared.total.Answer.{Answer}
+use Rattle.reduction.specs.declared.total.Wide.{Wide}
+
+-- a result in its words; that of kind 4 has two, and its leading bit is written out
+abbrev pub wordsAs : (wide : Bool) → (head low : ℕ) → ℕ
+wordsAs true h m = joined h m
+wordsAs false h m = m
+
+abbrev pub writtenAs : (wide : Bool) → ℕ → ℕ
+writtenAs true n = spread n
+writtenAs false n = n
 
 abbrev pub answerOf : Answer → totals.Answer
 answerOf r = record {
@@ -27,6 +40,29 @@ answerOf r = record {
   refusal = r .refusal;
   place = r .place;
   side = r .side;
+}
+
+abbrev pub answerAs : (wide : Bool) → Wide → totals.Answer
+answerAs w r = record {
+  result = wordsAs w (r .head) (r .answer .result);
+  flags = r .answer .flags;
+  passes = r .answer .passes;
+  lastEdge = r .answer .«last_edge»;
+  refusal = r .answer .refusal;
+  place = r .answer .place;
+  side = r .answer .side;
+}
+
+-- the record of a total as it is written
+abbrev pub givenAs : (wide : Bool) → totals.Answer → totals.Answer
+givenAs w a = record {
+  result = writtenAs w (a .result);
+  flags = a .flags;
+  passes = a .passes;
+  lastEdge = a .lastEdge;
+  refusal = a .refusal;
+  place = a .place;
+  side = a .side;
 }
 
 -- what the end of a chain leaves to round, where the terms do not cancel
@@ -47,10 +83,18 @@ productsIn u = leb 2 u
 abbrev pub firstIn : ℕ → Bool
 firstIn u = not (eqb u 3) && not (eqb u 0)
 
-abbrev pub Accepted : Bool → spec.Format → env.Settings → ℕ → List ℕ → List ℕ → Type 0
-Accepted true f c u x y = totals.dotRefusal f c x y ≡ 0
-Accepted false f c u x y = totals.sumRefusal f c u x ≡ 0
+-- those of kind 4, by lengths alone
+abbrev pub tensRefusal : (dot : Bool) → env.Settings → ℕ → List ℕ → List ℕ → ℕ
+tensRefusal true c u x y = extendedDotRefusal kind4 c x y
+tensRefusal false c u x y = extendedSumRefusal kind4 c u x
 
-abbrev pub answerIn : Bool → spec.Format → env.Settings → env.Summand → List ℕ → List ℕ → totals.Answer
-answerIn true f c u x y = totals.dotAccepted f c (totals.pairs x y)
-answerIn false f c u x y = totals.sumAccepted f c u x
+abbrev pub Accepted : (wide dot : Bool) → spec.Format → env.Settings → ℕ → List ℕ → List ℕ → Type 0
+Accepted true b f c u x y = (f ≡ extended) × (any unsupported (allTens b x y) ≡ false) × (tensRefusal b c u x y ≡ 0)
+Accepted false true f c u x y = totals.dotRefusal f c x y ≡ 0
+Accepted false false f c u x y = totals.sumRefusal f c u x ≡ 0
+
+abbrev pub answerIn : (wide dot : Bool) → spec.Format → env.Settings → env.Summand → List ℕ → List ℕ → totals.Answer
+answerIn true true f c u x y = extendedDot c (totals.pairs x y)
+answerIn true false f c u x y = extendedSum c u x
+answerIn false true f c u x y = totals.dotAccepted f c (totals.pairs x y)
+answerIn false false f c u x y = totals.sumAccepted f c u x

@@ -1,5 +1,6 @@
 // From a scan and a chain of passes to the record of a total.
 use binary::encode;
+use binary::extended::encode as encode_ten;
 use exact::Rounded;
 use exact::Unrounded;
 use exact::round;
@@ -17,6 +18,7 @@ use format::grid;
 use format::origin;
 use format::rise;
 use format::unpacked::Unpacked;
+use values::Ten;
 use window::ExactSum;
 use window::Outcome;
 use window::near_boundary;
@@ -24,15 +26,17 @@ ghost use mathlib.Core.Path.{_≡_};
 ghost use Prim.Native.Nat.{_^_, _<_, _≤_};
 ghost use lib.IntN.{subℕ};
 ghost use Rattle.totals_spec.specs.Format as spec;
+ghost use Rattle.totals_spec.specs.Encode as enc;
 ghost use Rattle.totals_spec.specs.Totals as totals;
 ghost use Rattle.totals_spec.specs.Side as side;
 ghost use Rattle.totals_spec.specs.Alone.{Alone};
 ghost use Rattle.totals_spec.specs.Settled as settled;
-ghost use Rattle.totals_spec.specs.Bounds.{FormatBounds, RangeBounds, SettingsBounds};
+ghost use Rattle.totals_spec.specs.Bounds.{RangeBounds, SettingsBounds};
 ghost use Rattle.format.specs.Joined.{formatOf, settingsOf, unpackedOf};
 ghost use Rattle.format.specs.Fits.{Encodes};
+ghost use Rattle.values.specs.Walks.{wide, Known};
 ghost use Rattle.window.specs.Joined.{outcomeOf, runOf, Ended};
-ghost use Rattle.reduction.specs.Answered.{answerOf, LeftOf, RoundedSum};
+ghost use Rattle.reduction.specs.Answered.{wordsAs, writtenAs, answerOf, answerAs, givenAs, LeftOf, RoundedSum};
 
 // Where a result lies beside the exact sum. A NaN or an infinity is not compared.
 pub const EQUAL: u64 = 0;
@@ -53,6 +57,12 @@ pub struct Answer {
     pub refusal: u64,
     pub place: u64,
     pub side: u64,
+}
+
+// The record of a total of any kind: the result of kind 4 has a second word, its head.
+pub struct Wide {
+    pub head: u64,
+    pub answer: Answer,
 }
 
 // A refused call.
@@ -104,19 +114,38 @@ fn side_of(v: Unpacked, flags: u64) -> u64
     }
 }
 
-// A record without a pass: a zero beside a sum of 0, or what is not compared.
-pub fn special(f: Format, subnormal: bool, v: Unpacked, invalid: bool) -> Answer
-    requires { ⌜ FormatBounds (formatOf f) × Encodes (formatOf f) (unpackedOf v) × Alone (spec.kindOf (f .kind)) (unpackedOf v) ⌝ }
-    ensures { λ r. ⌜ answerOf r ≡ totals.special (formatOf f) subnormal (unpackedOf v) invalid ⌝ }
+// An encoding in one word, or in two.
+fn encoded(f: Format, v: Unpacked) -> Ten
+    requires { ⌜ Known (wide (formatOf f)) (formatOf f) × Encodes (formatOf f) (unpackedOf v) ⌝ }
+    ensures { λ r. ⌜ wordsAs (wide (formatOf f)) (r .head) (r .significand) ≡ writtenAs (wide (formatOf f)) (enc.encode (formatOf f) (unpackedOf v)) ⌝ }
 {
-    Answer {
-        result: encode(f, v),
+    if f.width > 64 {
+        return encode_ten(v);
+    }
+    Ten {
+        head: 0,
+        significand: encode(f, v),
+    }
+}
+
+// A record without a pass: a zero beside a sum of 0, or what is not compared.
+pub fn special(f: Format, subnormal: bool, v: Unpacked, invalid: bool) -> Wide
+    requires { ⌜ Known (wide (formatOf f)) (formatOf f) × Encodes (formatOf f) (unpackedOf v) × Alone (spec.kindOf (f .kind)) (unpackedOf v) ⌝ }
+    ensures { λ r. ⌜ answerAs (wide (formatOf f)) r ≡ givenAs (wide (formatOf f)) (totals.special (formatOf f) subnormal (unpackedOf v) invalid) ⌝ }
+{
+    let b = encoded(f, v);
+    let answer = Answer {
+        result: b.significand,
         flags: flag(DENORMAL_INPUT, subnormal) + flag(INVALID, invalid),
         passes: 0,
         last_edge: 0,
         refusal: 0,
         place: 0,
         side: side_of(v, 0),
+    };
+    Wide {
+        head: b.head,
+        answer,
     }
 }
 
@@ -170,20 +199,25 @@ pub fn finish(
     subnormal: bool,
     e: ExactSum,
     v: Unrounded,
-) -> Answer
-    requires { ⌜ FormatBounds (formatOf f) × SettingsBounds (formatOf f) (settingsOf c) × Ended (spec.digits (formatOf f)) e × LeftOf e v ⌝ }
-    ensures { λ r. ⌜ answerOf r ≡ totals.reported (formatOf f) subnormal products (totals.onGrid (formatOf f) products (settled.settled (outcomeOf e))) (totals.sumRounded (formatOf f) (settingsOf c) (spec.grid (formatOf f) products) (totals.towardsNegative (settingsOf c)) (totals.onGrid (formatOf f) products (settled.settled (outcomeOf e)))) (runOf e) ⌝ }
+) -> Wide
+    requires { ⌜ Known (wide (formatOf f)) (formatOf f) × SettingsBounds (formatOf f) (settingsOf c) × Ended (spec.digits (formatOf f)) e × LeftOf e v ⌝ }
+    ensures { λ r. ⌜ answerAs (wide (formatOf f)) r ≡ givenAs (wide (formatOf f)) (totals.reported (formatOf f) subnormal products (totals.onGrid (formatOf f) products (settled.settled (outcomeOf e))) (totals.sumRounded (formatOf f) (settingsOf c) (spec.grid (formatOf f) products) (totals.towardsNegative (settingsOf c)) (totals.onGrid (formatOf f) products (settled.settled (outcomeOf e)))) (runOf e)) ⌝ }
 {
     let h = e.chain;
     let r = round_sum(f, c, products, e, v);
     let x = r.value;
-    Answer {
-        result: encode(f, x),
+    let b = encoded(f, x);
+    let answer = Answer {
+        result: b.significand,
         flags: flag(DENORMAL_INPUT, subnormal) + r.flags,
         passes: h.passes,
         last_edge: position_of(h.edge + fall(f, products), origin(f, products)),
         refusal: 0,
         place: 0,
         side: side_of(x, r.flags),
+    };
+    Wide {
+        head: b.head,
+        answer,
     }
 }

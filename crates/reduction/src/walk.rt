@@ -1,4 +1,5 @@
 // A chain of passes over the terms of a walk.
+use crate::extended::pass as pass_tens;
 use crate::pass::element_term;
 use crate::pass::finished;
 use crate::pass::hundred_term;
@@ -25,6 +26,7 @@ use window::advance;
 use window::start;
 use window::window_part;
 ghost use mathlib.Core.Path.{_≡_};
+ghost use mathlib.Core.Bool.{true, false};
 ghost use Prim.Native.Nat.{_<_, _≤_};
 ghost use Rattle.totals_spec.specs.Settings as env;
 ghost use Rattle.totals_spec.specs.Terms as terms;
@@ -33,7 +35,7 @@ ghost use Rattle.totals_spec.specs.Hundredfold.{hundredTerms};
 ghost use Rattle.totals_spec.specs.Bounds.{FormatBounds};
 ghost use Rattle.format.specs.Joined.{formatOf, settingsOf};
 ghost use Rattle.values.specs.Sources.{Within, Straight, elements};
-ghost use Rattle.values.specs.Walks.{Orderly, addedIn};
+ghost use Rattle.values.specs.Walks.{wide, Known, TensThere, Orderly, isHundred, addedIn};
 ghost use Rattle.window.specs.Joined.{Passed};
 ghost use Rattle.reduction.specs.Held.{Sums};
 
@@ -53,12 +55,11 @@ fn pass_singles(
 {
     let mut total = middle();
     let mut lost: u64 = 0;
-    let mut i: usize = 0;
     let mut place: usize = source.start;
-    while i < source.count {
+    let end = source.start + source.step * source.count;
+    while place < end {
         let b = element(source, words, bytes, place);
         let t = element_term(f, c, u, b);
-        i += 1;
         place += source.step;
         if is_blank(f, b) {
             continue;
@@ -236,12 +237,16 @@ fn pass(
     right_bytes: &[u8],
     w: u64,
 ) -> Pass
-    requires { ⌜ FormatBounds (formatOf f) × Within (k .source) (now «left_words») (now «left_bytes») × Within (k .source) (now «right_words») (now «right_bytes») × Orderly k ⌝ }
+    requires { ⌜ Known (wide (formatOf f)) (formatOf f) × TensThere (wide (formatOf f)) (k .source) (now «left_bytes») (now «right_bytes») × (isHundred k ≡ true → wide (formatOf f) ≡ false) ⌝ }
+    requires { ⌜ Within (k .source) (now «left_words») (now «left_bytes») × Within (k .source) (now «right_words») (now «right_bytes») × Orderly k ⌝ }
     ensures { λ r. ⌜ Passed (terms.terms (addedIn (formatOf f) (settingsOf c) k (now («left_words» .entry)) (now («left_bytes» .entry)) (now («right_words» .entry)) (now («right_bytes» .entry)))) w r ⌝ }
 {
     let source = k.source;
     if k.summand == HUNDREDFOLD {
         return pass_hundreds(f, c, source, left_words, left_bytes, w);
+    }
+    if f.width > 64 {
+        return pass_tens(c, k.summand, source.count, left_bytes, right_bytes, w);
     }
     if k.summand == 3 {
         return pass_pairs(
@@ -273,7 +278,8 @@ pub fn exact(
     p: u64,
     top: u64,
 ) -> ExactSum
-    requires { ⌜ FormatBounds (formatOf f) × Within (k .source) (now «left_words») (now «left_bytes») × Within (k .source) (now «right_words») (now «right_bytes») × (k .source .count ≤ totals.limit) × (p ≤ 64) × Orderly k ⌝ }
+    requires { ⌜ Known (wide (formatOf f)) (formatOf f) × TensThere (wide (formatOf f)) (k .source) (now «left_bytes») (now «right_bytes») × (isHundred k ≡ true → wide (formatOf f) ≡ false) ⌝ }
+    requires { ⌜ Within (k .source) (now «left_words») (now «left_bytes») × Within (k .source) (now «right_words») (now «right_bytes») × (k .source .count ≤ totals.limit) × (p ≤ 64) × Orderly k ⌝ }
     requires { ⌜ (top ≡ terms.topOf (terms.terms (addedIn (formatOf f) (settingsOf c) k (now «left_words») (now «left_bytes») (now «right_words») (now «right_bytes»)))) × (0 < top) ⌝ }
     ensures { λ r. ⌜ Sums p (terms.terms (addedIn (formatOf f) (settingsOf c) k (now («left_words» .entry)) (now («left_bytes» .entry)) (now («right_words» .entry)) (now («right_bytes» .entry)))) r ⌝ }
 {

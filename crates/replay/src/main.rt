@@ -1,6 +1,6 @@
 // Replays the cases of standard input: works each one out, compares the answer with the one that its row holds, and prints how many agree. Totals are
 // worked out over words, over bytes and through a byte entry, the pence of a list, the totals of a table, of ranges and of a page's span by the function and
-// through its entry, and pages are written through theirs.
+// through its entry; pages are written through theirs, and values of ten bytes are added through the byte entries.
 // cases.py makes the list, and says how it is laid out; README.md says where the answers come from.
 mod counts;
 mod figures;
@@ -9,6 +9,7 @@ mod pages;
 mod ranges;
 mod row;
 mod tables;
+mod tens;
 mod ways;
 
 use counts::counts;
@@ -22,6 +23,7 @@ use row::BIASED;
 use row::LONG;
 use row::ROW;
 use tables::tables;
+use tens::tens;
 use ways::by_bytes;
 use ways::by_entry;
 use ways::by_words;
@@ -147,7 +149,7 @@ fn sections(n: u64) -> Agreed
     all
 }
 
-// The number of the rows of pence, of tables, of ranges or of pages that follow.
+// The number of the rows of pence, of tables, of ranges, of pages or of ten bytes that follow.
 fn next_count() -> u64
     ensures { λ r. ⌜ r < 65536 ⌝ }
 {
@@ -194,6 +196,12 @@ fn report_pages(name: &[u8], written: bool, long: bool) {
     report_of(name, pages(n, written, long), n);
 }
 
+// The same of the rows of values of ten bytes.
+fn report_tens(name: &[u8]) {
+    let n = next_count();
+    report_of(name, tens(n), n);
+}
+
 fn main() {
     let mut head = [0u8; 3];
     io::read_full(0, &mut head);
@@ -238,4 +246,5 @@ fn main() {
         false,
     );
     report_pages(b"longer pages written ....................... ", true, true);
+    report_tens(b"values of ten bytes ........................ ");
 }

@@ -45,7 +45,7 @@ const PAGE: usize = 113;
 const LIST: usize = 21;
 
 // A number of two or three digits, no higher than another.
-fn at_most(s: &[u8], at: usize, digits: usize, most: usize) -> usize
+pub fn at_most(s: &[u8], at: usize, digits: usize, most: usize) -> usize
     ensures { λ r. ⌜ r ≤ most ⌝ }
 {
     smaller(number(s, at, digits) as usize, most)

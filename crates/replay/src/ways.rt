@@ -27,6 +27,9 @@ use values::put_word;
 ghost use mathlib.Core.Path.{_≡_};
 ghost use Prim.Native.Nat.{_<_, _≤_};
 ghost use lib.ListN.{length};
+ghost use Rattle.totals_spec.specs.Extended.{sumCall, dotCall};
+ghost use Rattle.format.specs.Joined.{formatOf, settingsOf};
+ghost use Rattle.totals.specs.Entered.{Enters};
 
 fn agrees(same: bool) -> u64
     ensures { λ r. ⌜ r ≤ 1 ⌝ }
@@ -90,7 +93,9 @@ pub fn by_bytes(s: &[u8]) -> u64
 }
 
 // Through the entry that names a bias, where the row does.
-fn enter_sum(f: Format, c: Settings, u: u64, values: &[u8], answer: &mut [u8]) -> u64 {
+pub fn enter_sum(f: Format, c: Settings, u: u64, values: &[u8], answer: &mut [u8]) -> u64
+    ensures { λ r. ⌜ Enters (sumCall (formatOf f) (settingsOf c) u (now (values .entry)) (now (answer .entry))) r (now (answer .exit)) ⌝ }
+{
     let n = f.named;
     if let Named::Bias(bias) = n {
         return totals_sum_biased(
@@ -129,7 +134,9 @@ fn enter_sum(f: Format, c: Settings, u: u64, values: &[u8], answer: &mut [u8]) -
     )
 }
 
-fn enter_dot(f: Format, c: Settings, left: &[u8], right: &[u8], answer: &mut [u8]) -> u64 {
+pub fn enter_dot(f: Format, c: Settings, left: &[u8], right: &[u8], answer: &mut [u8]) -> u64
+    ensures { λ r. ⌜ Enters (dotCall (formatOf f) (settingsOf c) (now (left .entry)) (now (right .entry)) (now (answer .entry))) r (now (answer .exit)) ⌝ }
+{
     let n = f.named;
     if let Named::Bias(bias) = n {
         return totals_dot_biased(

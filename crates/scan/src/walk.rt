@@ -1,5 +1,6 @@
 // The scan of a walk. Of plainly normal elements only the greatest exponent field counts: it is kept apart from the scan, and gives a position at the end.
 use crate::Scan;
+use crate::extended::scan as scan_tens;
 use crate::take;
 use crate::take_pair;
 use arithmetic::plain_field;
@@ -16,7 +17,7 @@ ghost use Rattle.totals_spec.specs.Totals as totals;
 ghost use Rattle.totals_spec.specs.Bounds.{FormatBounds};
 ghost use Rattle.format.specs.Joined.{formatOf, settingsOf};
 ghost use Rattle.values.specs.Sources.{Within, Straight, elements};
-ghost use Rattle.values.specs.Walks.{Orderly};
+ghost use Rattle.values.specs.Walks.{wide, Known, TensThere, Orderly};
 ghost use Rattle.scan.specs.Joined.{Scanned, ScannedPairs};
 ghost use Rattle.scan.specs.Walked.{ScannedWalk};
 
@@ -73,7 +74,7 @@ fn scan_pairs(
     s.noted_top(plain_pair_top(f, greatest))
 }
 
-// The right slices are read for pairs alone.
+// The right slices are read for pairs alone. A format wider than a word is that of kind 4.
 pub fn scan(
     f: Format,
     c: Settings,
@@ -83,10 +84,14 @@ pub fn scan(
     right_words: &[u64],
     right_bytes: &[u8],
 ) -> Scan
-    requires { ⌜ FormatBounds (formatOf f) × Within (k .source) (now «left_words») (now «left_bytes») × Within (k .source) (now «right_words») (now «right_bytes») × Orderly k ⌝ }
+    requires { ⌜ Known (wide (formatOf f)) (formatOf f) × TensThere (wide (formatOf f)) (k .source) (now «left_bytes») (now «right_bytes») ⌝ }
+    requires { ⌜ Within (k .source) (now «left_words») (now «left_bytes») × Within (k .source) (now «right_words») (now «right_bytes») × Orderly k ⌝ }
     ensures { λ r. ⌜ ScannedWalk (formatOf f) (settingsOf c) k (now («left_words» .entry)) (now («left_bytes» .entry)) (now («right_words» .entry)) (now («right_bytes» .entry)) r ⌝ }
 {
     let source = k.source;
+    if f.width > 64 {
+        return scan_tens(c, k.summand, source.count, left_bytes, right_bytes);
+    }
     if k.summand == 3 {
         return scan_pairs(
             f,

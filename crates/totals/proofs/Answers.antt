@@ -117,18 +117,18 @@ module _ (f : Format) (c : Settings) (u : ℕ) {n : ℕ} (x y : List ℕ) (left 
       let (t, at) = says-at _ _ r found i is in
       rw (left, t, sym at) (seventh _ (sum-tests f c u n) _ (sumAccepted f c (summandOf u) x) e)
 
-  pub unrefused : (b : Bool) → numbersIn b f c u n ≡ 0 → (r : Found) → FoundOn b r (f .W) x y → r ≡ Nothing → Accepted b f c u x y
+  pub unrefused : (b : Bool) → numbersIn b f c u n ≡ 0 → (r : Found) → FoundOn b r (f .W) x y → r ≡ Nothing → Accepted false b f c u x y
   unfolding sumNumbers sumRefusal dotNumbers dotRefusal
   unrefused true e r found is = rw (left, right, says-nothing _ _ r found is) e
   unrefused false e r found is = rw (left, says-nothing _ _ r found is) e
 
-pub walk-width : (b : Bool) (f : Format) (c : Settings) (u n : ℕ) → numbersIn b f c u n ≡ 0 → (0 < f .W) × (f .W ≤ 64)
+pub walk-format : (b : Bool) (f : Format) (c : Settings) (u n : ℕ) → numbersIn b f c u n ≡ 0 → FormatBounds f
 unfolding sumNumbers dotNumbers
-walk-width true f c u n e = width-bounds f (format-bounds f (valid-of (validFormat f) 2 _ e))
-walk-width false f c u n e = width-bounds f (format-bounds f (valid-of (validFormat f) 2 _ e))
+walk-format true f c u n e = format-bounds f (valid-of (validFormat f) 2 _ e)
+walk-format false f c u n e = format-bounds f (valid-of (validFormat f) 2 _ e)
 
-pub accepted-is : (b : Bool) (f : Format) (c : Settings) (u : ℕ) (x y : List ℕ) → Accepted b f c u x y
-    → answerIn b f c (summandOf u) x y ≡ answerTo b f c u x y
+pub accepted-is : (b : Bool) (f : Format) (c : Settings) (u : ℕ) (x y : List ℕ) → Accepted false b f c u x y
+    → answerIn false b f c (summandOf u) x y ≡ answerTo b f c u x y
 unfolding sumAnswer dotAnswer
 accepted-is true f c u x y e = rw e
 accepted-is false f c u x y e = rw e

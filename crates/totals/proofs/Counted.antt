@@ -68,7 +68,9 @@ module _ (f : Format) (v : Unrounded) (h : Countable v) where
   end-lt x st = subst (λ (n : ℕ). x < 2 ^ n) (ends x st) (size-lt x)
 
   pub too-large : origin f false + 63 < endOf v + fall f false → (x : ℕ) → Stands v x → refusedPence 8 ≡ wholeFigure f (standing v x)
-  too-large g x st = sym (figure-large f (standing v x) (endOf v - 1) (size-reaches x (endOf v - 1) (omega (arith, ends x st, h .high))) (omega (arith, g, h .high)))
+  too-large g x st =
+      let high = size-reaches x (endOf v - 1) (omega (arith, ends x st, h .high)) in
+      sym (figure-large f (standing v x) (endOf v - 1) high (omega (arith, g, h .high)))
 
   module _ (g : endOf v + fall f false ≤ origin f false + 63) where
     pub penny-above : fall f false ≤ origin f false
@@ -148,5 +150,7 @@ module _ (k e w named : ℕ) (b : ℤ) (l : List ℕ) (old : ℤ) where
     -- number and place fit the one that is returned
     pub code-small : (p .refusal < 256) × (p .place < 4294967296)
     code-small =
-        let f = formatBy k e w named b in
-        (subst (λ (x : spec.Pence). x .refusal < 256) (sym is) (sum-pence-number f l), subst (λ (x : spec.Pence). x .place < 4294967296) (sym is) (sum-pence-place f l))
+        let f = formatBy k e w named b in (
+          subst (λ (x : spec.Pence). x .refusal < 256) (sym is) (sum-pence-number f l),
+          subst (λ (x : spec.Pence). x .place < 4294967296) (sym is) (sum-pence-place f l),
+        )

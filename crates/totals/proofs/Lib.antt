@@ -8,5 +8,6 @@ mod Listed
 mod Columns
 mod TableWritten
 mod PageWritten
+mod Tens
 mod RangeFigures
 mod RangeSettled

@@ -7,7 +7,7 @@ use native.Mathlib.Nat.{not-suc-le-zero, le-of-suc-le-suc, div-eq-of-lt-le, suc-
 use native.Mathlib.Numerals.{add-one-le, sub-one}
 use native.Mathlib.Omega.{arith}
 use lib.ListN.{length, take, getD}
-use lib.Pow.{pow-add, pow-pos}
+use lib.Pow.{pow-add, pow-pos, pow-mono}
 use Rattle.totals_spec.specs.Basics.{any}
 use Rattle.totals_spec.specs.Totals.{firstIndex}
 use borrow.Author.Tests.{le-leb, lt-leb}
@@ -57,9 +57,9 @@ module _ {w m : ℕ} (most : m + 1 ≡ 2 ^ w) {l : List ℕ} {i : ℕ} (k : Clea
 pub clear-end : {w : ℕ} {l : List ℕ} {i : ℕ} → Clear w l i → length l ≤ i → FoundIn Nothing w l
 clear-end {w} {l} {i} k h = none-all (strayAt w) l i (omega arith) (k .none)
 
--- a width of a whole word leaves no room for one
-pub word-wide : (w : ℕ) (l : List ℕ) → w ≡ 64 → ((k : ℕ) → getD l k 0 < 18446744073709551616) → FoundIn Nothing w l
-word-wide w l e = none-below (strayAt w) _ l (λ x h. stray-not w 18446744073709551615 x (ap (λ (n : ℕ). 2 ^ n) (sym e)) (omega arith))
+-- a width of a whole word or more leaves no room for one
+pub word-wide : (w : ℕ) (l : List ℕ) → 64 ≤ w → ((k : ℕ) → getD l k 0 < 18446744073709551616) → FoundIn Nothing w l
+word-wide w l e = none-below (strayAt w) _ l (λ x h. lt-leb (2 ^ w) x (omega (arith, h, pow-mono {j = w} e)))
 
 -- ---- what a search says, and what it then says of the lists of a walk
 

@@ -1,24 +1,20 @@
 -- A walk over two lists without a stray bit, by whether it is for pence: what its scan, its chain and its record ask and tell.
-use mathlib.Core.Path.{_≡_, refl, sym, ap, _∙_, subst}
-use mathlib.Core.Logic.{_≢_}
+use mathlib.Core.Path.{_≡_, refl, sym, ap, _∙_, subst, subst₂}
 use mathlib.Core.Bool.{Bool, true, false, not, cond}
 use mathlib.Core.List.{List}
 use Prim.Native.Nat.{ℕ, _+_, _^_, _≤_, _<_}
-use native.Mathlib.Nat.{le-refl, le-trans}
+use native.Mathlib.Nat.{le-refl}
 use native.Mathlib.Omega.{arith}
 use lib.Dec.{eqb}
 use lib.IntN.{pos}
 use lib.ListN.{length}
-use lib.Pow.{pow-mono}
-use borrow.Author.Tests.{eqb-true, ne-eqb}
+use borrow.Author.Tests.{eqb-true}
 use Rattle.totals_spec.specs.Format as spec
-use Rattle.totals_spec.specs.Bounds.{FormatBounds}
 use Rattle.totals_spec.specs.Settings as env
 use Rattle.totals_spec.specs.Decode as dec
 use Rattle.totals_spec.specs.Terms as terms
 use Rattle.totals_spec.specs.Totals as totals
 use Rattle.totals_spec.specs.Pence.{refusedPence}
-use Rattle.totals_spec.proofs.Tops.{topProduct, sum-top, dot-top}
 use Rattle.format.specs.declared.unpacked.Unpacked.{Unpacked}
 use Rattle.format.specs.Joined.{unpackedOf}
 use Rattle.exact.specs.declared.Unrounded.{Unrounded}
@@ -28,16 +24,31 @@ use Rattle.scan.specs.declared.Early.the-variants.{Given, Terms}
 use Rattle.scan.specs.Joined.{Scanned}
 use Rattle.scan.specs.Walked.{GatheredIn}
 use Rattle.values.specs.declared.Walk.{Walk}
-use Rattle.values.specs.Walks.{Orderly, isHundred, itemsOf, addedBy}
+use Rattle.values.specs.Walks.{wide, Known, Orderly, isHundred, addedBy}
+use Rattle.values.proofs.Walks.{known-range}
 use Rattle.window.specs.declared.ExactSum.{ExactSum}
+use Rattle.reduction.specs.declared.total.Wide.{Wide}
 use Rattle.reduction.specs.Held.{Sums}
-use Rattle.reduction.specs.Answered.{LeftOf, productsIn, firstIn}
+use Rattle.reduction.specs.Answered.{wordsAs, answerOf, answerAs, givenAs, LeftOf, productsIn, firstIn}
 use Rattle.reduction.proofs.Reduce.{given, given-is, top-is, finish-is}
-use Rattle.reduction.proofs.Items.{items-give, accepts, added-items, by-chain, answer-is}
+use Rattle.reduction.proofs.Items.{items-give, items-top, accepts, added-items, by-chain, answer-is}
+use Rattle.reduction.proofs.Loop.{top-small}
 use Rattle.totals.specs.declared.report.Report.{Report}
-use Rattle.totals.specs.PenceRecord.{penceRecord, listFigure}
-use Rattle.totals.specs.Reported.{odd, PenceDecides, DecidesBy, specialPence, EarlyAsks, EarlyTells, EndAsks, EndTells, TotalAsks, TotalTells}
+use Rattle.totals.specs.PenceRecord.{listFigure}
+use Rattle.totals.specs.Reported.{answerIn, odd, PenceDecides, DecidesBy, EarlyAsks, EarlyTells, EndAsks, EndTells, TotalAsks, TotalTells}
 use Rattle.totals.proofs.Counted.{met-figure, zero-figure, chain-figure, raised-top}
+
+-- what a report and a record share
+pub heads-alike : (w : Bool) (r : Report) (a : Wide) → answerIn false r ≡ answerOf (a .answer) → r .head ≡ a .head → answerIn w r ≡ answerAs w a
+heads-alike w r a e h = λ i. record {
+  result = wordsAs w (h i) (e i .result);
+  flags = e i .flags;
+  passes = e i .passes;
+  lastEdge = e i .lastEdge;
+  refusal = e i .refusal;
+  place = e i .place;
+  side = e i .side;
+}
 
 -- the walk that a scan takes is of values, where the walk is for pence
 pub scanned-orderly : (k r : Walk) → r .source ≡ k .source → r .summand ≡ cond (isHundred k) 0 (k .summand) → Orderly k → Orderly r
@@ -53,48 +64,46 @@ module _ (f : spec.Format) (c : env.Settings) (u : ℕ) (x y : List ℕ) where
   seenAs h = cond h 0 u
 
   abbrev pub Seen : Bool → Scan → Type 0
-  Seen h s = GatheredIn (eqb (seenAs h) 3) f c (env.summandOf (seenAs h)) x y s
+  Seen h s = GatheredIn (wide f) (eqb (seenAs h) 3) f c (env.summandOf (seenAs h)) x y s
 
-  pub asks-format : (h b : Bool) → TotalAsks h b f c u x y → FormatBounds f
-  asks-format true b a = a .0
-  asks-format false b a = accepts f c u x y b a .format
+  pub asks-few : (h b : Bool) → TotalAsks h (wide f) b f c u x y → length x ≤ totals.limit
+  asks-few true b a = a .1 .2
+  asks-few false b a = accepts f c u x y (wide f) b a .few
 
-  pub asks-few : (h b : Bool) → TotalAsks h b f c u x y → length x ≤ totals.limit
-  asks-few true b a = a .2
-  asks-few false b a = accepts f c u x y b a .few
+  -- pence are of formats of a word
+  pub pence-narrow : (h b : Bool) → TotalAsks h (wide f) b f c u x y → h ≡ true → wide f ≡ false
+  pence-narrow h b a e = subst (λ (t : Bool). TotalAsks t (wide f) b f c u x y) e a .0
 
-  pub end-asks : (h : Bool) {e : ExactSum} {ts : List terms.Term} {v : Unrounded} → TotalAsks h (eqb u 3) f c u x y → Sums (cond h 64 (spec.digits f)) ts e
-      → LeftOf e v → EndAsks h f c e v
-  end-asks true a q l = (a .0 .range, q .ended, l)
-  end-asks false a q l = let b = accepts f c u x y (eqb u 3) a in (b .format, b .settings, q .ended, l)
+  module _ (q : Known (wide f) f) where
+    pub end-asks : (h : Bool) {e : ExactSum} {ts : List terms.Term} {v : Unrounded} → TotalAsks h (wide f) (eqb u 3) f c u x y
+        → Sums (cond h 64 (spec.digits f)) ts e → LeftOf e v → EndAsks h f c e v
+    end-asks true a m l = (a .1 .0 .range, m .ended, l)
+    end-asks false a m l = (q, accepts f c u x y (wide f) (eqb u 3) a .settings, m .ended, l)
 
-  pub digits-most : (h b : Bool) → TotalAsks h b f c u x y → cond h 64 (spec.digits f) ≤ 64
-  digits-most true b a = le-refl 64
-  digits-most false b a = let g = asks-format false b a in omega (arith, g .e-ge, g .w-le)
+    pub digits-most : (h : Bool) → cond h 64 (spec.digits f) ≤ 64
+    digits-most true = le-refl 64
+    digits-most false = let g = known-range f (wide f) q in omega (arith, g .w-ge, g .p-le)
 
-  items-top : (v : env.Summand) (b : Bool) → terms.topOf (terms.terms (itemsOf b f c v x y)) ≤ topProduct f
-  items-top v true = dot-top f c x y
-  items-top v false = sum-top f c v x
+    -- there is room above T for seven bits more
+    pub top-room : (s : Scan) (h : Bool) → Seen h s → s .top + 7 < 2 ^ 64
+    top-room s h g =
+        let m = items-top f c (env.summandOf (seenAs h)) x y (wide f) (eqb (seenAs h) 3) q in
+        omega (arith, top-small f {t = s .top + 7} (known-range f (wide f) q) (omega (arith, g .top, m)))
 
   module _ (s : Scan) where
-    -- there is room above T for seven bits more
-    pub top-room : (h : Bool) → Seen h s → FormatBounds f → s .top + 7 < 2 ^ 64
-    top-room h g b =
-        omega (arith, g .top, items-top (env.summandOf (seenAs h)) (eqb (seenAs h) 3), b .e-ge, b .w-ge, b .w-le, pow-mono {j = 28} (b .e-le))
-
     -- for pence the settings are all 0
-    pence-seen : Seen true s → c ≡ env.noSettings → Scanned f env.noSettings env.value x s
-    pence-seen g e = subst (λ (d : env.Settings). Scanned f d env.value x s) e g
+    pence-seen : Seen true s → wide f ≡ false → c ≡ env.noSettings → Scanned f env.noSettings env.value x s
+    pence-seen g n e = subst₂ (λ (w : Bool) (d : env.Settings). GatheredIn w false f d env.value x y s) n e g
 
     module _ (d : Early) (v : Unpacked) (i : Bool) (is : d ≡ Given v i) where
-      pub early-asks : (h : Bool) → Seen h s → TotalAsks h (eqb u 3) f c u x y → DecidesBy h d c (firstIn u) s → EarlyAsks h f (unpackedOf v)
-      early-asks true g a k = tt
-      early-asks false g a k =
+      pub early-asks : (h : Bool) → Known (wide f) f → Seen h s → DecidesBy h d c (firstIn u) s → EarlyAsks h f (unpackedOf v)
+      early-asks true q g k = tt
+      early-asks false q g k =
           let t = given g (productsIn u) (firstIn u) d k v i is in
-          (asks-format false (eqb u 3) a, t .encodes, t .alone (items-give f c (env.summandOf u) x y (eqb u 3)))
+          (q, t .encodes, t .alone (items-give f c (env.summandOf u) x y (wide f) (eqb u 3) q))
 
-      pub early-told : (h : Bool) → Seen h s → TotalAsks h (eqb u 3) f c u x y → DecidesBy h d c (firstIn u) s → (r : Report)
-          → EarlyTells h f (s .subnormal) (unpackedOf v) i r → TotalTells h (eqb u 3) f c u x y r
+      pub early-told : (h : Bool) → Seen h s → TotalAsks h (wide f) (eqb u 3) f c u x y → DecidesBy h d c (firstIn u) s → (r : Report)
+          → EarlyTells h f (s .subnormal) (unpackedOf v) i r → TotalTells h (wide f) (eqb u 3) f c u x y r
       early-told true g a k r t = t ∙ go (dec.isNumber (unpackedOf v)) (met .0) (met .1)
         where
           met : PenceDecides (Given v i) s
@@ -102,34 +111,34 @@ module _ (f : spec.Format) (c : env.Settings) (u : ℕ) (x y : List ℕ) where
 
           go : (n : Bool) → odd s ≡ not n → (n ≡ true → s .top ≡ 0)
               → cond n (record { figure = pos 0; refusal = 0; place = 0 }) (refusedPence 8) ≡ listFigure f x
-          go true o z = zero-figure f x (pence-seen g (a .1)) (sym o) refl (z refl)
-          go false o z = met-figure f x (pence-seen g (a .1)) (sym o) refl
-      early-told false g a k r t = given-is g (productsIn u) (firstIn u) d k v i is _ t ∙ answer-is f c u x y (eqb u 3) refl
+          go true o z = zero-figure f x (pence-seen g (a .0) (a .1 .1)) (sym o) refl (z refl)
+          go false o z = met-figure f x (pence-seen g (a .0) (a .1 .1)) (sym o) refl
+      early-told false g a k r t =
+          t ∙ ap (givenAs (wide f)) (given-is g (productsIn u) (firstIn u) d k v i is _ refl) ∙ answer-is f c u x y (wide f) (eqb u 3) refl a
 
     module _ (d : Early) (is : d ≡ Terms) where
       abbrev topBy : Bool → ℕ
       topBy h = cond h (s .top + 7) (s .top)
 
-      pub exact-asks : (h : Bool) → eqb u 4 ≡ h → Seen h s → TotalAsks h (eqb u 3) f c u x y → DecidesBy h d c (firstIn u) s
-          → (topBy h ≡ terms.topOf (terms.terms (addedBy (eqb u 3) h f c (env.summandOf u) x y))) × (0 < topBy h)
-      exact-asks true e g a k =
-          let t = raised-top f x (pence-seen g (a .1)) (subst (λ (z : Early). PenceDecides z s) is k .1) in
-          (t .0 ∙ sym (rw (no-dot (eqb-true u 4 e), a .1)), t .1)
-        where
-          no-dot : u ≡ 4 → eqb u 3 ≡ false
-          no-dot q = rw q
-      exact-asks false e g a k = rw (added-items f c u x y (eqb u 3)) (top-is g (productsIn u) (firstIn u) d k is)
+      no-dot : u ≡ 4 → eqb u 3 ≡ false
+      no-dot e = rw e
 
-      pub end-told : (h : Bool) → eqb u 4 ≡ h → Seen h s → TotalAsks h (eqb u 3) f c u x y → DecidesBy h d c (firstIn u) s → (e : ExactSum)
-          → Sums (cond h 64 (spec.digits f)) (terms.terms (addedBy (eqb u 3) h f c (env.summandOf u) x y)) e
-          → (r : Report) → EndTells h f c (productsIn u) (s .subnormal) e r → TotalTells h (eqb u 3) f c u x y r
+      pub exact-asks : (h : Bool) → eqb u 4 ≡ h → Seen h s → TotalAsks h (wide f) (eqb u 3) f c u x y → DecidesBy h d c (firstIn u) s
+          → (topBy h ≡ terms.topOf (terms.terms (addedBy (wide f) (eqb u 3) h f c (env.summandOf u) x y))) × (0 < topBy h)
+      exact-asks true e g a k =
+          let t = raised-top f x (pence-seen g (a .0) (a .1 .1)) (subst (λ (z : Early). PenceDecides z s) is k .1) in
+          (t .0 ∙ sym (rw (a .0, no-dot (eqb-true u 4 e), a .1 .1)), t .1)
+      exact-asks false e g a k = rw (added-items f c u x y (wide f) (eqb u 3)) (top-is g (productsIn u) (firstIn u) d k is)
+
+      pub end-told : (h : Bool) → eqb u 4 ≡ h → Seen h s → TotalAsks h (wide f) (eqb u 3) f c u x y → DecidesBy h d c (firstIn u) s → (e : ExactSum)
+          → Sums (cond h 64 (spec.digits f)) (terms.terms (addedBy (wide f) (eqb u 3) h f c (env.summandOf u) x y)) e
+          → (r : Report) → EndTells h f c (productsIn u) (s .subnormal) e r → TotalTells h (wide f) (eqb u 3) f c u x y r
       end-told true q g a k e m r t =
-          t ∙ chain-figure f x (pence-seen g (a .1)) (sym (subst (λ (z : Early). PenceDecides z s) is k .0)) refl (a .2) e
-          (rw (no-dot (eqb-true u 4 q), a .1) at m)
-        where
-          no-dot : u ≡ 4 → eqb u 3 ≡ false
-          no-dot q = rw q
+          t ∙ chain-figure f x (pence-seen g (a .0) (a .1 .1)) (sym (subst (λ (z : Early). PenceDecides z s) is k .0)) refl (a .1 .2) e
+          (rw (a .0, no-dot (eqb-true u 4 q), a .1 .1) at m)
       end-told false q g a k e m r t =
-          finish-is g (productsIn u) (firstIn u) d k is e (rw (added-items f c u x y (eqb u 3)) at (m .run))
-          (by-chain f c u x y (eqb u 3) a _ (productsIn u) false) _ t
-          ∙ answer-is f c u x y (eqb u 3) refl
+          t
+          ∙ ap (givenAs (wide f))
+          (finish-is g (productsIn u) (firstIn u) d k is e (rw (added-items f c u x y (wide f) (eqb u 3)) at (m .run))
+          (by-chain f c u x y (wide f) (eqb u 3) a _ (productsIn u) false) _ refl)
+          ∙ answer-is f c u x y (wide f) (eqb u 3) refl a

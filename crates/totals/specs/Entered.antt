@@ -36,6 +36,13 @@ pub record Fits (a : Answer) (buffer : List ℕ) : Type 0 where
   pub flags : a .flags < 256
   pub side : a .side < 4
 
+-- the same of an accepted record of kind 4
+pub record FitsTens (a : Answer) (buffer : List ℕ) : Type 0 where
+  pub room : 32 ≤ length buffer
+  pub result : a .result < 2 ^ 80
+  pub flags : a .flags < 256
+  pub side : a .side < 4
+
 abbrev pub formatFrom : (kind exponentBits width : ℕ) → Format
 formatFrom k e w = record { kind = k; E = e; W = w; named = none }
 

@@ -16,6 +16,7 @@ use Rattle.totals_spec.specs.Pence as pence
 use Rattle.totals_spec.specs.Hundredfold.{wholeFigure}
 use Rattle.format.specs.Joined.{unpackedOf}
 use Rattle.format.specs.Fits.{Encodes}
+use Rattle.values.specs.Walks.{wide, Known}
 use Rattle.exact.specs.declared.Unrounded.{Unrounded}
 use Rattle.scan.specs.declared.Scan.{Scan}
 use Rattle.scan.specs.declared.Early.{Early}
@@ -24,15 +25,15 @@ use Rattle.scan.specs.Joined.{Decides}
 use Rattle.window.specs.declared.ExactSum.{ExactSum}
 use Rattle.window.specs.Joined.{outcomeOf, runOf, Ended}
 use Rattle.reduction.specs.Answered as answered
-use Rattle.reduction.specs.Answered.{LeftOf, Accepted}
+use Rattle.reduction.specs.Answered.{wordsAs, givenAs, LeftOf, Accepted}
 use Rattle.totals.specs.declared.report.Report.{Report}
 use Rattle.totals.specs.PenceRecord.{listFigure, listPence}
 use Rattle.totals.specs.Walked.{numbersIn, answerTo}
 
 -- the two records in one
-abbrev pub answerIn : Report → totals.Answer
-answerIn r = record {
-  result = r .result;
+abbrev pub answerIn : (wide : Bool) → Report → totals.Answer
+answerIn w r = record {
+  result = wordsAs w (r .head) (r .result);
   flags = r .flags;
   passes = r .passes;
   lastEdge = r .«last_edge»;
@@ -64,41 +65,49 @@ specialPence v = cond (dec.isNumber v) (record { figure = pos 0; refusal = 0; pl
 
 abbrev pub EarlyAsks : Bool → spec.Format → dec.Unpacked → Type 0
 EarlyAsks true f v = Unit {0}
-EarlyAsks false f v = FormatBounds f × Encodes f v × Alone (spec.kindOf (f .kind)) v
+EarlyAsks false f v = Known (wide f) f × Encodes f v × Alone (spec.kindOf (f .kind)) v
 
 abbrev pub EarlyTells : Bool → spec.Format → Bool → dec.Unpacked → Bool → Report → Type 0
 EarlyTells true f sub v i r = penceIn r ≡ specialPence v
-EarlyTells false f sub v i r = answerIn r ≡ totals.special f sub v i
+EarlyTells false f sub v i r = answerIn (wide f) r ≡ givenAs (wide f) (totals.special f sub v i)
 
 -- ---- and of a chain's end
 
 abbrev pub EndAsks : Bool → spec.Format → env.Settings → ExactSum → Unrounded → Type 0
 EndAsks true f c e v = RangeBounds f × Ended 64 e × LeftOf e v
-EndAsks false f c e v = FormatBounds f × SettingsBounds f c × Ended (spec.digits f) e × LeftOf e v
+EndAsks false f c e v = Known (wide f) f × SettingsBounds f c × Ended (spec.digits f) e × LeftOf e v
 
 abbrev pub EndTells : Bool → spec.Format → env.Settings → (products sub : Bool) → ExactSum → Report → Type 0
 EndTells true f c products sub e r = penceIn r ≡ wholeFigure f (settled (outcomeOf e))
 EndTells false f c products sub e r =
-    answerIn r
-    ≡ totals.reported f sub products (totals.onGrid f products (settled (outcomeOf e)))
-    (totals.sumRounded f c (spec.grid f products) (totals.towardsNegative c) (totals.onGrid f products (settled (outcomeOf e)))) (runOf e)
+    answerIn (wide f) r
+    ≡ givenAs (wide f)
+    (totals.reported f sub products (totals.onGrid f products (settled (outcomeOf e)))
+    (totals.sumRounded f c (spec.grid f products) (totals.towardsNegative c) (totals.onGrid f products (settled (outcomeOf e)))) (runOf e))
+
+-- ---- pence are of offered formats, which are no wider than a word
+
+abbrev pub PenceAsks : spec.Format → env.Settings → ℕ → Type 0
+PenceAsks f c n = FormatBounds f × (c ≡ env.noSettings) × (n ≤ totals.limit)
 
 -- ---- a walk over two lists without a stray bit
 
-abbrev pub TotalAsks : (hundred dot : Bool) → spec.Format → env.Settings → ℕ → List ℕ → List ℕ → Type 0
-TotalAsks true b f c u x y = FormatBounds f × (c ≡ env.noSettings) × (length x ≤ totals.limit)
-TotalAsks false b f c u x y = Accepted b f c u x y
+abbrev pub TotalAsks : (hundred wide dot : Bool) → spec.Format → env.Settings → ℕ → List ℕ → List ℕ → Type 0
+TotalAsks true w b f c u x y = (w ≡ false) × PenceAsks f c (length x)
+TotalAsks false w b f c u x y = Accepted w b f c u x y
 
-abbrev pub TotalTells : (hundred dot : Bool) → spec.Format → env.Settings → ℕ → List ℕ → List ℕ → Report → Type 0
-TotalTells true b f c u x y r = penceIn r ≡ listFigure f x
-TotalTells false b f c u x y r = answerIn r ≡ answered.answerIn b f c (env.summandOf u) x y
+abbrev pub TotalTells : (hundred wide dot : Bool) → spec.Format → env.Settings → ℕ → List ℕ → List ℕ → Report → Type 0
+TotalTells true w b f c u x y r = penceIn r ≡ listFigure f x
+TotalTells false w b f c u x y r = answerIn w r ≡ answered.answerIn w b f c (env.summandOf u) x y
 
 -- ---- and one over lists of n elements that may have one
 
-abbrev pub ListAsks : (hundred dot : Bool) → spec.Format → env.Settings → (u n : ℕ) → Type 0
-ListAsks true b f c u n = FormatBounds f × (c ≡ env.noSettings) × (n ≤ totals.limit)
-ListAsks false b f c u n = numbersIn b f c u n ≡ 0
+abbrev pub ListAsks : (hundred wide dot : Bool) → spec.Format → env.Settings → (u n : ℕ) → List ℕ → List ℕ → Type 0
+ListAsks true w b f c u n x y = (w ≡ false) × PenceAsks f c n
+ListAsks false true b f c u n x y = Accepted true b f c u x y
+ListAsks false false b f c u n x y = numbersIn b f c u n ≡ 0
 
-abbrev pub ListTells : (hundred dot : Bool) → spec.Format → env.Settings → ℕ → List ℕ → List ℕ → Report → Type 0
-ListTells true b f c u x y r = penceIn r ≡ listPence f x
-ListTells false b f c u x y r = answerIn r ≡ answerTo b f c u x y
+abbrev pub ListTells : (hundred wide dot : Bool) → spec.Format → env.Settings → ℕ → List ℕ → List ℕ → Report → Type 0
+ListTells true w b f c u x y r = penceIn r ≡ listPence f x
+ListTells false true b f c u x y r = answerIn true r ≡ answered.answerIn true b f c (env.summandOf u) x y
+ListTells false false b f c u x y r = answerIn false r ≡ answerTo b f c u x y

@@ -1,5 +1,6 @@
 // The byte entries, for callers in other languages.
 use crate::dot_bytes;
+use crate::extended;
 use crate::pages::span_refusal;
 use crate::pence::pence_of_sum;
 use crate::range::range_total;
@@ -11,18 +12,26 @@ use format::env::Settings;
 use limbs::word::magnitude;
 use page::write;
 use reduction::total::Answer;
+use reduction::total::Wide;
 use values::put_word;
 ghost use mathlib.Core.Path.{_≡_};
+ghost use mathlib.Core.Bool.{true};
 ghost use Rattle.totals_spec.specs.Bytes as bytes;
+ghost use Rattle.totals_spec.specs.Extended as ten;
 ghost use Rattle.totals_spec.specs.Pages as pages;
 ghost use Rattle.totals_spec.specs.Words as words;
 ghost use Rattle.format.specs.Joined.{formatOf, settingsOf};
-ghost use Rattle.reduction.specs.Answered.{answerOf};
+ghost use Rattle.reduction.specs.Answered.{answerOf, answerAs};
 ghost use Rattle.totals.specs.Ranges.{EntersRange};
-ghost use Rattle.totals.specs.Entered.{Enters, EntersFigure, EntersTable, Fits, formatFrom, formatWith, biasedFrom, settingsFrom};
+ghost use Rattle.totals.specs.Entered.{Enters, EntersFigure, EntersTable, Fits, FitsTens, formatFrom, formatWith, biasedFrom, settingsFrom};
 
 // The side is the third byte of its word, above the flags.
 const SIDE: u64 = 65536;
+
+// In a record of kind 4 both stand above the head, which has two bytes.
+const TEN_FLAGS: u64 = 65536;
+
+const TEN_SIDE: u64 = 16777216;
 
 // An accepted record is written; any other leaves the buffer as it was. Returns the refusal, plus 256 times the place.
 fn enter(a: Answer, answer: &mut [u8]) -> u64
@@ -36,6 +45,18 @@ fn enter(a: Answer, answer: &mut [u8]) -> u64
     put_word(answer, 8, a.flags + SIDE * a.side);
     put_word(answer, 16, a.passes);
     0
+}
+
+// The same of an accepted record of kind 4, which takes 32 bytes.
+fn enter_tens(t: Wide, answer: &mut [u8])
+    requires { ⌜ FitsTens (answerAs true t) (now answer) ⌝ }
+    ensures { λ _. ⌜ now (answer .exit) ≡ ten.extendedWritten (answerAs true t) (now (answer .entry)) ⌝ }
+{
+    let a = t.answer;
+    put_word(answer, 0, a.result);
+    put_word(answer, 8, t.head + TEN_FLAGS * a.flags + TEN_SIDE * a.side);
+    put_word(answer, 16, 0);
+    put_word(answer, 24, a.passes);
 }
 
 // A format from an entry's numbers. The bias is looked at where it is named.
@@ -83,7 +104,99 @@ fn settings(
     }
 }
 
-// What the entries of a total do: the lengths first, then the total. They hand numbers over and no records, which would be stored and read again on the
+// A total of kind 4, whose values have ten bytes: the lengths first.
+fn tens_sum(
+    exponent_bits: u64,
+    width: u64,
+    named: bool,
+    bias: i64,
+    rounding: u64,
+    tininess: u64,
+    nan_propagation: u64,
+    default_nan_negative: u64,
+    flush_to_zero: u64,
+    denormals_are_zero: u64,
+    saturate: u64,
+    precision: u64,
+    summand: u64,
+    values: &[u8],
+    answer: &mut [u8],
+) -> u64
+    ensures { λ r. ⌜ Enters (ten.extendedSumEntry (formatWith 4 «exponent_bits» width named bias) (settingsFrom rounding tininess «nan_propagation» «default_nan_negative» «flush_to_zero» «denormals_are_zero» saturate precision) summand (now (values .entry)) (now (answer .entry))) r (now (answer .exit)) ⌝ }
+{
+    if values.len() % 10 != 0 {
+        return 1;
+    }
+    if answer.len() < 32 {
+        return 2;
+    }
+    let f = format_with(4, exponent_bits, width, named, bias);
+    let c = settings(
+        rounding,
+        tininess,
+        nan_propagation,
+        default_nan_negative,
+        flush_to_zero,
+        denormals_are_zero,
+        saturate,
+        precision,
+    );
+    let number = extended::sum_refusal(f, c, summand, values);
+    if number != 0 {
+        return number;
+    }
+    enter_tens(extended::total(c, summand, values, values), answer);
+    0
+}
+
+fn tens_dot(
+    exponent_bits: u64,
+    width: u64,
+    named: bool,
+    bias: i64,
+    rounding: u64,
+    tininess: u64,
+    nan_propagation: u64,
+    default_nan_negative: u64,
+    flush_to_zero: u64,
+    denormals_are_zero: u64,
+    saturate: u64,
+    precision: u64,
+    left: &[u8],
+    right: &[u8],
+    answer: &mut [u8],
+) -> u64
+    ensures { λ r. ⌜ Enters (ten.extendedDotEntry (formatWith 4 «exponent_bits» width named bias) (settingsFrom rounding tininess «nan_propagation» «default_nan_negative» «flush_to_zero» «denormals_are_zero» saturate precision) (now (left .entry)) (now (right .entry)) (now (answer .entry))) r (now (answer .exit)) ⌝ }
+{
+    if left.len() % 10 != 0 {
+        return 1;
+    }
+    if right.len() % 10 != 0 {
+        return 1;
+    }
+    if answer.len() < 32 {
+        return 2;
+    }
+    let f = format_with(4, exponent_bits, width, named, bias);
+    let c = settings(
+        rounding,
+        tininess,
+        nan_propagation,
+        default_nan_negative,
+        flush_to_zero,
+        denormals_are_zero,
+        saturate,
+        precision,
+    );
+    let number = extended::dot_refusal(f, c, left, right);
+    if number != 0 {
+        return number;
+    }
+    enter_tens(extended::total(c, 3, left, right), answer);
+    0
+}
+
+// What the entries of a total do: kind 4 first, then the lengths, then the total. They hand numbers over and no records, which would be stored and read again on the
 // way: of a call with one element that is a quarter.
 fn enter_sum(
     kind: u64,
@@ -103,8 +216,27 @@ fn enter_sum(
     values: &[u8],
     answer: &mut [u8],
 ) -> u64
-    ensures { λ r. ⌜ Enters (bytes.sumEntry (formatWith kind «exponent_bits» width named bias) (settingsFrom rounding tininess «nan_propagation» «default_nan_negative» «flush_to_zero» «denormals_are_zero» saturate precision) summand (now (values .entry)) (now (answer .entry))) r (now (answer .exit)) ⌝ }
+    ensures { λ r. ⌜ Enters (ten.sumCall (formatWith kind «exponent_bits» width named bias) (settingsFrom rounding tininess «nan_propagation» «default_nan_negative» «flush_to_zero» «denormals_are_zero» saturate precision) summand (now (values .entry)) (now (answer .entry))) r (now (answer .exit)) ⌝ }
 {
+    if kind == 4 {
+        return tens_sum(
+            exponent_bits,
+            width,
+            named,
+            bias,
+            rounding,
+            tininess,
+            nan_propagation,
+            default_nan_negative,
+            flush_to_zero,
+            denormals_are_zero,
+            saturate,
+            precision,
+            summand,
+            values,
+            answer,
+        );
+    }
     if values.len() % 8 != 0 {
         return 1;
     }
@@ -143,8 +275,27 @@ fn enter_dot(
     right: &[u8],
     answer: &mut [u8],
 ) -> u64
-    ensures { λ r. ⌜ Enters (bytes.dotEntry (formatWith kind «exponent_bits» width named bias) (settingsFrom rounding tininess «nan_propagation» «default_nan_negative» «flush_to_zero» «denormals_are_zero» saturate precision) (now (left .entry)) (now (right .entry)) (now (answer .entry))) r (now (answer .exit)) ⌝ }
+    ensures { λ r. ⌜ Enters (ten.dotCall (formatWith kind «exponent_bits» width named bias) (settingsFrom rounding tininess «nan_propagation» «default_nan_negative» «flush_to_zero» «denormals_are_zero» saturate precision) (now (left .entry)) (now (right .entry)) (now (answer .entry))) r (now (answer .exit)) ⌝ }
 {
+    if kind == 4 {
+        return tens_dot(
+            exponent_bits,
+            width,
+            named,
+            bias,
+            rounding,
+            tininess,
+            nan_propagation,
+            default_nan_negative,
+            flush_to_zero,
+            denormals_are_zero,
+            saturate,
+            precision,
+            left,
+            right,
+            answer,
+        );
+    }
     if left.len() % 8 != 0 {
         return 1;
     }
@@ -168,7 +319,7 @@ fn enter_dot(
     enter(dot_bytes(f, c, left, right), answer)
 }
 
-// The sum of the values (summand 0), of their magnitudes (1) or of their squares (2).
+// The sum of the values (summand 0), of their magnitudes (1) or of their squares (2). Kind 4 is told apart before anything else is looked at.
 #[no_mangle]
 pub extern "C" fn totals_sum(
     kind: u64,
@@ -186,7 +337,7 @@ pub extern "C" fn totals_sum(
     values: &[u8],
     answer: &mut [u8],
 ) -> u64
-    ensures { λ r. ⌜ Enters (bytes.sumEntry (formatFrom kind «exponent_bits» width) (settingsFrom rounding tininess «nan_propagation» «default_nan_negative» «flush_to_zero» «denormals_are_zero» saturate precision) summand (now (values .entry)) (now (answer .entry))) r (now (answer .exit)) ⌝ }
+    ensures { λ r. ⌜ Enters (ten.sumCall (formatFrom kind «exponent_bits» width) (settingsFrom rounding tininess «nan_propagation» «default_nan_negative» «flush_to_zero» «denormals_are_zero» saturate precision) summand (now (values .entry)) (now (answer .entry))) r (now (answer .exit)) ⌝ }
 {
     enter_sum(
         kind,
@@ -226,7 +377,7 @@ pub extern "C" fn totals_dot(
     right: &[u8],
     answer: &mut [u8],
 ) -> u64
-    ensures { λ r. ⌜ Enters (bytes.dotEntry (formatFrom kind «exponent_bits» width) (settingsFrom rounding tininess «nan_propagation» «default_nan_negative» «flush_to_zero» «denormals_are_zero» saturate precision) (now (left .entry)) (now (right .entry)) (now (answer .entry))) r (now (answer .exit)) ⌝ }
+    ensures { λ r. ⌜ Enters (ten.dotCall (formatFrom kind «exponent_bits» width) (settingsFrom rounding tininess «nan_propagation» «default_nan_negative» «flush_to_zero» «denormals_are_zero» saturate precision) (now (left .entry)) (now (right .entry)) (now (answer .entry))) r (now (answer .exit)) ⌝ }
 {
     enter_dot(
         kind,
@@ -267,7 +418,7 @@ pub extern "C" fn totals_sum_biased(
     values: &[u8],
     answer: &mut [u8],
 ) -> u64
-    ensures { λ r. ⌜ Enters (bytes.sumEntry (biasedFrom kind «exponent_bits» width bias) (settingsFrom rounding tininess «nan_propagation» «default_nan_negative» «flush_to_zero» «denormals_are_zero» saturate precision) summand (now (values .entry)) (now (answer .entry))) r (now (answer .exit)) ⌝ }
+    ensures { λ r. ⌜ Enters (ten.sumCall (biasedFrom kind «exponent_bits» width bias) (settingsFrom rounding tininess «nan_propagation» «default_nan_negative» «flush_to_zero» «denormals_are_zero» saturate precision) summand (now (values .entry)) (now (answer .entry))) r (now (answer .exit)) ⌝ }
 {
     enter_sum(
         kind,
@@ -307,7 +458,7 @@ pub extern "C" fn totals_dot_biased(
     right: &[u8],
     answer: &mut [u8],
 ) -> u64
-    ensures { λ r. ⌜ Enters (bytes.dotEntry (biasedFrom kind «exponent_bits» width bias) (settingsFrom rounding tininess «nan_propagation» «default_nan_negative» «flush_to_zero» «denormals_are_zero» saturate precision) (now (left .entry)) (now (right .entry)) (now (answer .entry))) r (now (answer .exit)) ⌝ }
+    ensures { λ r. ⌜ Enters (ten.dotCall (biasedFrom kind «exponent_bits» width bias) (settingsFrom rounding tininess «nan_propagation» «default_nan_negative» «flush_to_zero» «denormals_are_zero» saturate precision) (now (left .entry)) (now (right .entry)) (now (answer .entry))) r (now (answer .exit)) ⌝ }
 {
     enter_dot(
         kind,

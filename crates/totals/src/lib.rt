@@ -1,5 +1,6 @@
 // Exact totals of lists of binary floating-point numbers, rounded once. Every call answers: what cannot be totalled is refused, with a number.
 pub mod entry;
+mod extended;
 mod lists;
 pub mod pages;
 pub mod pence;

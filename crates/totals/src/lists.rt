@@ -1,5 +1,5 @@
 // The answers of lists that pass the tests that do not look at the elements: of the sum of the values, magnitudes or squares of the left list, or of the
-// products (u = 3) of the pairs; and the pence (u = 4) of the left list.
+// products (u = 3) of the pairs; and the pence (u = 4) of the left list. The elements are words, values in bytes, or values of ten bytes.
 use crate::pence::Pence;
 use crate::report::Report;
 use crate::report::answer_of;
@@ -11,11 +11,14 @@ use crate::report::pence_of;
 use crate::report::scanned;
 use crate::report::strayed;
 use crate::report::top_for;
+use crate::report::wide_of;
 use crate::stray::Found;
 use crate::stray::walk_stray;
+use binary::extended::extended;
 use format::Format;
 use format::env::Settings;
 use reduction::total::Answer;
+use reduction::total::Wide;
 use reduction::total::left;
 use reduction::walk::exact;
 use scan::Early;
@@ -28,16 +31,21 @@ ghost use Prim.Native.Nat.{_*_, _/_, _<_, _≤_};
 ghost use lib.Dec.{eqb};
 ghost use lib.ListN.{length};
 ghost use mathlib.Core.Bool.{true, false};
+ghost use Rattle.totals_spec.specs.Basics.{any};
+ghost use Rattle.totals_spec.specs.Settings as env;
 ghost use Rattle.totals_spec.specs.Bytes.{valuesIn};
 ghost use Rattle.format.specs.Joined.{formatOf, settingsOf};
 ghost use Rattle.totals_spec.specs.Table.{columnOf};
 ghost use Rattle.totals_spec.specs.Totals as totals;
-ghost use Rattle.values.specs.Sources.{Within, sourceOf, elements};
-ghost use Rattle.values.specs.Walks.{Orderly, walkOf, isDot, isHundred};
-ghost use Rattle.reduction.specs.Answered.{answerOf};
+ghost use Rattle.totals_spec.specs.Extended as spec;
+ghost use Rattle.values.specs.Sources.{Within, sourceOf};
+ghost use Rattle.values.specs.Tens.{allTens};
+ghost use Rattle.values.specs.Walks.{wide, Known, TensThere, readAs, Orderly, walkOf, isDot, isHundred};
+ghost use Rattle.reduction.specs.Answered as answered;
+ghost use Rattle.reduction.specs.Answered.{answerOf, answerAs, tensRefusal};
 ghost use Rattle.totals.specs.PenceRecord.{penceRecord, listPence};
 ghost use Rattle.totals.specs.Walked.{numbersIn, answerTo};
-ghost use Rattle.totals.specs.Reported.{TotalAsks, TotalTells, ListAsks, ListTells};
+ghost use Rattle.totals.specs.Reported.{PenceAsks, TotalAsks, TotalTells, ListAsks, ListTells};
 
 // Of the lists of a walk, which have no stray bit: a scan, and a chain of passes where that decides nothing.
 fn total(
@@ -49,9 +57,10 @@ fn total(
     right_words: &[u64],
     right_bytes: &[u8],
 ) -> Report
+    requires { ⌜ Known (wide (formatOf f)) (formatOf f) × TensThere (wide (formatOf f)) (k .source) (now «left_bytes») (now «right_bytes») ⌝ }
     requires { ⌜ Within (k .source) (now «left_words») (now «left_bytes») × Within (k .source) (now «right_words») (now «right_bytes») × Orderly k ⌝ }
-    requires { ⌜ TotalAsks (isHundred k) (isDot k) (formatOf f) (settingsOf c) (k .summand) (elements (k .source) (now «left_words») (now «left_bytes»)) (elements (k .source) (now «right_words») (now «right_bytes»)) ⌝ }
-    ensures { λ r. ⌜ TotalTells (isHundred k) (isDot k) (formatOf f) (settingsOf c) (k .summand) (elements (k .source) (now («left_words» .entry)) (now («left_bytes» .entry))) (elements (k .source) (now («right_words» .entry)) (now («right_bytes» .entry))) r ⌝ }
+    requires { ⌜ TotalAsks (isHundred k) (wide (formatOf f)) (isDot k) (formatOf f) (settingsOf c) (k .summand) (readAs (wide (formatOf f)) (k .source) (now «left_words») (now «left_bytes»)) (readAs (wide (formatOf f)) (k .source) (now «right_words») (now «right_bytes»)) ⌝ }
+    ensures { λ r. ⌜ TotalTells (isHundred k) (wide (formatOf f)) (isDot k) (formatOf f) (settingsOf c) (k .summand) (readAs (wide (formatOf f)) (k .source) (now («left_words» .entry)) (now («left_bytes» .entry))) (readAs (wide (formatOf f)) (k .source) (now («right_words» .entry)) (now («right_bytes» .entry))) r ⌝ }
 {
     let s = scan(
         f,
@@ -98,9 +107,10 @@ fn listed(
     right_words: &[u64],
     right_bytes: &[u8],
 ) -> Report
+    requires { ⌜ Known (wide (formatOf f)) (formatOf f) × TensThere (wide (formatOf f)) (sourceOf layout start step count) (now «left_bytes») (now «right_bytes») ⌝ }
     requires { ⌜ Within (sourceOf layout start step count) (now «left_words») (now «left_bytes») × Within (sourceOf layout start step count) (now «right_words») (now «right_bytes») × Orderly (walkOf u (sourceOf layout start step count)) ⌝ }
-    requires { ⌜ ListAsks (eqb u 4) (eqb u 3) (formatOf f) (settingsOf c) u count ⌝ }
-    ensures { λ r. ⌜ ListTells (eqb u 4) (eqb u 3) (formatOf f) (settingsOf c) u (elements (sourceOf layout start step count) (now («left_words» .entry)) (now («left_bytes» .entry))) (elements (sourceOf layout start step count) (now («right_words» .entry)) (now («right_bytes» .entry))) r ⌝ }
+    requires { ⌜ ListAsks (eqb u 4) (wide (formatOf f)) (eqb u 3) (formatOf f) (settingsOf c) u count (readAs (wide (formatOf f)) (sourceOf layout start step count) (now «left_words») (now «left_bytes»)) (readAs (wide (formatOf f)) (sourceOf layout start step count) (now «right_words») (now «right_bytes»)) ⌝ }
+    ensures { λ r. ⌜ ListTells (eqb u 4) (wide (formatOf f)) (eqb u 3) (formatOf f) (settingsOf c) u (readAs (wide (formatOf f)) (sourceOf layout start step count) (now («left_words» .entry)) (now («left_bytes» .entry))) (readAs (wide (formatOf f)) (sourceOf layout start step count) (now («right_words» .entry)) (now («right_bytes» .entry))) r ⌝ }
 {
     let k = Walk {
         summand: u,
@@ -135,9 +145,20 @@ pub fn bytes(f: Format, c: Settings, u: u64, left: &[u8], right: &[u8]) -> Answe
     answer_of(listed(f, c, u, 1, 0, 1, left.len() / 8, &none, left, &none, right))
 }
 
+// A total of values of ten bytes, none of which is unsupported.
+pub fn tens(c: Settings, u: u64, left: &[u8], right: &[u8]) -> Wide
+    requires { ⌜ length (now right) / 10 ≡ length (now left) / 10 ⌝ }
+    requires { ⌜ (any spec.unsupported (allTens (eqb u 3) (spec.tensIn (now left)) (spec.tensIn (now right))) ≡ false) × (tensRefusal (eqb u 3) (settingsOf c) u (spec.tensIn (now left)) (spec.tensIn (now right)) ≡ 0) ⌝ }
+    ensures { λ r. ⌜ answerAs true r ≡ answered.answerIn true (eqb u 3) spec.extended (settingsOf c) (env.summandOf u) (spec.tensIn (now (left .entry))) (spec.tensIn (now (right .entry))) ⌝ }
+{
+    let none = [0u64; 1];
+    let f = extended();
+    wide_of(listed(f, c, u, 1, 0, 1, left.len() / 10, &none, left, &none, right))
+}
+
 // The pence of a list of words.
 pub fn pence(f: Format, c: Settings, values: &[u64]) -> Pence
-    requires { ⌜ ListAsks true false (formatOf f) (settingsOf c) 4 (length (now values)) ⌝ }
+    requires { ⌜ PenceAsks (formatOf f) (settingsOf c) (length (now values)) ⌝ }
     ensures { λ r. ⌜ penceRecord r ≡ listPence (formatOf f) (now (values .entry)) ⌝ }
 {
     pence_of(listed(

@@ -10,6 +10,7 @@ use format::env::Settings;
 use format::unpacked::Unpacked;
 use limbs::word::either;
 use reduction::total::Answer;
+use reduction::total::Wide;
 use reduction::total::finish;
 use reduction::total::special;
 use scan::Early;
@@ -19,7 +20,7 @@ use values::HUNDREDFOLD;
 use values::Walk;
 use window::ExactSum;
 ghost use mathlib.Core.Path.{_≡_};
-ghost use mathlib.Core.Bool.{cond};
+ghost use mathlib.Core.Bool.{false, cond};
 ghost use Prim.Native.Nat.{_+_, _^_, _<_};
 ghost use lib.Dec.{eqb};
 ghost use Rattle.totals_spec.specs.Format as spec;
@@ -36,6 +37,7 @@ ghost use Rattle.totals.specs.Reported.{answerIn, penceIn, odd, PenceDec
 // lists: of a walk that is called from two places every call would hand its records over in memory, which for a list of one element is two thirds more.
 pub struct Report {
     pub result: u64,
+    pub head: u64,
     pub flags: u64,
     pub passes: u64,
     pub last_edge: i64,
@@ -51,11 +53,13 @@ const DIGITS: u64 = 64;
 // A hundred has 7 bits: each value, taken a hundred times, has its T so much higher.
 const HUNDRED_BITS: u64 = 7;
 
-fn of_total(a: Answer) -> Report
-    ensures { λ r. ⌜ answerIn r ≡ answerOf a ⌝ }
+fn of_total(t: Wide) -> Report
+    ensures { λ r. ⌜ (answerIn false r ≡ answerOf (t .answer)) × (r .head ≡ t .head) ⌝ }
 {
+    let a = t.answer;
     Report {
         result: a.result,
+        head: t.head,
         flags: a.flags,
         passes: a.passes,
         last_edge: a.last_edge,
@@ -71,6 +75,7 @@ fn of_pence(p: Pence) -> Report
 {
     Report {
         result: 0,
+        head: 0,
         flags: 0,
         passes: 0,
         last_edge: 0,
@@ -83,10 +88,11 @@ fn of_pence(p: Pence) -> Report
 
 // Where an element does not fit the width.
 pub fn strayed(i: usize) -> Report
-    ensures { λ r. ⌜ (answerIn r ≡ totals.refused 7 i) × (penceIn r ≡ pence.refusedAt 7 i) ⌝ }
+    ensures { λ r. ⌜ (answerIn false r ≡ totals.refused 7 i) × (penceIn r ≡ pence.refusedAt 7 i) ⌝ }
 {
     Report {
         result: 0,
+        head: 0,
         flags: 0,
         passes: 0,
         last_edge: 0,
@@ -99,7 +105,7 @@ pub fn strayed(i: usize) -> Report
 
 // The total, and the pence.
 pub fn answer_of(r: Report) -> Answer
-    ensures { λ a. ⌜ answerOf a ≡ answerIn r ⌝ }
+    ensures { λ a. ⌜ answerOf a ≡ answerIn false r ⌝ }
 {
     Answer {
         result: r.result,
@@ -109,6 +115,16 @@ pub fn answer_of(r: Report) -> Answer
         refusal: r.refusal,
         place: r.place,
         side: r.side,
+    }
+}
+
+// The total of kind 4.
+pub fn wide_of(r: Report) -> Wide
+    ensures { λ t. ⌜ (answerOf (t .answer) ≡ answerIn false r) × (t .head ≡ r .head) ⌝ }
+{
+    Wide {
+        head: r.head,
+        answer: answer_of(r),
     }
 }
 

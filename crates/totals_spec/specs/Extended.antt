@@ -2,7 +2,6 @@
 -- The numbers of X87 are those of an Ieee format with E = 15 and 64 digits, `extended`: bias, emin, emax, infinities and rounding are that format's, and so
 -- are terms and passes. Only the encodings differ. There the leading bit of a significand is written out, so that some encodings stand for nothing, and some
 -- numbers have two.
--- No function of the archive takes kind 4 yet: its entries refuse it.
 use Prim.Native.Nat.{ℕ, zero, suc, _+_, _-_, _*_, _/_, _%_, _^_}
 use mathlib.Core.Bool.{Bool, true, false, not, _&&_, _||_, cond}
 use mathlib.Core.List.{List, [], _∷_, _++_, map}

@@ -2,8 +2,9 @@
 use mathlib.Core.Path.{_≡_, refl, sym, ap, _∙_}
 use mathlib.Core.Bool.{Bool, true, false}
 use mathlib.Core.List.{List}
-use Prim.Native.Nat.{ℕ, zero, suc, _+_, _*_, _/_, _^_, _<_, _≤_}
-use native.Mathlib.Nat.{le-of-suc-le-suc, not-suc-le-zero, add-zero, zero-mul, mul-one, zero-add, mul-le-mul-right}
+use Prim.Native.Nat.{ℕ, zero, suc, _+_, _*_, _-_, _/_, _^_, _<_, _≤_}
+use native.Mathlib.Nat.{le-of-suc-le-suc, not-suc-le-zero, add-zero, zero-mul, mul-one, zero-add, mul-comm}
+use native.Mathlib.Nat.{mul-le-mul-right, le-of-mul-le-mul-right, lt-of-mul-lt-mul-right}
 use native.Mathlib.Numerals.{add-one-le}
 use native.Mathlib.Omega.{arith}
 use lib.Dec.{eqb, lit<}
@@ -52,6 +53,27 @@ module _ (s : Source) (words bytes : List ℕ) (i at : ℕ) (h : i < s .count) (
   pub next-fits : Within s words bytes → at + s .step < 2 ^ 64
   next-fits w = rw next-place (omega (arith, w .room, mul-le-mul-right (s .step) (add-one-le h)))
 
+-- a walk by places ends behind the last element: the bound of its loop has a number
+module _ (s : Source) {words bytes : List ℕ} (w : Within s words bytes) where
+  pub span-fits : s .step * s .count < 2 ^ 64
+  span-fits = omega (arith, w .room, mul-comm (s .step) (s .count))
+
+  pub end-fits : s .start + s .step * s .count < 2 ^ 64
+  end-fits = omega (arith, w .room, mul-comm (s .step) (s .count))
+
+  -- what stands before it is an element, and where it is reached there is none left
+  module _ {i at : ℕ} (e : at ≡ s .start + i * s .step) where
+    pub inside-end : at < s .start + s .step * s .count → i < s .count
+    inside-end h = lt-of-mul-lt-mul-right (s .step) (omega (arith, e, h, mul-comm (s .step) (s .count)))
+
+    pub at-end : s .start + s .step * s .count ≤ at → s .count ≤ i
+    at-end h = le-of-mul-le-mul-right (omega (arith, e, h, mul-comm (s .step) (s .count))) (w .onward)
+
+  -- each turn brings it nearer
+  pub end-nearer : {at : ℕ} → at < s .start + s .step * s .count
+      → s .start + s .step * s .count - (at + s .step) < s .start + s .step * s .count - at
+  end-nearer h = omega (arith, h, w .onward)
+
 -- where they stand side by side, at its index
 pub straight-place : {s : Source} → Straight s → (i : ℕ) → i ≡ s .start + i * s .step
 straight-place h i = rw (h .start-is, h .step-is) (omega arith)
@@ -83,7 +105,7 @@ module _ (layout : ℕ) (words bytes : List ℕ) {count : ℕ} (n : count ≡ le
   pub whole-gives : count < 2 ^ 64 → Gives (sourceOf layout 0 1 count) words bytes (laidOut (eqb layout 0) words bytes)
   unfolding elements
   whole-gives few = record {
-    within = record { there = λ i k. omega (arith, k, n); room = omega (arith, few) };
+    within = record { there = λ i k. omega (arith, k, n); onward = lit< tt; room = omega (arith, few) };
     are = rw n (strided-all (laidOut (eqb layout 0) words bytes));
   }
 

@@ -26,9 +26,10 @@ values s words bytes = laidOut (eqb (s .layout) 0) words bytes
 unfoldable pub elements : Source → List ℕ → List ℕ → List ℕ
 elements s words bytes = strided (s .start) (s .step) (s .count) (values s words bytes)
 
--- each of them is there, and the place behind the last has a number
+-- each of them is there, the next one further on, and the place behind the last has a number
 pub record Within (s : Source) (words bytes : List ℕ) : Type 0 where
   pub there : (i : ℕ) → i < s .count → s .start + i * s .step < length (values s words bytes)
+  pub onward : 0 < s .step
   pub room : s .start + s .count * s .step < 2 ^ 64
 
 -- they stand side by side from the first value on

@@ -8,7 +8,7 @@ use crate::refused::refused;
 use crate::rng::Rng;
 
 /// One of the lists of the other groups.
-fn drawn(rng: &mut Rng, format: Format) -> Case {
+pub fn drawn(rng: &mut Rng, format: Format) -> Case {
     match rng.below(16) {
         0..=3 => lists::random(rng, format),
         4..=6 => lists::ties(rng, format),

@@ -56,17 +56,18 @@ impl Format {
     }
 }
 
+/// Values are words, or of ten bytes (kind 4).
 #[derive(Clone, Debug)]
-pub struct Case {
+pub struct Case<V = u64> {
     pub format: Format,
     /// Rounding, tininess, NaN propagation, default NaN's sign, flush to zero, denormals are zero, saturate, precision.
     pub settings: [u64; 8],
     pub operation: Operation,
     /// The values, or the left list of a dot.
-    pub left: Vec<u64>,
+    pub left: Vec<V>,
     /// The right list of a dot.
-    pub right: Vec<u64>,
-    /// How many bytes, 0 to 7, stand behind the values of the left and of the right list.
+    pub right: Vec<V>,
+    /// How many bytes, fewer than a value has, stand behind the values of the left and of the right list.
     pub behind: [usize; 2],
     /// The length of the answer buffer.
     pub room: usize,
@@ -76,7 +77,7 @@ pub struct Case {
     pub order: u64,
 }
 
-impl Case {
+impl<V> Case<V> {
     /// A well-formed call on a list of no values.
     pub fn new(format: Format, settings: [u64; 8], operation: Operation) -> Self {
         Self { format, settings, operation, left: vec![], right: vec![], behind: [0; 2], room: 40, fill: 0xa5, order: 0 }
@@ -92,7 +93,7 @@ impl Case {
     }
 }
 
-fn list(values: &[u64]) -> String {
+fn list<V: fmt::LowerHex>(values: &[V]) -> String {
     const SHOWN: usize = 64;
     let mut text: Vec<String> = values.iter().take(SHOWN).map(|v| format!("{v:x}")).collect();
     if values.len() > SHOWN {
@@ -101,7 +102,7 @@ fn list(values: &[u64]) -> String {
     format!("[{}]", text.join(" "))
 }
 
-impl fmt::Display for Case {
+impl<V: fmt::LowerHex> fmt::Display for Case<V> {
     fn fmt(&self, out: &mut fmt::Formatter) -> fmt::Result {
         let [kind, e, w] = self.format.numbers;
         let names = ["rounding", "tininess", "nan", "default-nan", "flush", "daz", "saturate", "precision"];

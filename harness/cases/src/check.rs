@@ -1,6 +1,7 @@
 //! One case, looked at from every side: the refusal, the result, flags and passes, which way the result leans, each byte of the buffers, and a
 //! rearranged list.
 
+use std::fmt::{Debug, LowerHex};
 use std::panic::{AssertUnwindSafe, catch_unwind};
 
 use crate::case::{Case, Format, Operation};
@@ -9,11 +10,12 @@ use crate::leaning::leaning;
 use crate::refusals::{Expected, Side, expected, is_stray};
 use crate::rng::Rng;
 use crate::shape::Shape;
+use crate::tally::Tally;
 
 /// What the original answers.
 #[derive(Clone, Copy, Debug, PartialEq, Eq)]
-pub struct Answer {
-    pub result: u64,
+pub struct Answer<V = u64> {
+    pub result: V,
     pub flags: u8,
     pub passes: u64,
 }
@@ -22,13 +24,74 @@ pub struct Answer {
 pub struct Oracle<'a> {
     pub formats: Vec<Format>,
     pub total: &'a (dyn Fn(&Case) -> Answer + Sync),
+    /// The totals of values of ten bytes.
+    pub extended: &'a (dyn Fn(&Case<u128>) -> Answer<u128> + Sync),
+}
+
+/// The values of a list: how they lie in bytes, and what is expected of a call with them.
+pub trait Value: Copy + Debug + PartialEq + LowerHex + Into<u128> {
+    /// The bytes of a value, and of an answer.
+    const SIZE: usize;
+    const ANSWER: usize;
+
+    /// Its bytes first.
+    fn bytes(self) -> [u8; 16];
+
+    fn expected(case: &Case<Self>) -> Expected;
+
+    /// Whether it does not fit the width.
+    fn is_stray(self, width: u64) -> bool;
+
+    /// The original's answer.
+    fn total(oracle: &Oracle, case: &Case<Self>) -> Answer<Self>;
+
+    /// The record in the bytes that an accepted call wrote, and the side, which is that of the exact sum.
+    fn read_answer(case: &Case<Self>, written: &[u8]) -> Result<(Answer<Self>, u8), String>;
+
+    /// Whether the elements, or the pairs, may stand in any order.
+    fn has_any_order(case: &Case<Self>) -> bool;
+
+    fn count(case: &Case<Self>, seen: &Seen, tally: &mut Tally);
+}
+
+impl Value for u64 {
+    const SIZE: usize = 8;
+    const ANSWER: usize = 24;
+
+    fn bytes(self) -> [u8; 16] {
+        u128::from(self).to_le_bytes()
+    }
+
+    fn expected(case: &Case) -> Expected {
+        expected(case)
+    }
+
+    fn is_stray(self, width: u64) -> bool {
+        is_stray(self, width)
+    }
+
+    fn total(oracle: &Oracle, case: &Case) -> Answer {
+        (oracle.total)(case)
+    }
+
+    fn read_answer(case: &Case, written: &[u8]) -> Result<(Answer, u8), String> {
+        read_answer(case, written)
+    }
+
+    fn has_any_order(case: &Case) -> bool {
+        !has_nan(case)
+    }
+
+    fn count(case: &Case, seen: &Seen, tally: &mut Tally) {
+        tally.add(case, seen);
+    }
 }
 
 /// What a case without a difference showed.
 #[derive(Clone, Copy, Debug)]
 pub enum Seen {
     Refused(u64),
-    Accepted { answer: Answer, side: u8, rearranged: bool },
+    Accepted { result: u128, flags: u8, passes: u64, side: u8, rearranged: bool },
 }
 
 /// The two entries to compare, as functions of a case's numbers and bytes. Tests put others in their place.
@@ -53,7 +116,7 @@ impl Default for Bench {
 }
 
 /// Every buffer starts so many bytes behind an aligned address.
-pub fn skew(case: &Case) -> usize {
+pub fn skew<V>(case: &Case<V>) -> usize {
     usize::from(case.fill % 8)
 }
 
@@ -61,20 +124,22 @@ pub fn skew(case: &Case) -> usize {
 const GUARD: usize = 32;
 
 /// What byte `i` holds before the call. It differs from byte to byte, so that a shifted copy shows.
-pub fn fill(case: &Case, i: usize) -> u8 {
+pub fn fill<V>(case: &Case<V>, i: usize) -> u8 {
     case.fill.wrapping_add((i as u8).wrapping_mul(37))
 }
 
 /// Writes the values' bytes, and behind them `behind` bytes more.
-fn lay_out(values: &[u64], skew: usize, behind: usize, bytes: &mut Vec<u8>) {
+fn lay_out<V: Value>(values: &[V], skew: usize, behind: usize, bytes: &mut Vec<u8>) {
     bytes.clear();
     bytes.resize(skew, 0x5c);
-    bytes.extend(values.iter().flat_map(|value| value.to_le_bytes()));
-    bytes.resize(skew + 8 * values.len() + behind, 0x5c);
+    for value in values {
+        bytes.extend_from_slice(&value.bytes()[..V::SIZE]);
+    }
+    bytes.resize(skew + V::SIZE * values.len() + behind, 0x5c);
 }
 
-fn is_laid_out(values: &[u64], skew: usize, bytes: &[u8]) -> bool {
-    bytes[skew..].chunks_exact(8).zip(values).all(|(chunk, value)| chunk == value.to_le_bytes())
+fn is_laid_out<V: Value>(values: &[V], skew: usize, bytes: &[u8]) -> bool {
+    bytes[skew..].chunks_exact(V::SIZE).zip(values).all(|(chunk, value)| *chunk == value.bytes()[..V::SIZE])
 }
 
 fn word(bytes: &[u8], at: usize) -> u64 {
@@ -87,7 +152,7 @@ impl Bench {
     }
 
     /// Calls the entry with the case's bytes.
-    fn call(&mut self, case: &Case) -> u64 {
+    fn call<V: Value>(&mut self, case: &Case<V>) -> u64 {
         let skew = skew(case);
         lay_out(&case.left, skew, case.behind[0], &mut self.left);
         lay_out(&case.right, skew, case.behind[1], &mut self.right);
@@ -100,18 +165,18 @@ impl Bench {
         }
     }
 
-    /// The first 24 bytes of the answer buffer.
-    fn written(&self, case: &Case) -> &[u8] {
-        &self.answer[skew(case)..skew(case) + 24]
+    /// The bytes of the answer.
+    fn written<V: Value>(&self, case: &Case<V>) -> &[u8] {
+        &self.answer[skew(case)..skew(case) + V::ANSWER]
     }
 
     /// Nothing was written but the answer of an accepted call.
-    fn check_untouched(&self, case: &Case, accepted: bool) -> Result<(), String> {
+    fn check_untouched<V: Value>(&self, case: &Case<V>, accepted: bool) -> Result<(), String> {
         let skew = skew(case);
         if !is_laid_out(&case.left, skew, &self.left) || !is_laid_out(&case.right, skew, &self.right) {
             return Err("the bytes of a list were changed".to_string());
         }
-        let written = if accepted { skew..skew + 24 } else { 0..0 };
+        let written = if accepted { skew..skew + V::ANSWER } else { 0..0 };
         let touched = (0..self.answer.len()).find(|i| !written.contains(i) && self.answer[*i] != fill(case, *i));
         match touched {
             Some(i) => Err(format!("byte {} of the answer buffer was written", i as i64 - skew as i64)),
@@ -120,9 +185,9 @@ impl Bench {
     }
 
     /// Checks one case. An error says what differs.
-    pub fn check(&mut self, case: &Case, oracle: &Oracle) -> Result<Seen, String> {
+    pub fn check<V: Value>(&mut self, case: &Case<V>, oracle: &Oracle) -> Result<Seen, String> {
         let code = self.call(case);
-        let wanted = expected(case);
+        let wanted = V::expected(case);
         self.check_untouched(case, wanted == Expected::Accepted)?;
         match wanted {
             Expected::Accepted if code == 0 => self.check_accepted(case, oracle),
@@ -132,28 +197,28 @@ impl Bench {
         }
     }
 
-    fn check_accepted(&mut self, case: &Case, oracle: &Oracle) -> Result<Seen, String> {
-        let (answer, side) = read_answer(case, self.written(case))?;
-        let Ok(original) = catch_unwind(AssertUnwindSafe(|| (oracle.total)(case))) else {
+    fn check_accepted<V: Value>(&mut self, case: &Case<V>, oracle: &Oracle) -> Result<Seen, String> {
+        let (answer, side) = V::read_answer(case, self.written(case))?;
+        let Ok(original) = catch_unwind(AssertUnwindSafe(|| V::total(oracle, case))) else {
             return Err(format!("the original panics, where the answer is {answer:x?}"));
         };
         if original != answer {
             return Err(format!("the original answers {original:x?}, the archive {answer:x?}"));
         }
         self.first.clear();
-        self.first.extend_from_slice(&self.answer[skew(case)..skew(case) + 24]);
-        let rearranged = case.left.len() > 1 && !has_nan(case);
+        self.first.extend_from_slice(&self.answer[skew(case)..skew(case) + V::ANSWER]);
+        let rearranged = case.left.len() > 1 && V::has_any_order(case);
         if rearranged {
             self.check_same("rearranged to", &in_another_order(case))?;
         }
         if case.format.names_its_own() {
             self.check_same("without the bias", &Case { format: Format::plain(case.format.numbers), ..case.clone() })?;
         }
-        Ok(Seen::Accepted { answer, side, rearranged })
+        Ok(Seen::Accepted { result: answer.result.into(), flags: answer.flags, passes: answer.passes, side, rearranged })
     }
 
-    /// Another case gives the same 24 bytes as the one before, which `first` holds.
-    fn check_same(&mut self, how: &str, other: &Case) -> Result<(), String> {
+    /// Another case gives the same bytes of answer as the one before, which `first` holds.
+    fn check_same<V: Value>(&mut self, how: &str, other: &Case<V>) -> Result<(), String> {
         let code = self.call(other);
         let written = self.written(other);
         if code != 0 || written != self.first {
@@ -177,9 +242,9 @@ pub fn read_answer(case: &Case, written: &[u8]) -> Result<(Answer, u8), String> 
 }
 
 /// Number 7's place is the lowest index of an element of that list with a stray bit.
-pub fn check_place(case: &Case, side: Side, place: u64) -> Result<Seen, String> {
+pub fn check_place<V: Value>(case: &Case<V>, side: Side, place: u64) -> Result<Seen, String> {
     let list = if side == Side::Left { &case.left } else { &case.right };
-    match list.iter().position(|&value| is_stray(value, case.format.width())) {
+    match list.iter().position(|value| value.is_stray(case.format.width())) {
         Some(first) if first as u64 == place => Ok(Seen::Refused(7)),
         first => Err(format!("refusal 7 of the {side:?} list names place {place}, and the first is {first:?}")),
     }
@@ -191,10 +256,10 @@ pub fn has_nan(case: &Case) -> bool {
 }
 
 /// The same elements, or pairs of elements, in another order.
-fn in_another_order(case: &Case) -> Case {
+fn in_another_order<V: Value>(case: &Case<V>) -> Case<V> {
     let mut order: Vec<usize> = (0..case.left.len()).collect();
     Rng::new(case.order, 0, 0).shuffle(&mut order);
-    let take = |list: &[u64]| order.iter().map(|&i| list[i]).collect();
+    let take = |list: &[V]| order.iter().map(|&i| list[i]).collect();
     let mut other = Case::new(case.format, case.settings, case.operation);
     other.left = take(&case.left);
     if case.is_dot() {
@@ -205,7 +270,7 @@ fn in_another_order(case: &Case) -> Case {
 }
 
 #[cfg(test)]
-mod tests {
+pub mod tests {
     use fermuzhai::raw;
 
     use super::{Answer, Bench, Oracle, Seen, word};
@@ -222,7 +287,7 @@ mod tests {
     const BINARY16: Format = Format::plain([0, 5, 16]);
 
     /// The archive itself in the place of the original.
-    fn archive(case: &Case) -> Answer {
+    pub fn archive(case: &Case) -> Answer {
         let mut answer = [0; 24];
         let bytes = |list: &[u64]| raw::bytes(list);
         match case.operation {
@@ -232,8 +297,20 @@ mod tests {
         Answer { result: word(&answer, 0), flags: answer[8], passes: word(&answer, 16) }
     }
 
+    /// The same for values of ten bytes.
+    pub fn archive_extended(case: &Case<u128>) -> Answer<u128> {
+        let mut answer = [0; 32];
+        let bytes = |list: &[u128]| list.iter().flat_map(|value| value.to_le_bytes()[..10].to_vec()).collect::<Vec<u8>>();
+        match case.operation {
+            Operation::Sum(summand) => entries::sum(case.format, case.settings, summand, &bytes(&case.left), &mut answer),
+            Operation::Dot => entries::dot(case.format, case.settings, &bytes(&case.left), &bytes(&case.right), &mut answer),
+        };
+        let head = u128::from(word(&answer, 2) >> 48) << 64;
+        Answer { result: head | u128::from(word(&answer, 0)), flags: answer[10], passes: word(&answer, 24) }
+    }
+
     fn oracle(total: &(dyn Fn(&Case) -> Answer + Sync)) -> Oracle<'_> {
-        Oracle { formats: vec![BINARY16], total }
+        Oracle { formats: vec![BINARY16], total, extended: &archive_extended }
     }
 
     /// Formats at the ends of every range.
@@ -294,7 +371,7 @@ mod tests {
     fn too_many_elements() {
         let bytes = vec![0; 8 * (LIMIT + 1)];
         let mut answer = [0xa5; 24];
-        let mut case = Case::new(BINARY16, [0; 8], Operation::Dot);
+        let mut case: Case = Case::new(BINARY16, [0; 8], Operation::Dot);
         case.left = vec![0; LIMIT + 1];
         case.right = vec![0; LIMIT + 1];
         assert_eq!(expected(&case), Expected::Refused(6));
@@ -321,7 +398,7 @@ mod tests {
             }
             answer
         };
-        let mut case = Case::new(BINARY16, [5, 1, 2, 1, 0, 0, 1, 3], Operation::Sum(1));
+        let mut case: Case = Case::new(BINARY16, [5, 1, 2, 1, 0, 0, 1, 3], Operation::Sum(1));
         case.left = vec![1, 0x3c00, 0x7bff, 0x3c00, 0x8001];
         let mut bench = Bench::default();
         assert!(bench.check(&case, &oracle(&wrong)).is_err());
@@ -333,7 +410,7 @@ mod tests {
 
     #[test]
     fn a_panic_of_the_original_is_a_difference() {
-        let case = Case::new(BINARY16, [0; 8], Operation::Dot);
+        let case: Case = Case::new(BINARY16, [0; 8], Operation::Dot);
         assert!(Bench::default().check(&case, &oracle(&|_| panic!("on purpose"))).is_err());
     }
 
@@ -474,7 +551,7 @@ mod tests {
                 Ok(Seen::Refused(number)) => number,
                 other => panic!("{case}: {other:?}"),
             };
-            let mut case = Case::new(Format::biased([0, 5, 16], bias), [8; 8], operation);
+            let mut case: Case = Case::new(Format::biased([0, 5, 16], bias), [8; 8], operation);
             assert_eq!(refusal(&case), 3);
             case.room = 23;
             assert_eq!(refusal(&case), 2);
@@ -502,7 +579,7 @@ mod tests {
             code
         };
         let mut bench = Bench::with(sum, entries::dot);
-        let mut case = Case::new(Format::biased([0, 5, 16], 14), [0; 8], Operation::Sum(0));
+        let mut case: Case = Case::new(Format::biased([0, 5, 16], 14), [0; 8], Operation::Sum(0));
         case.left = vec![0x3c00];
         assert!(bench.check(&case, &oracle(&alike)).is_ok());
         case.format.bias = Some(15);

@@ -2,7 +2,7 @@
 
 use crate::case::{Case, Format, Operation};
 use crate::rng::Rng;
-use crate::shape::Shape;
+use crate::shape::{Encodings, Shape};
 
 /// Formats with more exponent bits than 15 have numbers so far apart that the original walks thousands of passes between them.
 pub fn is_wide(format: Format) -> bool {

@@ -3,7 +3,7 @@
 use std::collections::BTreeMap;
 
 use crate::case::{Case, Operation};
-use crate::shape::{Decoded, Shape};
+use crate::shape::{Decoded, Encodings, Shape};
 
 pub const EQUAL: u8 = 0;
 pub const BELOW: u8 = 1;
@@ -17,12 +17,26 @@ struct Term {
     k: i64,
 }
 
+/// A number as a sign and m × 2^k in least numbers.
+pub type Number = (bool, u64, i64);
+
 /// The side of a result of the case.
 pub fn leaning(case: &Case, result: u64) -> u8 {
     let shape = Shape::of(case.format);
+    let denormals_are_zero = case.settings[5] == 1;
+    let operand = |value: u64| {
+        let (negative, m, k) = number(shape.decode(value))?;
+        let is_subnormal = m < shape.least_normal();
+        Some((negative, if denormals_are_zero && is_subnormal { 0 } else { m }, k))
+    };
+    side(case, operand, number(shape.decode(result)), shape.position_of_one())
+}
+
+/// The side of a result, by what an element counts for; none of either is a NaN, an infinity or no value at all.
+pub fn side<V: Copy>(case: &Case<V>, operand: impl Fn(V) -> Option<Number>, result: Option<Number>, position_of_one: i64) -> u8 {
     // a product counts from the square of the least number, where the least number itself lies this far up: down, where it is the lesser of the two
-    let grid = if case.is_product() { shape.position_of_one() } else { 0 };
-    let (Some(mut terms), Some((negative, m, k))) = (terms(case, &shape), number(shape.decode(result))) else {
+    let grid = if case.is_product() { position_of_one } else { 0 };
+    let (Some(mut terms), Some((negative, m, k))) = (terms(case, operand), result) else {
         return NO_COMPARISON;
     };
     terms.push(Term { negative: !negative, m: m.into(), k: k + grid });
@@ -34,7 +48,7 @@ pub fn leaning(case: &Case, result: u64) -> u8 {
 }
 
 /// A number as a sign and m × 2^k; none of a NaN or an infinity.
-fn number(value: Decoded) -> Option<(bool, u64, i64)> {
+fn number(value: Decoded) -> Option<Number> {
     match value {
         Decoded::Number { negative, m, k } => Some((negative, m, k)),
         Decoded::Nan | Decoded::Infinity => None,
@@ -42,14 +56,9 @@ fn number(value: Decoded) -> Option<(bool, u64, i64)> {
 }
 
 /// The terms of a list of finite values; none of another list. A zero is a term of magnitude 0.
-fn terms(case: &Case, shape: &Shape) -> Option<Vec<Term>> {
-    let denormals_are_zero = case.settings[5] == 1;
-    let operand = |value: u64| {
-        let (negative, m, k) = number(shape.decode(value))?;
-        let is_subnormal = m < shape.least_normal();
-        Some((negative, if denormals_are_zero && is_subnormal { 0 } else { u128::from(m) }, k))
-    };
-    let of_one = |&value: &u64| {
+fn terms<V: Copy>(case: &Case<V>, operand: impl Fn(V) -> Option<Number>) -> Option<Vec<Term>> {
+    let operand = |value: V| operand(value).map(|(negative, m, k)| (negative, u128::from(m), k));
+    let of_one = |&value: &V| {
         let (negative, m, k) = operand(value)?;
         Some(match case.operation {
             Operation::Sum(0) => Term { negative, m, k },
@@ -57,7 +66,7 @@ fn terms(case: &Case, shape: &Shape) -> Option<Vec<Term>> {
             _ => Term { negative: false, m: m * m, k: 2 * k },
         })
     };
-    let of_pair = |(&x, &y): (&u64, &u64)| {
+    let of_pair = |(&x, &y): (&V, &V)| {
         let ((x_negative, x, i), (y_negative, y, k)) = (operand(x)?, operand(y)?);
         Some(Term { negative: x_negative != y_negative, m: x * y, k: i + k })
     };

@@ -7,6 +7,8 @@ mod check;
 mod draw;
 mod entries;
 mod exhaustive;
+mod extended;
+mod habits;
 mod leaning;
 mod lists;
 mod refusals;
@@ -19,6 +21,7 @@ mod table;
 mod table_check;
 mod tables;
 mod tally;
+mod tens;
 mod terms;
 
 pub use case::{Case, Format, Operation};

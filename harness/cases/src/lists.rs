@@ -162,7 +162,7 @@ pub fn many(rng: &mut Rng, format: Format) -> Case {
 }
 
 /// Repeats the first values, or pairs, until there are so many.
-pub fn lengthen(rng: &mut Rng, case: &mut Case, different: usize, count: usize) {
+pub fn lengthen<V: Copy>(rng: &mut Rng, case: &mut Case<V>, different: usize, count: usize) {
     while case.left.len() < count {
         let i = rng.below(different as u64) as usize;
         case.left.push(case.left[i]);

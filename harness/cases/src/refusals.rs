@@ -1,6 +1,7 @@
 //! Document 01's table of refusals, read row by row for the two byte entries.
 
 use crate::case::{Case, Format, LIMIT, Operation};
+use crate::check::Value;
 
 /// What the entry is to return.
 #[derive(Clone, Copy, Debug, PartialEq, Eq)]
@@ -41,16 +42,28 @@ pub fn is_stray(value: u64, width: u64) -> bool {
     width < 64 && value >> width != 0
 }
 
+/// 1 and 2. Kind 4, whatever else is named with it, has ten bytes a value and 32 of answer, where the others have 8 and 24.
+pub fn refused_by_bytes<V: Value>(case: &Case<V>) -> Option<u64> {
+    let (size, answer) = if case.format.numbers[0] == 4 { (10, 32) } else { (8, 24) };
+    let uneven = |list: &[V], behind: usize| (V::SIZE * list.len() + behind) % size != 0;
+    if uneven(&case.left, case.behind[0]) || case.is_dot() && uneven(&case.right, case.behind[1]) {
+        return Some(1);
+    }
+    (case.room < answer).then_some(2)
+}
+
 /// The lowest number whose condition holds.
 pub fn expected(case: &Case) -> Expected {
+    match refused_by_bytes(case) {
+        Some(number) => Expected::Refused(number),
+        None => expected_of_values(case),
+    }
+}
+
+/// The same without 1 and 2.
+pub fn expected_of_values(case: &Case) -> Expected {
     let dot = case.is_dot();
     let width = case.format.width();
-    if case.behind[0] % 8 != 0 || dot && case.behind[1] % 8 != 0 {
-        return Expected::Refused(1);
-    }
-    if case.room < 24 {
-        return Expected::Refused(2);
-    }
     if no_format(case.format) {
         return Expected::Refused(3);
     }

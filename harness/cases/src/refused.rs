@@ -5,7 +5,7 @@ use crate::lists::random;
 use crate::rng::Rng;
 
 /// A number that is just above `highest`, far above it, or equal to an allowed number in its low bits alone.
-fn above(rng: &mut Rng, highest: u64) -> u64 {
+pub fn above(rng: &mut Rng, highest: u64) -> u64 {
     let allowed = rng.below(highest + 1);
     rng.pick(&[highest + 1, highest + 2, 255, 256 + allowed, (1 << 32) + allowed, (1 << 63) + allowed, u64::MAX])
 }

@@ -7,8 +7,10 @@ use std::time::Instant;
 
 use crate::biases;
 use crate::case::{Case, Format};
-use crate::check::{Bench, Oracle, Seen};
+use crate::check::{Bench, Oracle, Seen, Value};
 use crate::exhaustive::{SPACES, Space};
+use crate::extended;
+use crate::habits::Habit;
 use crate::lists;
 use crate::refused::refused;
 use crate::rng::Rng;
@@ -17,6 +19,7 @@ use crate::table::{self, Table};
 use crate::table_check::TableBench;
 use crate::tables;
 use crate::tally::{BINARY64, Tally, report, report_group};
+use crate::tens;
 
 pub struct Options {
     pub seed: u64,
@@ -43,6 +46,8 @@ enum Pool {
     Wide,
     /// With a bias; those of the other pools name none.
     Biased,
+    /// Kind 4 alone.
+    Extended,
 }
 
 struct Formats {
@@ -62,6 +67,7 @@ impl Formats {
     /// A format of the pool; binary64, whose chains have known limits, comes more often.
     fn draw(&self, rng: &mut Rng, pool: Pool) -> Format {
         let formats = match pool {
+            Pool::Extended => return extended::FORMAT,
             Pool::Biased => return rng.pick(&self.biased),
             Pool::Wide => return rng.pick(&self.wide),
             Pool::Long => &self.long,
@@ -71,7 +77,7 @@ impl Formats {
     }
 }
 
-/// A call that is compared: of a byte entry, or of the entry of tables.
+/// A call that is compared: of a byte entry, with or without its other, or of the entry of tables.
 trait Call: Display + Sized {
     type Bench: Default;
 
@@ -83,7 +89,7 @@ trait Call: Display + Sized {
     fn count(&self, seen: &Seen, tally: &mut Tally);
 }
 
-impl Call for Case {
+impl<V: Value> Call for Case<V> {
     type Bench = Bench;
 
     fn check(&self, bench: &mut Bench, oracle: &Oracle) -> Result<Seen, String> {
@@ -95,7 +101,7 @@ impl Call for Case {
     }
 
     fn count(&self, seen: &Seen, tally: &mut Tally) {
-        tally.add(self, seen);
+        V::count(self, seen, tally);
     }
 }
 
@@ -112,6 +118,22 @@ impl Call for Table {
 
     fn count(&self, seen: &Seen, tally: &mut Tally) {
         tally.add_table(self, seen);
+    }
+}
+
+impl Call for Habit {
+    type Bench = Bench;
+
+    fn check(&self, bench: &mut Bench, oracle: &Oracle) -> Result<Seen, String> {
+        Habit::check(self, bench, oracle)
+    }
+
+    fn shrunk(self, differs: &mut dyn FnMut(&Self) -> bool) -> Self {
+        Habit(shrink(self.0, &mut |case| differs(&Habit(case.clone()))))
+    }
+
+    fn count(&self, seen: &Seen, tally: &mut Tally) {
+        tally.add_habit(self, seen);
     }
 }
 
@@ -148,6 +170,17 @@ const TABLES: [Group<Table>; 4] = [
     Group { name: "tables, refusals", pool: Pool::All, draw: tables::refused, count: |all| all / 240, portion: 256 },
     Group { name: "tables, a bias named", pool: Pool::Biased, draw: tables::biased, count: |all| all / 400, portion: 256 },
     Group { name: "tables of about 1,048,576 cells", pool: Pool::All, draw: tables::million, count: |all| 8 + all / 4_000_000, portion: 1 },
+];
+
+const TENS: [Group<Case<u128>>; 2] = [
+    Group { name: "values of ten bytes", pool: Pool::Extended, draw: tens::any, count: |all| all / 5, portion: 1024 },
+    Group { name: "values of ten bytes, refusals", pool: Pool::Extended, draw: tens::refused, count: |all| all / 60, portion: 1024 },
+];
+
+/// Each is two calls.
+const HABITS: [Group<Habit>; 2] = [
+    Group { name: "mirrors and squares", pool: Pool::All, draw: Habit::draw, count: |all| all / 60, portion: 256 },
+    Group { name: "mirrors and squares, a bias named", pool: Pool::Biased, draw: Habit::draw, count: |all| all / 240, portion: 256 },
 ];
 
 /// One run's shared parts.
@@ -244,6 +277,12 @@ pub fn run(options: &Options, oracle: &Oracle) -> bool {
     }
     for (place, group) in TABLES.iter().enumerate() {
         total.merge(&run.group((GROUPS.len() + place) as u64 + 1, group));
+    }
+    for (place, group) in TENS.iter().enumerate() {
+        total.merge(&run.group((GROUPS.len() + TABLES.len() + place) as u64 + 1, group));
+    }
+    for (place, group) in HABITS.iter().enumerate() {
+        total.merge(&run.group((GROUPS.len() + TABLES.len() + TENS.len() + place) as u64 + 1, group));
     }
     report(&total, options.seed, start.elapsed().as_secs_f64());
     let missed = total.missed(&oracle.formats);

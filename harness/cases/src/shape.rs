@@ -18,6 +18,25 @@ pub struct Shape {
     pub largest: u64,
 }
 
+/// What lists that are built from their terms need to know of a format.
+pub trait Encodings {
+    type Value: Copy;
+
+    /// Digits, p; one more than the fraction bits.
+    fn digits(&self) -> u32;
+
+    /// The position of the highest bit of the largest number.
+    fn highest_position(&self) -> i64;
+
+    /// The position of 1: below 0, or above every number's, where a bias is named by which 1 is no number of the format.
+    fn position_of_one(&self) -> i64;
+
+    /// The magnitude of m × 2^k in least numbers, for m of 1 to p bits and k from 0 up, if the format has it.
+    fn encode(&self, m: u64, k: i64) -> Option<Self::Value>;
+
+    fn signed(&self, negative: bool, magnitude: Self::Value) -> Self::Value;
+}
+
 /// What an encoding stands for: a number m × 2^k counts in least numbers, and a zero is one of m = 0.
 #[derive(Clone, Copy, Debug, PartialEq, Eq)]
 pub enum Decoded {
@@ -60,29 +79,6 @@ impl Shape {
 
     pub fn highest_field(&self) -> i64 {
         self.field(self.largest)
-    }
-
-    /// The position of the highest bit of the largest number.
-    pub fn highest_position(&self) -> i64 {
-        i64::from(self.fraction) + self.highest_field() - 1
-    }
-
-    /// The position of 1: below 0, or above every number's, where a bias is named by which 1 is no number of the format.
-    pub fn position_of_one(&self) -> i64 {
-        self.format.bias_or_own() + i64::from(self.fraction) - 1
-    }
-
-    /// The magnitude of m × 2^k in least numbers, for m of 1 to p bits and k from 0 up, if the format has it.
-    pub fn encode(&self, m: u64, k: i64) -> Option<u64> {
-        let length = 64 - m.leading_zeros();
-        let shift = i64::from(self.digits - length).min(k);
-        let (m, k) = (m << shift, k - shift);
-        let field = if m >> self.fraction == 0 { 0 } else { k + 1 };
-        if field > self.highest_field() {
-            return None;
-        }
-        let magnitude = (field as u64) << self.fraction | m & low_bits(self.fraction);
-        (magnitude <= self.largest).then_some(magnitude)
     }
 
     pub fn is_nan(&self, value: u64) -> bool {
@@ -128,9 +124,41 @@ impl Shape {
     }
 }
 
+impl Encodings for Shape {
+    type Value = u64;
+
+    fn digits(&self) -> u32 {
+        self.digits
+    }
+
+    fn highest_position(&self) -> i64 {
+        i64::from(self.fraction) + self.highest_field() - 1
+    }
+
+    fn position_of_one(&self) -> i64 {
+        self.format.bias_or_own() + i64::from(self.fraction) - 1
+    }
+
+    fn encode(&self, m: u64, k: i64) -> Option<u64> {
+        let length = 64 - m.leading_zeros();
+        let shift = i64::from(self.digits - length).min(k);
+        let (m, k) = (m << shift, k - shift);
+        let field = if m >> self.fraction == 0 { 0 } else { k + 1 };
+        if field > self.highest_field() {
+            return None;
+        }
+        let magnitude = (field as u64) << self.fraction | m & low_bits(self.fraction);
+        (magnitude <= self.largest).then_some(magnitude)
+    }
+
+    fn signed(&self, negative: bool, magnitude: u64) -> u64 {
+        if negative { magnitude | self.sign } else { magnitude }
+    }
+}
+
 #[cfg(test)]
 mod tests {
-    use super::{Decoded, Shape};
+    use super::{Decoded, Encodings, Shape};
     use crate::case::Format;
 
     fn shape(numbers: [u64; 3]) -> Shape {

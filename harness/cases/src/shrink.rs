@@ -3,7 +3,7 @@
 use crate::case::{Case, Operation};
 
 /// Shrinks a case. `differs` says whether a case shows a difference.
-pub fn shrink(case: Case, differs: &mut dyn FnMut(&Case) -> bool) -> Case {
+pub fn shrink<V: Copy>(case: Case<V>, differs: &mut dyn FnMut(&Case<V>) -> bool) -> Case<V> {
     let mut smallest = case;
     loop {
         let dropped = drop_elements(&mut smallest, differs);
@@ -15,7 +15,7 @@ pub fn shrink(case: Case, differs: &mut dyn FnMut(&Case) -> bool) -> Case {
 }
 
 /// Takes the smaller case if it still differs.
-fn take(smallest: &mut Case, smaller: Case, differs: &mut dyn FnMut(&Case) -> bool) -> bool {
+fn take<V>(smallest: &mut Case<V>, smaller: Case<V>, differs: &mut dyn FnMut(&Case<V>) -> bool) -> bool {
     let taken = differs(&smaller);
     if taken {
         *smallest = smaller;
@@ -23,15 +23,15 @@ fn take(smallest: &mut Case, smaller: Case, differs: &mut dyn FnMut(&Case) -> bo
     taken
 }
 
-fn without(list: &[u64], from: usize, count: usize) -> Vec<u64> {
+fn without<V: Copy>(list: &[V], from: usize, count: usize) -> Vec<V> {
     let from = from.min(list.len());
     let to = (from + count).min(list.len());
     [&list[..from], &list[to..]].concat()
 }
 
 /// Drops runs of elements: half the list at a time, then a quarter, down to one by one.
-pub fn drop_elements(smallest: &mut Case, differs: &mut dyn FnMut(&Case) -> bool) -> bool {
-    let length = |case: &Case| case.left.len().max(case.right.len());
+pub fn drop_elements<V: Copy>(smallest: &mut Case<V>, differs: &mut dyn FnMut(&Case<V>) -> bool) -> bool {
+    let length = |case: &Case<V>| case.left.len().max(case.right.len());
     let mut dropped = false;
     let mut count = length(smallest).div_ceil(2);
     while count > 0 {
@@ -51,7 +51,7 @@ pub fn drop_elements(smallest: &mut Case, differs: &mut dyn FnMut(&Case) -> bool
 }
 
 /// Sets each setting, the summand and the form of the call to the plainest that still differs.
-pub fn clear_settings(smallest: &mut Case, differs: &mut dyn FnMut(&Case) -> bool) -> bool {
+pub fn clear_settings<V: Copy>(smallest: &mut Case<V>, differs: &mut dyn FnMut(&Case<V>) -> bool) -> bool {
     let mut cleared = false;
     for i in 0..smallest.settings.len() {
         if smallest.settings[i] != 0 {
@@ -66,8 +66,10 @@ pub fn clear_settings(smallest: &mut Case, differs: &mut dyn FnMut(&Case) -> boo
     if smallest.behind != [0; 2] {
         cleared |= take(smallest, Case { behind: [0; 2], ..smallest.clone() }, differs);
     }
-    if smallest.room != 24 {
-        cleared |= take(smallest, Case { room: 24, ..smallest.clone() }, differs);
+    for room in [24, 32] {
+        if smallest.room > room {
+            cleared |= take(smallest, Case { room, ..smallest.clone() }, differs);
+        }
     }
     cleared
 }

@@ -36,7 +36,8 @@ impl Table {
     /// The first condition of document 02's order that holds: of the sum of the cells all but the stray bits come before the table's own.
     pub fn expected(&self) -> Expected {
         let short = self.shape.iter().zip(self.lent).any(|(&side, lent)| (lent as u64) < side);
-        match refusals::expected(&self.sum) {
+        match refusals::expected_of_values(&self.sum) {
+            _ if self.sum.room < 24 => Expected::Refused(2),
             Expected::Refused(number) => Expected::Refused(number),
             _ if !self.is_filled() => Expected::Refused(9),
             _ if short => Expected::Refused(10),

@@ -123,7 +123,7 @@ impl TableBench {
             let sum = Case { format: Format::plain(table.sum.format.numbers), ..table.sum.clone() };
             self.check_same("without the bias", &Table { sum, ..*table }, &written)?;
         }
-        Ok(Seen::Accepted { answer, side, rearranged })
+        Ok(Seen::Accepted { result: answer.result.into(), flags: answer.flags, passes: answer.passes, side, rearranged })
     }
 
     /// The transposed table has the same totals in the other list, NaNs too: a row's cells keep their order in the column. The order of all cells
@@ -154,6 +154,7 @@ mod tests {
 
     use super::{Entry, TableBench};
     use crate::case::{Case, Format};
+    use crate::check::tests::archive_extended;
     use crate::check::{Answer, Oracle};
     use crate::entries;
     use crate::rng::Rng;
@@ -185,7 +186,7 @@ mod tests {
 
     /// The first table that shows that this is not the archive's entry.
     fn caught(entry: Entry) -> Option<(Table, String)> {
-        let oracle = Oracle { formats: vec![], total: &sums };
+        let oracle = Oracle { formats: vec![], total: &sums, extended: &archive_extended };
         let mut bench = TableBench::with(entry);
         (0..8_000).map(drawn).find_map(|table| bench.check(&table, &oracle).err().map(|what| (table, what)))
     }
@@ -199,7 +200,7 @@ mod tests {
 
     #[test]
     fn tables_of_a_million_cells() {
-        let oracle = Oracle { formats: vec![], total: &sums };
+        let oracle = Oracle { formats: vec![], total: &sums, extended: &archive_extended };
         for number in 0..3 {
             let table = tables::million(&mut Rng::new(7, 10, number), Format::plain(FORMATS[number as usize % 3]));
             TableBench::default().check(&table, &oracle).unwrap_or_else(|what| panic!("{what}"));
@@ -283,7 +284,7 @@ mod tests {
 
     #[test]
     fn a_difference_is_shrunk() {
-        let oracle = Oracle { formats: vec![], total: &sums };
+        let oracle = Oracle { formats: vec![], total: &sums, extended: &archive_extended };
         // wrong where a total is 1 and the rounding toward zero
         let entry: Entry = |f, c, shape, cells, [a, b], answer| {
             let code = entries::table(f, c, shape, cells, [a, &mut *b], answer);

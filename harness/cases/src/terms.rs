@@ -4,7 +4,7 @@
 
 use crate::case::{Case, Operation};
 use crate::rng::Rng;
-use crate::shape::Shape;
+use crate::shape::{Encodings, Shape};
 
 #[derive(Clone, Copy)]
 struct Term {
@@ -25,10 +25,10 @@ fn bit_length(m: u64) -> i64 {
 }
 
 /// Builds the terms of one case and puts them into its lists.
-pub struct Builder<'a> {
+pub struct Builder<'a, S: Encodings = Shape> {
     rng: &'a mut Rng,
-    case: &'a mut Case,
-    shape: Shape,
+    case: &'a mut Case<S::Value>,
+    shape: S,
     /// The position of the least result's bit.
     grid: i64,
     /// The highest position of a term.
@@ -39,13 +39,20 @@ pub struct Builder<'a> {
 impl<'a> Builder<'a> {
     pub fn new(rng: &'a mut Rng, case: &'a mut Case) -> Self {
         let shape = Shape::of(case.format);
+        Self::of(rng, case, shape)
+    }
+}
+
+impl<'a, S: Encodings> Builder<'a, S> {
+    /// For the values of a case in these encodings.
+    pub fn of(rng: &'a mut Rng, case: &'a mut Case<S::Value>, shape: S) -> Self {
         let top = shape.highest_position();
         let (grid, highest) = if case.is_product() { (shape.position_of_one(), 2 * top) } else { (0, top) };
         Self { rng, case, shape, grid, highest, terms: vec![] }
     }
 
     fn digits(&self) -> i64 {
-        i64::from(self.shape.digits)
+        i64::from(self.shape.digits())
     }
 
     /// The digits that the result is rounded to.
@@ -69,7 +76,7 @@ impl<'a> Builder<'a> {
 
     /// Where the highest bit of a tie is: at the ends of the results, or anywhere.
     fn tie_top(&mut self, at_ends: bool) -> i64 {
-        let fraction = i64::from(self.shape.fraction);
+        let fraction = i64::from(self.shape.digits() - 1);
         let top = match self.rng.below(if at_ends { 3 } else { 12 }) {
             0 => self.grid + self.shape.highest_position() + self.rng.between(-2, 0),
             1 => self.grid + fraction + self.rng.between(-3, 3),
@@ -146,7 +153,7 @@ impl<'a> Builder<'a> {
 
     /// A magnitude of any length, in terms of p digits.
     fn difference(&mut self, negative: bool, mut magnitude: u128, mut k: i64) {
-        let p = self.shape.digits;
+        let p = self.shape.digits();
         while magnitude != 0 {
             let m = (magnitude & ((1 << p) - 1)) as u64;
             if m != 0 {
@@ -275,14 +282,10 @@ impl<'a> Builder<'a> {
             Operation::Sum(2) => self.put_square(term),
             _ => {
                 if let Some(magnitude) = self.shape.encode(term.m, term.k) {
-                    self.case.left.push(self.signed(term.negative, magnitude));
+                    self.case.left.push(self.shape.signed(term.negative, magnitude));
                 }
             }
         }
-    }
-
-    fn signed(&self, negative: bool, magnitude: u64) -> u64 {
-        if negative { magnitude | self.shape.sign } else { magnitude }
     }
 
     /// m × 2^k as a number times a power of two.
@@ -297,12 +300,12 @@ impl<'a> Builder<'a> {
     }
 
     /// A pair whose product has this sign; either factor may be the left one.
-    fn put_pair(&mut self, negative: bool, x: Option<u64>, y: Option<u64>) {
+    fn put_pair(&mut self, negative: bool, x: Option<S::Value>, y: Option<S::Value>) {
         let (Some(x), Some(y)) = (x, y) else { return };
         let (x, y) = if self.rng.bit() { (x, y) } else { (y, x) };
         let left = self.rng.bit();
-        self.case.left.push(self.signed(left, x));
-        self.case.right.push(self.signed(left != negative, y));
+        self.case.left.push(self.shape.signed(left, x));
+        self.case.right.push(self.shape.signed(left != negative, y));
     }
 
     /// Squares of powers of two: one for a bit at an even position, two for one at an odd position. Only the four highest bits of m are taken.
@@ -311,7 +314,7 @@ impl<'a> Builder<'a> {
         for place in places {
             let at = term.k + place;
             if let Some(root) = self.shape.encode(1, at / 2) {
-                let value = self.signed(term.negative, root);
+                let value = self.shape.signed(term.negative, root);
                 self.case.left.extend((0..1 + at % 2).map(|_| value));
             }
         }

@@ -7,7 +7,8 @@ use std::collections::BTreeMap;
 
 use crate::binary::{Layout, Summand};
 use crate::env::{Env, Flags, NanPropagation, NanRule, Rounding, Tininess};
-use crate::format::{Encoding, EncodingKind, Ieee, Storage, Width};
+use crate::format::{Encoding, EncodingKind, Ieee, Storage, Width, X87};
+use crate::limbs::Widen;
 use crate::sealed::Sealed;
 
 const ROUNDINGS: [Rounding; 8] = [
@@ -94,26 +95,55 @@ fn flag_byte(flags: Flags) -> u8 {
     in_order.iter().enumerate().map(|(place, &flag)| u8::from(flags.contains(flag)) << place).sum()
 }
 
-/// The total of one format. `right` has the length of `left` in a dot, and is not read in a sum.
-fn total<const E: u32, Enc: Encoding, const W: usize>(operation: Operation, left: &[u64], right: &[u64], settings: &[u64; 8]) -> Answer
+/// The result, the flags and the passes of one format, over two lists in its words. The right one is not read in a sum.
+fn counted<const E: u32, Enc: Encoding, const W: usize, L: Widen>(
+    operation: Operation,
+    left: impl Iterator<Item = L> + Clone,
+    right: impl Iterator<Item = L> + Clone,
+    settings: &[u64; 8],
+) -> (L, u8, u64)
 where
     Width<W>: Storage,
 {
     let clones = Cell::new(0);
     let env = env(settings);
-    let words = left.iter().map(|&word| [word]);
-    let ([result], flags) = match operation {
+    let (result, flags) = match operation {
         Operation::Sum(summand) => {
-            let values = Counted { inner: words, clones: &clones };
+            let values = Counted { inner: left, clones: &clones };
             Layout::<E, Enc, W>::reduce(values, SUMMANDS[summand as usize], &env)
         }
         Operation::Dot => {
-            let inner = words.zip(right.iter().map(|&word| [word]));
-            let pairs = Counted { inner, clones: &clones };
+            let pairs = Counted { inner: left.zip(right), clones: &clones };
             Layout::<E, Enc, W>::dot(pairs, &env)
         }
     };
-    Answer { result, flags: flag_byte(flags), passes: clones.get() - 1 }
+    (result, flag_byte(flags), clones.get() - 1)
+}
+
+/// The total of one format. `right` has the length of `left` in a dot, and is not read in a sum.
+fn total<const E: u32, Enc: Encoding, const W: usize>(operation: Operation, left: &[u64], right: &[u64], settings: &[u64; 8]) -> Answer
+where
+    Width<W>: Storage,
+{
+    let words = |&word: &u64| [word];
+    let ([result], flags, passes) = counted::<E, Enc, W, _>(operation, left.iter().map(words), right.iter().map(words), settings);
+    Answer { result, flags, passes }
+}
+
+/// The answer in X87, of which an encoding has two words.
+#[derive(Clone, Copy)]
+pub struct WideAnswer {
+    pub result: u128,
+    pub flags: u8,
+    pub passes: u64,
+}
+
+/// The total of X87.
+#[must_use]
+pub fn extended(operation: Operation, left: &[u128], right: &[u128], settings: &[u64; 8]) -> WideAnswer {
+    let words = |&value: &u128| [value as u64, (value >> 64) as u64];
+    let ([low, high], flags, passes) = counted::<15, X87, 80, _>(operation, left.iter().map(words), right.iter().map(words), settings);
+    WideAnswer { result: u128::from(high) << 64 | u128::from(low), flags, passes }
 }
 
 /// The result of one format, its walks not counted, for the timings.
@@ -175,7 +205,7 @@ impl Table {
             EncodingKind::NoInf => 1,
             EncodingKind::Fnuz => 2,
             EncodingKind::Finite => 3,
-            EncodingKind::X87 => unreachable!("X87 is not among the formats"),
+            EncodingKind::X87 => unreachable!("X87 has two words, and is no format of the table"),
         };
         let format = [kind, u64::from(E), W as u64];
         match Enc::BIAS {

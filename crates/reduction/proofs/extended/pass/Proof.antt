@@ -16,7 +16,8 @@ use Rattle.values.specs.Tens.{tensItems}
 use Rattle.arithmetic.specs.Joined.{StandsFor}
 use Rattle.reduction.proofs.Gather.{Running, Turn, cuttable, running-start, running-end}
 use Rattle.reduction.proofs.Gather.{turn-less, turn-none, turn-past, turn-moved, turn-three}
-use Rattle.reduction.proofs.Tens.{tens-length, tens-at}
+use Rattle.reduction.proofs.Loop.{tens-length}
+use Rattle.reduction.proofs.Tens.{tens-at}
 use Rattle.reduction.proofs.extended.pass.Statement.{statement}
 use Rattle.reduction.proofs.extended.pass.Tie as tie
 

@@ -9,6 +9,7 @@ use mir.Val.{SFits}
 use mir.ValLaws.{toZ-ofZ}
 use Rattle.reduction.proofs.Records.{position-fits}
 use Rattle.totals_spec.specs.Basics.{Signed}
+use Rattle.totals_spec.specs.Bounds.{RangeBounds}
 use Rattle.totals_spec.specs.Decode.{decode}
 use Rattle.totals_spec.specs.Encode.{encode}
 use Rattle.totals_spec.specs.Format.{Format, grid}
@@ -20,8 +21,11 @@ use Rattle.totals_spec.specs.Totals.{onGrid, towardsNegative, sumRounded, repor
 use Rattle.totals_spec.proofs.Lean.{sum-leans}
 use Rattle.totals_spec.proofs.Valid.{precision-least, precision-most}
 use Rattle.format.specs.Joined.{formatOf, settingsOf}
+use Rattle.values.specs.Walks.{wide}
+use Rattle.values.proofs.Walks.{known-range}
 use Rattle.exact.specs.Joined.{roundedOf}
 use Rattle.window.specs.Joined.{outcomeOf}
+use Rattle.reduction.specs.Answered.{writtenAs}
 use borrow.Author.Needs.{needs}
 use Rattle.reduction.proofs.total.finish.Statement.{statement}
 use Rattle.reduction.proofs.total.finish.Tie as tie
@@ -45,16 +49,19 @@ sum s = sumRounded (form s) (env s) (grid (form s) (s .args .products)) (towards
 equal : (t : tie.After-round-sum) → roundedOf (t .round-sum .result) ≡ sum (entry t)
 equal t = t .round-sum .ensures .equal
 
+range : (s : tie.Start) → RangeBounds (form s)
+range s = known-range (form s) (wide (form s)) (s .pre .0)
+
 -- the rounding tells the side
 leans : (t : tie.After-round-sum) → let s = entry t in let r = roundedOf (t .round-sum .result) in
     roundedSide (r .value) (r .flags) ≡ sideOf (grid (form s) (s .args .products)) (decode (form s) (encode (form s) (sum s .value))) (total s)
 leans t =
     let s = entry t in
     ap (λ (x : Rounded). roundedSide (x .value) (x .flags)) (equal t)
-    ∙ sym (sum-leans (form s) (env s) _ _ (total s) (s .pre .0 .range) (precision-least _ _ (s .pre .0 .range)) (precision-most _ _ (s .pre .1)))
+    ∙ sym (sum-leans (form s) (env s) _ _ (total s) (range s) (precision-least _ _ (range s)) (precision-most _ _ (s .pre .1)))
 
 -- once the result is encoded, and then the last edge known
-abbrev coded : tie.After-fall → tie.After-encode
+abbrev coded : tie.After-fall → tie.After-encoded
 coded t = t .before .before .before
 
 abbrev rounded : tie.After-fall → tie.After-round-sum
@@ -71,22 +78,19 @@ far : (t : tie.After-origin) → t .origin .result < 2 ^ 63
 far t = omega (arith, t .origin .ensures .1)
 
 round-sum-requires : tie.Need-round-sum-requires
-round-sum-requires c κs = search needs
+round-sum-requires c κs = let s = c .before in (range s, s .pre .1, s .pre .2, s .pre .3)
 
-encode-requires : tie.Need-encode-requires
-encode-requires c κs = (c .before .before .pre .0, c .round-sum .ensures .encodes)
+encoded-requires : tie.Need-encoded-requires
+encoded-requires c κs = (c .before .before .pre .0, c .round-sum .ensures .encodes)
 
 flag-requires : tie.Need-flag-requires
 flag-requires c κs = search needs
 
-add-sum : tie.Need-add-t12
-add-sum c = search needs
-
 fall-requires : tie.Need-fall-requires
-fall-requires c κs = search needs
+fall-requires c κs = let e = c .before .before in range (entry (e .before))
 
 origin-requires : tie.Need-origin-requires
-origin-requires c κs = search needs
+origin-requires c κs = range (entry (rounded (c .before)))
 
 add-position-of : tie.Need-add-position-of
 add-position-of c = omega (arith, low (c .before))
@@ -110,7 +114,7 @@ returns c =
       sfits = subst (λ (z : ℤ). mag z < 2 ^ 63) (sym (p .ensures)) (position-fits (at + d .fall .result) (o .origin .result) (low d) (far o));
     } in
     λ i. record {
-      result = (coded d .encode .ensures ∙ ap (λ (x : Rounded). encode (form s) (x .value)) (equal r)) i;
+      result = (coded d .encoded .ensures ∙ ap (λ (x : Rounded). writtenAs (wide (form s)) (encode (form s) (x .value))) (equal r)) i;
       flags = (d .before .before .flag .ensures .0 i) + (equal r i .flags);
       passes = s .args .e .chain .passes;
       lastEdge = (toZ-ofZ w64 (p .result) fits ∙ p .ensures ∙ ap₂ (λ (m n : ℕ). subℕ (at + m) n) (d .fall .ensures .0) (o .origin .ensures .0)) i;
@@ -124,9 +128,9 @@ finish-spec =
     tie.close
     (tie.spec
     round-sum-requires
-    encode-requires
+    encoded-requires
     flag-requires
-    add-sum
+    (λ c. search needs)
     fall-requires
     add-position-of
     origin-requires

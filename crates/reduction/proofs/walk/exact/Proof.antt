@@ -1,15 +1,15 @@
 -- `reduction::walk::exact` meets its contract. The invariant: the chain so far is that of the definitions.
+use mathlib.Core.Path.{sym, _∙_}
 use mathlib.Core.List.{List}
 use borrow.Author.Needs.{needs}
 use Rattle.totals_spec.specs.Settings.{summandOf}
 use Rattle.totals_spec.specs.Terms as terms
 use Rattle.format.specs.Joined.{formatOf, settingsOf}
-use Rattle.values.specs.Sources.{elements}
-use Rattle.values.specs.Walks.{isDot, isHundred, addedIn}
-use Rattle.values.proofs.Sources.{elements-length}
+use Rattle.values.specs.Walks.{wide, readAs, isDot, isHundred, addedIn}
+use Rattle.values.proofs.Walks.{read-length}
 use Rattle.window.proofs.Walked.{Walked}
 use Rattle.reduction.proofs.Loop.{Base, loop-start, loop-holds-at, loop-ready, loop-next, loop-done}
-use Rattle.reduction.proofs.Items.{lists-alike, added-base}
+use Rattle.reduction.proofs.Items.{added-base}
 use Rattle.reduction.proofs.walk.exact.Statement.{statement}
 use Rattle.reduction.proofs.walk.exact.Tie as tie
 
@@ -36,9 +36,11 @@ base s =
     let lb = a .left-bytes .now in
     let rw′ = a .right-words .now in
     let rb = a .right-bytes .now in
-    added-base (formatOf (a .f)) (settingsOf (a .c)) (summandOf (a .k .summand)) (elements (a .k .source) lw lb) (elements (a .k .source) rw′ rb)
-    (h .0 .4) (h .0 .0) (lists-alike (a .k .source) lw lb rw′ rb) (rw (elements-length (a .k .source) lw lb) (h .0 .3)) (isDot (a .k))
-    (isHundred (a .k)) (rw (h .1 .0) at (h .1 .1))
+    let f = formatOf (a .f) in
+    let left = read-length (wide f) (a .k .source) lw lb in
+    let right = read-length (wide f) (a .k .source) rw′ rb in
+    added-base f (settingsOf (a .c)) (summandOf (a .k .summand)) (readAs (wide f) (a .k .source) lw lb) (readAs (wide f) (a .k .source) rw′ rb) (h .1 .0 .3)
+    (wide f) (h .0 .0) (right ∙ sym left) (rw left (h .1 .0 .2)) (isDot (a .k)) (isHundred (a .k)) (rw (h .1 .1 .0) at (h .1 .1 .1))
 
 -- once the chain is begun, and in a turn after its pass
 abbrev entry : tie.After-start Inv-loop μ-loop → Entry
@@ -51,10 +53,13 @@ turn : (t : tie.After-pass Inv-loop μ-loop) → Base (entry (begun t) .args .p)
 turn t = base (entry (begun t))
 
 start-requires : tie.Need-start-requires Inv-loop μ-loop
-start-requires c κs = let s = c .before .before .before .before in rw (s .pre .1 .0) (loop-start (base s))
+start-requires c κs =
+    let e = c .before .before in
+    let s = e .before .before in
+    rw (s .pre .1 .1 .0) (loop-start (base s))
 
 loop-holds : tie.Need-loop-holds Inv-loop μ-loop
-loop-holds c = let s = entry c in loop-holds-at (base s) _ (s .pre .1 .0) (c .start .ensures)
+loop-holds c = let s = entry c in loop-holds-at (base s) _ (s .pre .1 .1 .0) (c .start .ensures)
 
 advance-requires : tie.Need-advance-requires Inv-loop μ-loop
 advance-requires c κs = loop-ready (turn c) _ _ (c .before .loop .inv) (c .pass .ensures)

@@ -6,26 +6,50 @@ use Rattle.totals_spec.proofs.Refused.{Small, sum-small}
 use Rattle.limbs.proofs.Signs.{read}
 use Rattle.format.specs.Joined.{formatOf}
 use Rattle.totals.specs.Entered.{formatWith}
+use Rattle.totals.proofs.Tens.{sum-ten, sum-other}
 use Rattle.totals.proofs.Written.{sum-uneven, sum-short, sum-enters}
 use Rattle.totals.proofs.entry.enter_sum.Statement.{statement}
 use Rattle.totals.proofs.entry.enter_sum.Tie as tie
 
--- the bias is the number that its 64 bits are read as
-abbrev entry : tie.After-format-with → tie.Start
-entry f = let e = f .before .before .before in e .before .before
+-- kind 4
+abbrev begun : tie.After-slice-known → tie.Start
+begun k = k .before .before
 
-format : (f : tie.After-format-with) → let a = entry f .args in
+returns : tie.Need-returns
+returns c =
+    let t = c .before .before in
+    let f = t .before .before in
+    let s = begun (f .before) in
+    let a = s .args in
+    sum-ten _ _ _ (a .named) (a .bias) _ _ _ _ _ _ (f .if1 .taken) (rw (read (a .bias) (s .good .1 .1 .1 .1 .0)) at (t .tens-sum .ensures))
+
+-- any other
+abbrev entry : tie.Else1 → tie.Start
+entry e = begun (e .before)
+
+-- the bias is the number that its 64 bits are read as
+abbrev tested : tie.After-format-with → tie.Else1
+tested f = f .before .before .before
+
+format : (f : tie.After-format-with) → let a = entry (tested f) .args in
     formatOf (f .format-with .result) ≡ formatWith (a .kind) (a .exponent-bits) (a .width) (a .named) (a .bias)
 format f =
-    let s = entry f in
+    let s = entry (tested f) in
     let a = s .args in
     f .format-with .ensures ∙ ap (formatWith (a .kind) (a .exponent-bits) (a .width) (a .named)) (read (a .bias) (s .good .1 .1 .1 .1 .0))
 
-returns : tie.Need-returns
-returns c = sum-uneven _ _ _ _ _ (c .if1 .taken)
-
 returns-2 : tie.Need-returns-2
-returns-2 c = sum-short _ _ _ _ _ (c .before .if1 .left) (c .if2 .taken)
+returns-2 c =
+    let e = c .before in
+    let a = entry e .args in
+    sum-other _ _ _ (a .named) (a .bias) _ _ _ _ _ _ (e .if1 .left) (sum-uneven _ _ _ _ _ (c .if2 .taken))
+
+returns-3 : tie.Need-returns-3
+returns-3 c =
+    let u = c .before in
+    let e = u .before in
+    let a = entry e .args in
+    sum-other _ _ _ (a .named) (a .bias) _ _ _ _ _ _ (e .if1 .left) (sum-short _ _ _ _ _ (u .if2 .left) (c .if3 .taken))
 
 enter-requires : tie.Need-enter-requires
 enter-requires c κs =
@@ -33,18 +57,32 @@ enter-requires c κs =
     let small = subst Small (sym (t .sum-bytes .ensures)) (sum-small _ _ _ _) in
     let fields = subst Fields (sym (t .sum-bytes .ensures)) (sum-fields _ _ _ _) in
     let e = t .before .before .before in
-    record { room = e .if2 .left; number = small .number; place = small .place; flags = fields .flags; side = fields .side }
+    record { room = e .if3 .left; number = small .number; place = small .place; flags = fields .flags; side = fields .side }
 
-returns-3 : tie.Need-returns-3
-returns-3 c =
+returns-4 : tie.Need-returns-4
+returns-4 c =
     let r = c .before .before in
     let t = r .before .before in
     let s = t .before in
     let e = s .before .before in
-    let even = e .before .if1 .left in
-    rw (format (s .before), s .settings .ensures) at (sum-enters _ _ _ _ _ even (e .if2 .left) _ (t .sum-bytes .ensures) _ _ (r .enter .ensures))
+    let even = e .before .if2 .left in
+    let o = tested (s .before) in
+    let a = entry o .args in
+    sum-other _ _ _ (a .named) (a .bias) _ _ _ _ _ _ (o .if1 .left)
+    (rw (format (s .before), s .settings .ensures) at (sum-enters _ _ _ _ _ even (e .if3 .left) _ (t .sum-bytes .ensures) _ _ (r .enter .ensures)))
 
 pub enter-sum-spec : {M : Type 1} → statement M
 enter-sum-spec =
     tie.close
-    (tie.spec returns returns-2 (λ c κs. search needs) (λ c κs. search needs) (λ c κs. search needs) enter-requires (λ c. search needs) returns-3)
+    (tie.spec
+    (λ c κs. search needs)
+    (λ c. search needs)
+    returns
+    returns-2
+    returns-3
+    (λ c κs. search needs)
+    (λ c κs. search needs)
+    (λ c κs. search needs)
+    enter-requires
+    (λ c. search needs)
+    returns-4)

@@ -1,10 +1,13 @@
 -- `totals::entry::totals_page_sum` meets its contract.
 use mathlib.Core.Path.{_≡_, refl, sym, _∙_}
+use mathlib.Core.Bool.{false}
 use native.Mathlib.Omega.{arith}
 use borrow.Author.Needs.{needs}
+use lib.IntN.{pos}
 use Rattle.totals_spec.specs.Format.{binary64}
 use Rattle.totals_spec.specs.Pages.{pageRefusal}
 use Rattle.totals.specs.Entered.{formatFrom}
+use Rattle.totals.proofs.Tens.{sum-apart}
 use Rattle.totals.proofs.PageWritten.{span-order, span-few, span-long, span-enters, page-short, page-refused}
 use Rattle.totals.proofs.entry.totals_page_sum.Statement.{statement}
 use Rattle.totals.proofs.entry.totals_page_sum.Tie as tie
@@ -46,7 +49,8 @@ returns-3 : tie.Need-returns-3
 returns-3 c =
     let t = c .before .before in
     let e = t .before .before .before in
-    span-enters _ _ _ (none e) _ _ _ format _ (e .before .before .if1 .left) _ _ (t .enter-sum .ensures)
+    let p = sum-apart 0 11 64 false (pos 0) _ _ _ _ _ _ (λ k. omega (arith, k)) (t .enter-sum .ensures) in
+    span-enters _ _ _ (none e) _ _ _ format _ (e .before .before .if1 .left) _ _ p
 
 pub totals-page-sum-spec : {M : Type 1} → statement M
 totals-page-sum-spec =

@@ -5,8 +5,10 @@ use Prim.Native.Nat.{ℕ}
 use native.Mathlib.Omega.{arith}
 use borrow.Author.Needs.{needs}
 use lib.ListN.{length}
+use Rattle.format.specs.Joined.{formatOf}
 use Rattle.values.specs.Sources.{sourceOf}
 use Rattle.values.proofs.Sources.{Gives, whole-gives, whole-straight}
+use Rattle.values.proofs.Walks.{narrow, narrow-known, narrow-tens}
 use Rattle.totals.proofs.lists.pence.Statement.{statement}
 use Rattle.totals.proofs.lists.pence.Tie as tie
 
@@ -18,13 +20,17 @@ abbrev entry : tie.After-listed-arg2 → tie.Start
 entry t = t .before .before .before
 
 listed-requires : tie.Need-listed-requires
-listed-requires c κs = let s = entry c in ((gives s _ .within, gives s _ .within, λ _. whole-straight 0 _), s .pre)
+listed-requires c κs =
+    let s = entry c in
+    let f = formatOf (s .args .f) in
+    let b = s .pre .0 in
+    ((narrow-known f b, narrow-tens f b _ _ _), ((gives s _ .within, gives s _ .within, λ _. whole-straight 0 _), (narrow f b, s .pre)))
 
 returns : tie.Need-returns
 returns c =
     let l = c .before in
     let s = entry (l .before) in
-    c .pence-of .ensures ∙ rw (gives s _ .are) at (l .listed .ensures)
+    c .pence-of .ensures ∙ rw (narrow (formatOf (s .args .f)) (s .pre .0), gives s _ .are) at (l .listed .ensures)
 
 pub pence-spec : {M : Type 1} → statement M
 pence-spec = tie.close (tie.spec (λ c. search needs) (λ c. search needs) listed-requires (λ c κs. search needs) returns)

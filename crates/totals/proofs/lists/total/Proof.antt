@@ -1,21 +1,18 @@
 -- `totals::lists::total` meets its contract.
-use mathlib.Core.Path.{_≡_, refl, sym}
+use mathlib.Core.Path.{refl}
 use mathlib.Core.Bool.{Bool, cond}
 use mathlib.Core.List.{List}
 use Prim.Native.Nat.{ℕ}
 use borrow.Author.Needs.{needs}
-use lib.Dec.{eqb}
 use Rattle.totals_spec.specs.Format as spec
 use Rattle.totals_spec.specs.Settings.{Settings}
 use Rattle.totals_spec.specs.Terms as terms
 use Rattle.format.specs.Joined.{formatOf, settingsOf}
-use Rattle.values.specs.Sources.{elements}
-use Rattle.values.specs.Walks.{isDot, isHundred, addedIn}
-use Rattle.values.proofs.Sources.{elements-length}
+use Rattle.values.specs.Walks.{wide, readAs, isDot, isHundred, addedIn}
+use Rattle.values.proofs.Walks.{known-range, read-length}
 use Rattle.reduction.specs.Held.{Sums}
-use Rattle.totals.specs.Reported.{TotalAsks}
-use Rattle.totals.proofs.Totalled.{Seen, scanned-orderly, asks-format, asks-few, digits-most, top-room, early-asks, early-told, exact-asks}
-use Rattle.totals.proofs.Totalled.{end-asks, end-told}
+use Rattle.totals.proofs.Totalled.{Seen, scanned-orderly, asks-few, digits-most, top-room, early-asks, early-told, exact-asks}
+use Rattle.totals.proofs.Totalled.{pence-narrow, end-asks, end-told}
 use Rattle.totals.proofs.lists.total.Statement.{statement}
 use Rattle.totals.proofs.lists.total.Tie as tie
 
@@ -30,10 +27,10 @@ abbrev u : tie.Start → ℕ
 u s = s .args .k .summand
 
 abbrev left : tie.Start → List ℕ
-left s = elements (s .args .k .source) (s .args .left-words .now) (s .args .left-bytes .now)
+left s = readAs (wide (form s)) (s .args .k .source) (s .args .left-words .now) (s .args .left-bytes .now)
 
 abbrev right : tie.Start → List ℕ
-right s = elements (s .args .k .source) (s .args .right-words .now) (s .args .right-bytes .now)
+right s = readAs (wide (form s)) (s .args .k .source) (s .args .right-words .now) (s .args .right-bytes .now)
 
 -- once it is scanned
 abbrev entry : tie.After-scanned → tie.Start
@@ -50,11 +47,14 @@ begun d = entry (d .before .before)
 
 scan-requires : tie.Need-scan-requires
 scan-requires c κs =
-    let s = entry c in (
-      asks-format (form s) (env s) (u s) (left s) (right s) (hundred s) (isDot (s .args .k)) (s .pre .1),
-      rw (c .scanned .ensures .0) (s .pre .0 .0),
-      rw (c .scanned .ensures .0) (s .pre .0 .1),
-      scanned-orderly (s .args .k) (c .scanned .result) (c .scanned .ensures .0) (c .scanned .ensures .1) (s .pre .0 .2),
+    let s = entry c in
+    let same = c .scanned .ensures .0 in (
+      (s .pre .0 .0, rw same (s .pre .0 .1)),
+      (
+        rw same (s .pre .1 .0 .0),
+        rw same (s .pre .1 .0 .1),
+        scanned-orderly (s .args .k) (c .scanned .result) same (c .scanned .ensures .1) (s .pre .1 .0 .2),
+      ),
     )
 
 early-requires : tie.Need-early-requires
@@ -62,14 +62,14 @@ early-requires c κs =
     let v = c .before in
     let d = v .before .before in
     let s = begun d in
-    early-asks (form s) (env s) (u s) (left s) (right s) _ _ _ _ (v .v .given .1) (hundred s) (seen (d .before)) (s .pre .1) (d .decided-by .ensures)
+    early-asks (form s) (env s) (u s) (left s) (right s) _ _ _ _ (v .v .given .1) (hundred s) (s .pre .0 .0) (seen (d .before)) (d .decided-by .ensures)
 
 returns : tie.Need-returns
 returns c =
     let v = c .before .before in
     let d = v .before .before in
     let s = begun d in
-    early-told (form s) (env s) (u s) (left s) (right s) _ _ _ _ (v .v .given .1) (hundred s) (seen (d .before)) (s .pre .1) (d .decided-by .ensures) _
+    early-told (form s) (env s) (u s) (left s) (right s) _ _ _ _ (v .v .given .1) (hundred s) (seen (d .before)) (s .pre .1 .1) (d .decided-by .ensures) _
     (c .early .ensures)
 
 -- where there are terms
@@ -77,16 +77,13 @@ abbrev told : tie.After-enum-told → tie.After-decided-by
 told e = e .before .before
 
 digits-for-requires : tie.Need-digits-for-requires
-digits-for-requires c κs =
-    let s = begun (told c) in
-    asks-format (form s) (env s) (u s) (left s) (right s) (hundred s) (isDot (s .args .k)) (s .pre .1) .range
+digits-for-requires c κs = let s = begun (told c) in known-range (form s) (wide (form s)) (s .pre .0 .0)
 
 top-for-requires : tie.Need-top-for-requires
 top-for-requires c κs =
     let d = told (c .before) in
     let s = begun d in
-    top-room (form s) (env s) (u s) (left s) (right s) _ (hundred s) (seen (d .before))
-    (asks-format (form s) (env s) (u s) (left s) (right s) (hundred s) (isDot (s .args .k)) (s .pre .1))
+    top-room (form s) (env s) (u s) (left s) (right s) (s .pre .0 .0) _ (hundred s) (seen (d .before))
 
 exact-requires : tie.Need-exact-requires
 exact-requires c κs =
@@ -96,18 +93,20 @@ exact-requires c κs =
     let s = begun d in
     let a = s .args in
     let f = form s in
-    let b = s .pre .1 in (
+    let b = s .pre .1 .1 in (
+      (s .pre .0 .0, s .pre .0 .1, pence-narrow f (env s) (u s) (left s) (right s) (hundred s) (isDot (a .k)) b),
       (
-        asks-format f (env s) (u s) (left s) (right s) (hundred s) (isDot (a .k)) b,
-        s .pre .0 .0,
-        s .pre .0 .1,
-        rw (elements-length (a .k .source) (a .left-words .now) (a .left-bytes .now)) at
-            (asks-few f (env s) (u s) (left s) (right s) (hundred s) (isDot (a .k)) b),
-        rw (p .digits-for .ensures) (digits-most f (env s) (u s) (left s) (right s) (hundred s) (isDot (a .k)) b),
-        s .pre .0 .2,
+        (
+          s .pre .1 .0 .0,
+          s .pre .1 .0 .1,
+          rw (read-length (wide f) (a .k .source) (a .left-words .now) (a .left-bytes .now)) at
+              (asks-few f (env s) (u s) (left s) (right s) (hundred s) (isDot (a .k)) b),
+          rw (p .digits-for .ensures) (digits-most f (env s) (u s) (left s) (right s) (s .pre .0 .0) (hundred s)),
+          s .pre .1 .0 .2,
+        ),
+        rw (c .top-for .ensures)
+            (exact-asks f (env s) (u s) (left s) (right s) _ _ (e .enum-told .given .1) (hundred s) refl (seen (d .before)) b (d .decided-by .ensures)),
       ),
-      rw (c .top-for .ensures)
-          (exact-asks f (env s) (u s) (left s) (right s) _ _ (e .enum-told .given .1) (hundred s) refl (seen (d .before)) b (d .decided-by .ensures)),
     )
 
 -- the chain's end, at the digits that were counted
@@ -120,7 +119,7 @@ left-requires : tie.Need-left-requires
 left-requires c κs =
     let p = c .before .before in
     let s = begun (told (p .before)) in (
-      rw (p .digits-for .ensures) (digits-most (form s) (env s) (u s) (left s) (right s) (hundred s) (isDot (s .args .k)) (s .pre .1)),
+      rw (p .digits-for .ensures) (digits-most (form s) (env s) (u s) (left s) (right s) (s .pre .0 .0) (hundred s)),
       c .exact .ensures .ended,
     )
 
@@ -128,7 +127,7 @@ ended-requires : tie.Need-ended-requires
 ended-requires c κs =
     let x = c .before in
     let s = begun (told (x .before .before .before)) in
-    end-asks (form s) (env s) (u s) (left s) (right s) (hundred s) (s .pre .1) (ends x) (c .left .ensures)
+    end-asks (form s) (env s) (u s) (left s) (right s) (s .pre .0 .0) (hundred s) (s .pre .1 .1) (ends x) (c .left .ensures)
 
 returns-2 : tie.Need-returns-2
 returns-2 c =
@@ -136,8 +135,8 @@ returns-2 c =
     let e = x .before .before .before in
     let d = told e in
     let s = begun d in
-    end-told (form s) (env s) (u s) (left s) (right s) _ _ (e .enum-told .given .1) (hundred s) refl (seen (d .before)) (s .pre .1) (d .decided-by .ensures) _
-    (ends x) _ (c .ended .ensures)
+    end-told (form s) (env s) (u s) (left s) (right s) _ _ (e .enum-told .given .1) (hundred s) refl (seen (d .before)) (s .pre .1 .1)
+    (d .decided-by .ensures) _ (ends x) _ (c .ended .ensures)
 
 pub total-spec : {M : Type 1} → statement M
 total-spec =

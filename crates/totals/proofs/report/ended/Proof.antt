@@ -2,6 +2,9 @@
 use mathlib.Core.Path.{_∙_}
 use borrow.Author.Needs.{needs}
 use borrow.Author.Tests.{eq-eqb, ne-eqb}
+use Rattle.format.specs.Joined.{formatOf}
+use Rattle.values.specs.Walks.{wide}
+use Rattle.totals.proofs.Totalled.{heads-alike}
 use Rattle.totals.proofs.report.ended.Statement.{statement}
 use Rattle.totals.proofs.report.ended.Tie as tie
 
@@ -20,7 +23,10 @@ returns-2 : tie.Need-returns-2
 returns-2 c =
     let p = c .before in
     let q = p .before in
-    rw (ne-eqb _ 4 (q .before .if1 .left)) (c .of-total .ensures ∙ (rw (q .products .ensures) at (p .finish .ensures)))
+    let s = q .before .before in
+    let (same, head) = c .of-total .ensures in
+    rw (ne-eqb _ 4 (q .before .if1 .left))
+    (heads-alike (wide (formatOf (s .args .f))) (c .of-total .result) (p .finish .result) same head ∙ (rw (q .products .ensures) at (p .finish .ensures)))
 
 pub ended-spec : {M : Type 1} → statement M
 ended-spec =

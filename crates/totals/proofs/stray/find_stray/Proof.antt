@@ -1,6 +1,6 @@
 -- `totals::stray::find_stray` meets its contract. The invariant: the first i elements have no stray bit, and the next one stands at the place that is kept
 -- beside i.
-use mathlib.Core.Path.{_≡_, _∙_}
+use mathlib.Core.Path.{_≡_, refl, _∙_}
 use mathlib.Core.List.{List}
 use Prim.Native.Nat.{ℕ, _+_, _*_, _-_, _<_}
 use native.Mathlib.Omega.{arith}
@@ -44,9 +44,11 @@ here t =
 returns : tie.Need-returns Inv-loop μ-loop
 returns c =
     let t = c .before in
-    let s = t .before .before in
-    word-wide _ (list s) (c .if1 .taken)
-    (elements-small _ _ _ (λ k. omega (arith, t .before .shared-slice-known .given k)) (λ k. omega (arith, t .shared-slice-known2 .given k)))
+    let s = t .before .before in (
+      word-wide _ (list s) (c .if1 .taken)
+          (elements-small _ _ _ (λ k. omega (arith, t .before .shared-slice-known .given k)) (λ k. omega (arith, t .shared-slice-known2 .given k))),
+      λ h. refl,
+    )
 
 greatest-requires : tie.Need-greatest-requires Inv-loop μ-loop
 greatest-requires c κs = search needs
@@ -58,18 +60,18 @@ element-requires : tie.Need-element-requires Inv-loop μ-loop
 element-requires c κs =
     let h = c .before in
     let s = entry h in
-    element-there (s .args .source) _ _ _ _ (c .loop-test .taken) (h .loop .inv .1) (s .pre .2)
+    element-there (s .args .source) _ _ _ _ (c .loop-test .taken) (h .loop .inv .1) (s .pre .1)
 
 returns-2 : tie.Need-returns-2 Inv-loop μ-loop
 returns-2 c =
     let t = c .before in
-    clear-found (head t .before .greatest .ensures) (head t .loop .inv .0) (there t) (here t) (omega arith)
+    (clear-found (head t .before .greatest .ensures) (head t .loop .inv .0) (there t) (here t) (omega arith), λ h. absurd (omega (arith, h)))
 
 add-place : tie.Need-add-place Inv-loop μ-loop
 add-place c =
     let t = c .before .before in
     let s = entry (head t) in
-    record { fits = next-fits (s .args .source) _ _ _ _ (t .before .loop-test .taken) (head t .loop .inv .1) (s .pre .2) }
+    record { fits = next-fits (s .args .source) _ _ _ _ (t .before .loop-test .taken) (head t .loop .inv .1) (s .pre .1) }
 
 add-i : tie.Need-add-i Inv-loop μ-loop
 add-i c = search needs
@@ -86,7 +88,7 @@ loop-again c =
     )
 
 returns-3 : tie.Need-returns-3 Inv-loop μ-loop
-returns-3 c = clear-end (c .before .loop .inv .0) (omega (arith, long (entry (c .before))))
+returns-3 c = (clear-end (c .before .loop .inv .0) (omega (arith, long (entry (c .before)))), λ h. refl)
 
 pub find-stray-spec : {M : Type 1} → statement M
 find-stray-spec =

@@ -1,4 +1,5 @@
 -- `totals::stray::walk_stray` meets its contract.
+use mathlib.Core.Path.{refl, sym, _∙_}
 use mathlib.Core.List.{List}
 use Prim.Native.Nat.{ℕ}
 use borrow.Author.Needs.{needs}
@@ -33,7 +34,8 @@ returns : tie.Need-returns
 returns c =
     let t = c .before .before .before in
     let s = entry t in
-    found-left (s .args .width) (left s) (right s) _ (t .find-stray .ensures) (isDot (s .args .k)) _ (c .before .i .given .1)
+    let is = c .before .i .given .1 in
+    (found-left (s .args .width) (left s) (right s) _ (t .find-stray .ensures .0) (isDot (s .args .k)) _ is, λ h. sym is ∙ t .find-stray .ensures .1 h)
 
 enum-told : tie.Need-enum-told
 enum-told c = search needs
@@ -41,7 +43,7 @@ enum-told c = search needs
 returns-2 : tie.Need-returns-2
 returns-2 c =
     let e = c .before .before in
-    rw (ne-eqb _ 3 (c .if1 .taken)) (says-nothing _ _ _ (searched e .find-stray .ensures) (e .enum-told .given .1))
+    (rw (ne-eqb _ 3 (c .if1 .taken)) (says-nothing _ _ _ (searched e .find-stray .ensures .0) (e .enum-told .given .1)), λ h. refl)
 
 find-stray-requires-2 : tie.Need-find-stray-requires-2
 find-stray-requires-2 c κs = search needs
@@ -51,8 +53,9 @@ returns-3 c =
     let e = c .before .before .before in
     let t = searched e in
     let s = entry t in
-    rw (eq-eqb _ 3 (c .before .if1 .left))
-    (found-right (s .args .width) (left s) (right s) _ (t .find-stray .ensures) (c .find-stray2 .result) (e .enum-told .given .1) (c .find-stray2 .ensures))
+    let r = c .find-stray2 .result in
+    let both = found-right (s .args .width) (left s) (right s) _ (t .find-stray .ensures .0) r (e .enum-told .given .1) (c .find-stray2 .ensures .0) in
+    (rw (eq-eqb _ 3 (c .before .if1 .left)) both, c .find-stray2 .ensures .1)
 
 pub walk-stray-spec : {M : Type 1} → statement M
 walk-stray-spec =
