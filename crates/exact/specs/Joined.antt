@@ -87,7 +87,7 @@ pub record Rounds (f : spec.Format) (c : env.Settings) (g : ℕ) (v : Unrounded)
   pub settings : SettingsBounds f c
   pub some : 0 < value (v .significand)
   pub high : 64 ≤ v .position
-  pub low : v .position ≤ 2 ^ 62 + 2 ^ 28
+  pub low : v .position ≤ 2 ^ 62 + 2 ^ 30
   pub grid : g < 2 ^ 62
   pub long : v .sticky ≡ true → 2 ^ suc (spec.digits f) ≤ value (v .significand)
 

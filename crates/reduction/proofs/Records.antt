@@ -10,17 +10,25 @@ use lib.Signed.{mag}
 use mir.Syntax.{w64}
 use mir.Val.{toZ}
 use borrow.Author.Tests.{lt-ltb, le-ltb}
-use Rattle.totals_spec.specs.Bounds.{RangeBounds}
+use Rattle.totals_spec.specs.Basics.{Signed}
+use Rattle.totals_spec.specs.Bounds.{RangeBounds, SettingsBounds}
 use Rattle.totals_spec.specs.Format.{Format, kindOf}
+use Rattle.totals_spec.specs.Settings.{Settings}
 use Rattle.totals_spec.specs.Decode.{decode}
 use Rattle.totals_spec.specs.Encode.{encode}
 use Rattle.totals_spec.specs.Alone.{Alone}
+use Rattle.totals_spec.specs.Round as round
 use Rattle.totals_spec.specs.Side.{sideOf, roundedSide}
+use Rattle.totals_spec.specs.Totals.{sumRounded, towardsNegative}
 use Rattle.totals_spec.proofs.Alone.{zero-told, infinity-told, nan-told}
+use Rattle.totals_spec.proofs.Lean.{sum-leans}
+use Rattle.totals_spec.proofs.Valid.{precision-least, precision-most}
 use Rattle.format.specs.declared.unpacked.Unpacked.{Unpacked}
 use Rattle.format.specs.declared.unpacked.Unpacked.the-variants.{Zero, Finite, Infinity, Nan}
 use Rattle.format.specs.Joined.{unpackedOf}
 use Rattle.format.specs.Fits.{Encodes}
+use Rattle.exact.specs.declared.Rounded.{Rounded}
+use Rattle.reduction.specs.Answered.{RoundedSum}
 
 -- ---- without a pass the value tells the side
 
@@ -30,6 +38,14 @@ told f b (Zero s) e a = zero-told f b s
 told f b (Finite s k m) e a = absurd a
 told f b (Infinity s) e a = infinity-told f b s a
 told f b (Nan s g m) e a = nan-told f b s g m a e
+
+-- ---- a rounding tells it by its flags
+
+pub leans : (f : Format) (c : Settings) (g : ℕ) (x : Signed) (r : Rounded) → RangeBounds f → SettingsBounds f c → RoundedSum f c g x r
+    → roundedSide (unpackedOf (r .value)) (r .flags) ≡ sideOf g (decode f (encode f (sumRounded f c g (towardsNegative c) x .value))) x
+leans f c g x r b k h =
+    ap (λ (s : round.Rounded). roundedSide (s .value) (s .flags)) (h .equal)
+    ∙ sym (sum-leans f c g (towardsNegative c) x b (precision-least f c b) (precision-most f c k))
 
 -- ---- signed positions
 

@@ -2,23 +2,27 @@
 use mathlib.Core.Path.{_≡_}
 use mathlib.Core.Bool.{Bool, true, false, not, _&&_}
 use mathlib.Core.List.{List}
-use Prim.Native.Nat.{ℕ, _<_}
+use Prim.Native.Nat.{ℕ, _+_, _^_, _≤_, _<_}
 use lib.Dec.{leb, eqb}
-use Rattle.totals_spec.specs.Basics.{Signed, any}
+use lib.IntN.{subℕ}
+use Rattle.totals_spec.specs.Basics.{Signed, flag, any}
+use Rattle.totals_spec.specs.Bounds.{RangeBounds, SettingsBounds}
 use Rattle.totals_spec.specs.Format as spec
 use Rattle.totals_spec.specs.Settings as env
 use Rattle.totals_spec.specs.Totals as totals
 use Rattle.totals_spec.specs.Extended.{unsupported, spread, kind4, extendedSumRefusal, extendedSum, extendedDotRefusal, extendedDot, extended}
 use Rattle.totals_spec.specs.Halves.{joined}
+use Rattle.totals_spec.specs.Side.{roundedSide}
 use Rattle.values.specs.Tens.{allTens}
 use Rattle.format.specs.Joined.{unpackedOf}
 use Rattle.format.specs.Fits.{Encodes}
 use Rattle.exact.specs.declared.Rounded.{Rounded}
 use Rattle.exact.specs.declared.Unrounded.{Unrounded}
 use Rattle.exact.specs.Joined.{roundedOf}
+use Rattle.window.specs.declared.Chain.{Chain}
 use Rattle.window.specs.declared.ExactSum.{ExactSum}
 use Rattle.window.specs.declared.Outcome.the-variants.{Zero}
-use Rattle.window.specs.Joined.{Leaves}
+use Rattle.window.specs.Joined.{Ended, Leaves}
 use Rattle.reduction.specs.declared.total.Answer.{Answer}
 use Rattle.reduction.specs.declared.total.Wide.{Wide}
 
@@ -69,11 +73,34 @@ givenAs w a = record {
 abbrev pub LeftOf : ExactSum → Unrounded → Type 0
 LeftOf e v = (e .outcome ≡ Zero → ⊥) → Leaves e v
 
--- the rounding of a signed sum x, which can be encoded, and leaves flag 128 free
-pub record RoundedSum (f : spec.Format) (c : env.Settings) (products : Bool) (x : Signed) (r : Rounded) : Type 0 where
-  pub equal : roundedOf r ≡ totals.sumRounded f c (spec.grid f products) (totals.towardsNegative c) x
+-- the end of a chain, of which v is left, can be rounded into f on a grid g, counted from a unit `up` positions lower: f has at most the chain's digits
+pub record CanRound (f : spec.Format) (c : env.Settings) (g up : ℕ) (e : ExactSum) (v : Unrounded) : Type 0 where
+  pub chain-digits : ℕ
+  pub format : RangeBounds f
+  pub settings : SettingsBounds f c
+  pub enough : spec.digits f ≤ chain-digits
+  pub ended : Ended chain-digits e
+  pub grid : g < 2 ^ 62
+  pub few : up ≤ 2 ^ 30
+  pub left : LeftOf e v
+
+-- the rounding of a signed sum x on a grid g, which can be encoded, and leaves flag 128 free
+pub record RoundedSum (f : spec.Format) (c : env.Settings) (g : ℕ) (x : Signed) (r : Rounded) : Type 0 where
+  pub equal : roundedOf r ≡ totals.sumRounded f c g (totals.towardsNegative c) x
   pub encodes : Encodes f (unpackedOf (r .value))
   pub flags : r .flags < 128
+
+-- the record of a rounding: its passes and last edge are those of a chain in the units of f
+abbrev pub recordOf : spec.Format → (subnormal products : Bool) → ℕ → Rounded → Chain → totals.Answer
+recordOf f sub products result r h = record {
+  result = result;
+  flags = flag 128 sub + r .flags;
+  passes = h .passes;
+  lastEdge = subℕ (h .edge + spec.fall f products) (spec.origin f products);
+  refusal = 0;
+  place = 0;
+  side = roundedSide (unpackedOf (r .value)) (r .flags);
+}
 
 -- ---- a walk that is accepted, of the summand's number u: over the pairs of a dot, or over the elements of one list
 

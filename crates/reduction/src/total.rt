@@ -19,12 +19,14 @@ use format::origin;
 use format::rise;
 use format::unpacked::Unpacked;
 use values::Ten;
+use window::Chain;
 use window::ExactSum;
 use window::Outcome;
 use window::near_boundary;
 ghost use mathlib.Core.Path.{_≡_};
 ghost use Prim.Native.Nat.{_^_, _<_, _≤_};
 ghost use lib.IntN.{subℕ};
+ghost use Rattle.totals_spec.specs.Basics.{raised};
 ghost use Rattle.totals_spec.specs.Format as spec;
 ghost use Rattle.totals_spec.specs.Encode as enc;
 ghost use Rattle.totals_spec.specs.Totals as totals;
@@ -36,7 +38,7 @@ ghost use Rattle.format.specs.Joined.{formatOf, settingsOf, unpackedOf};
 ghost use Rattle.format.specs.Fits.{Encodes};
 ghost use Rattle.values.specs.Walks.{wide, Known};
 ghost use Rattle.window.specs.Joined.{outcomeOf, runOf, Ended};
-ghost use Rattle.reduction.specs.Answered.{wordsAs, writtenAs, answerOf, answerAs, givenAs, LeftOf, RoundedSum};
+ghost use Rattle.reduction.specs.Answered.{wordsAs, writtenAs, answerOf, answerAs, givenAs, LeftOf, CanRound, RoundedSum, recordOf};
 
 // Where a result lies beside the exact sum. A NaN or an infinity is not compared.
 pub const EQUAL: u64 = 0;
@@ -166,16 +168,16 @@ pub fn left(p: u64, e: ExactSum) -> Unrounded
     }
 }
 
-// The exact sum, of which v is left, rounded once. Terms that cancel give a zero.
-fn round_sum(f: Format, c: Settings, products: bool, e: ExactSum, v: Unrounded) -> Rounded
-    requires { ⌜ RangeBounds (formatOf f) × SettingsBounds (formatOf f) (settingsOf c) × Ended (spec.digits (formatOf f)) e × LeftOf e v ⌝ }
-    ensures { λ r. ⌜ RoundedSum (formatOf f) (settingsOf c) products (totals.onGrid (formatOf f) products (settled.settled (outcomeOf e))) r ⌝ }
+// The exact sum, of which v is left, counted from a unit `up` positions lower and rounded once on the grid g. Terms that cancel give a zero.
+fn round_sum(f: Format, c: Settings, g: u64, up: u64, e: ExactSum, v: Unrounded) -> Rounded
+    requires { ⌜ CanRound (formatOf f) (settingsOf c) g up e v ⌝ }
+    ensures { λ r. ⌜ RoundedSum (formatOf f) (settingsOf c) g (raised up (settled.settled (outcomeOf e))) r ⌝ }
 {
     let o = e.outcome;
     let Outcome::Zero = o else {
         let mut w = v;
-        w.position += rise(f, products);
-        return round(f, c, grid(f, products), w);
+        w.position += up;
+        return round(f, c, g, w);
     };
     Rounded {
         value: Unpacked::Zero(zero_sum_is_negative(c)),
@@ -191,6 +193,23 @@ fn position_of(at: u64, origin: u64) -> i64
     (at as i64) - (origin as i64)
 }
 
+// The record of a rounding and of the chain behind it, which counts in the units of f.
+fn recorded(f: Format, products: bool, subnormal: bool, result: u64, r: Rounded, h: Chain) -> Answer
+    requires { ⌜ RangeBounds (formatOf f) × (r .flags < 128) × (h .edge < 2 ^ 62) ⌝ }
+    ensures { λ a. ⌜ answerOf a ≡ recordOf (formatOf f) subnormal products result r h ⌝ }
+{
+    let x = r.value;
+    Answer {
+        result,
+        flags: flag(DENORMAL_INPUT, subnormal) + r.flags,
+        passes: h.passes,
+        last_edge: position_of(h.edge + fall(f, products), origin(f, products)),
+        refusal: 0,
+        place: 0,
+        side: side_of(x, r.flags),
+    }
+}
+
 // The record of a chain of passes, which leaves v.
 pub fn finish(
     f: Format,
@@ -203,19 +222,11 @@ pub fn finish(
     requires { ⌜ Known (wide (formatOf f)) (formatOf f) × SettingsBounds (formatOf f) (settingsOf c) × Ended (spec.digits (formatOf f)) e × LeftOf e v ⌝ }
     ensures { λ r. ⌜ answerAs (wide (formatOf f)) r ≡ givenAs (wide (formatOf f)) (totals.reported (formatOf f) subnormal products (totals.onGrid (formatOf f) products (settled.settled (outcomeOf e))) (totals.sumRounded (formatOf f) (settingsOf c) (spec.grid (formatOf f) products) (totals.towardsNegative (settingsOf c)) (totals.onGrid (formatOf f) products (settled.settled (outcomeOf e)))) (runOf e)) ⌝ }
 {
-    let h = e.chain;
-    let r = round_sum(f, c, products, e, v);
+    let r = round_sum(f, c, grid(f, products), rise(f, products), e, v);
     let x = r.value;
     let b = encoded(f, x);
-    let answer = Answer {
-        result: b.significand,
-        flags: flag(DENORMAL_INPUT, subnormal) + r.flags,
-        passes: h.passes,
-        last_edge: position_of(h.edge + fall(f, products), origin(f, products)),
-        refusal: 0,
-        place: 0,
-        side: side_of(x, r.flags),
-    };
+    let h = e.chain;
+    let answer = recorded(f, products, subnormal, b.significand, r, h);
     Wide {
         head: b.head,
         answer,

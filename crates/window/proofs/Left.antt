@@ -203,15 +203,15 @@ leaves-high p e v h n l =
     let d = deep-of (e .outcome) p (value (e .chain .whole)) (e .chain .place) n (h .ends) in
     omega (arith, d .high, l .high)
 
--- what `round` requires of its value
-pub leaves-rounds : (f : Format) (c : Settings) (g : ℕ) (e : ExactSum) (v : Unrounded) (n : ℕ) → RangeBounds f → SettingsBounds f c → g < 2 ^ 62
-    → n ≤ 2 ^ 28 → Ended (digits f) e → (e .outcome ≡ out.Zero → ⊥) → Leaves e v → Rounds f c g (raisedBy n v)
-leaves-rounds f c g e v n b t k few h some l = record {
+-- what `round` requires of its value, into a format of at most the chain's digits
+pub leaves-rounds : (f : Format) (c : Settings) (p g : ℕ) (e : ExactSum) (v : Unrounded) (n : ℕ) → RangeBounds f → SettingsBounds f c → digits f ≤ p
+    → g < 2 ^ 62 → n ≤ 2 ^ 30 → Ended p e → (e .outcome ≡ out.Zero → ⊥) → Leaves e v → Rounds f c g (raisedBy n v)
+leaves-rounds f c p g e v n b t d k few h some l = record {
   format = b;
   settings = t;
   some = l .some;
-  high = omega (arith, leaves-high (digits f) e v h some l);
-  low = omega (arith, few, leaves-low (digits f) e v h some l);
+  high = omega (arith, leaves-high p e v h some l);
+  low = omega (arith, few, leaves-low p e v h some l);
   grid = k;
-  long = l .long (digits f) (h .ends);
+  long = λ s. le-trans (pow-mono (suc-le-suc d)) (l .long p (h .ends) s);
 }
