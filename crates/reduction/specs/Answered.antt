@@ -6,7 +6,7 @@ use Prim.Native.Nat.{ℕ, _+_, _^_, _≤_, _<_}
 use lib.Dec.{leb, eqb}
 use lib.IntN.{subℕ}
 use Rattle.totals_spec.specs.Basics.{Signed, flag, any}
-use Rattle.totals_spec.specs.Bounds.{RangeBounds, SettingsBounds}
+use Rattle.totals_spec.specs.Bounds.{RangeBounds, FormatBounds, SettingsBounds}
 use Rattle.totals_spec.specs.Format as spec
 use Rattle.totals_spec.specs.Settings as env
 use Rattle.totals_spec.specs.Totals as totals
@@ -89,6 +89,15 @@ pub record RoundedSum (f : spec.Format) (c : env.Settings) (g : ℕ) (x : Signed
   pub equal : roundedOf r ≡ totals.sumRounded f c g (totals.towardsNegative c) x
   pub encodes : Encodes f (unpackedOf (r .value))
   pub flags : r .flags < 128
+
+-- the end of a chain over a list in the format f, of which v is left, and a target t that it can be rounded into, under the target's settings
+pub record Into (f t : spec.Format) (c : env.Settings) (e : ExactSum) (v : Unrounded) : Type 0 where
+  pub list : RangeBounds f
+  pub format : FormatBounds t
+  pub settings : SettingsBounds t c
+  pub digits-le : spec.digits t ≤ spec.digits f
+  pub ended : Ended (spec.digits f) e
+  pub left : LeftOf e v
 
 -- the record of a rounding: its passes and last edge are those of a chain in the units of f
 abbrev pub recordOf : spec.Format → (subnormal products : Bool) → ℕ → Rounded → Chain → totals.Answer

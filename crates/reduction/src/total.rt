@@ -5,6 +5,7 @@ use exact::Rounded;
 use exact::Unrounded;
 use exact::round;
 use format::Format;
+use format::depth;
 use format::env::DENORMAL_INPUT;
 use format::env::INEXACT;
 use format::env::INVALID;
@@ -13,8 +14,10 @@ use format::env::Settings;
 use format::env::flag;
 use format::env::has_flag;
 use format::env::zero_sum_is_negative;
+use format::env::zero_sum_sign;
 use format::fall;
 use format::grid;
+use format::lift;
 use format::origin;
 use format::rise;
 use format::unpacked::Unpacked;
@@ -24,21 +27,24 @@ use window::ExactSum;
 use window::Outcome;
 use window::near_boundary;
 ghost use mathlib.Core.Path.{_≡_};
+ghost use mathlib.Core.Bool.{false};
 ghost use Prim.Native.Nat.{_^_, _<_, _≤_};
 ghost use lib.IntN.{subℕ};
 ghost use Rattle.totals_spec.specs.Basics.{raised};
 ghost use Rattle.totals_spec.specs.Format as spec;
+ghost use Rattle.totals_spec.specs.Decode as dec;
 ghost use Rattle.totals_spec.specs.Encode as enc;
 ghost use Rattle.totals_spec.specs.Totals as totals;
 ghost use Rattle.totals_spec.specs.Side as side;
 ghost use Rattle.totals_spec.specs.Alone.{Alone};
 ghost use Rattle.totals_spec.specs.Settled as settled;
-ghost use Rattle.totals_spec.specs.Bounds.{RangeBounds, SettingsBounds};
+ghost use Rattle.totals_spec.specs.Several as several;
+ghost use Rattle.totals_spec.specs.Bounds.{RangeBounds, FormatBounds, SettingsBounds};
 ghost use Rattle.format.specs.Joined.{formatOf, settingsOf, unpackedOf};
 ghost use Rattle.format.specs.Fits.{Encodes};
 ghost use Rattle.values.specs.Walks.{wide, Known};
 ghost use Rattle.window.specs.Joined.{outcomeOf, runOf, Ended};
-ghost use Rattle.reduction.specs.Answered.{wordsAs, writtenAs, answerOf, answerAs, givenAs, LeftOf, CanRound, RoundedSum, recordOf};
+ghost use Rattle.reduction.specs.Answered.{wordsAs, writtenAs, answerOf, answerAs, givenAs, LeftOf, CanRound, RoundedSum, Into, recordOf};
 
 // Where a result lies beside the exact sum. A NaN or an infinity is not compared.
 pub const EQUAL: u64 = 0;
@@ -231,4 +237,40 @@ pub fn finish(
         head: b.head,
         answer,
     }
+}
+
+// The record of a target: the sum of a list in the format f, whose chain leaves v, rounded once into the format t. Counted from a unit
+// depth(t) + fall(f) positions lower, the target's least number has a position, wherever its grid lies.
+pub fn print(
+    f: Format,
+    t: Format,
+    c: Settings,
+    subnormal: bool,
+    e: ExactSum,
+    v: Unrounded,
+) -> Answer
+    requires { ⌜ Into (formatOf f) (formatOf t) (settingsOf c) e v ⌝ }
+    ensures { λ r. ⌜ answerOf r ≡ several.printed (formatOf f) (formatOf t) subnormal (settled.settled (outcomeOf e)) (several.roundedInto (formatOf f) (formatOf t) (settingsOf c) (settled.settled (outcomeOf e))) (runOf e) ⌝ }
+{
+    let g = origin(f, false) + lift(t);
+    let r = round_sum(t, c, g, depth(t) + fall(f, false), e, v);
+    let x = r.value;
+    let h = e.chain;
+    recorded(f, false, subnormal, encode(t, x), r, h)
+}
+
+// The record of a target where the list has no term: a zero, by the signs of the listed zeros.
+pub fn print_zero(
+    t: Format,
+    c: Settings,
+    subnormal: bool,
+    positive_zero: bool,
+    negative_zero: bool,
+) -> Answer
+    requires { ⌜ FormatBounds (formatOf t) ⌝ }
+    ensures { λ r. ⌜ answerOf r ≡ totals.special (formatOf t) subnormal (dec.zeroOf (totals.zeroSign «positive_zero» «negative_zero» (totals.towardsNegative (settingsOf c)))) false ⌝ }
+{
+    let negative = zero_sum_sign(c, positive_zero, negative_zero);
+    let w = special(t, subnormal, Unpacked::Zero(negative), false);
+    w.answer
 }
