@@ -38,7 +38,7 @@ ghost use Rattle.totals_spec.specs.Totals as totals;
 ghost use Rattle.totals_spec.specs.Side as side;
 ghost use Rattle.totals_spec.specs.Alone.{Alone};
 ghost use Rattle.totals_spec.specs.Settled as settled;
-ghost use Rattle.totals_spec.specs.Several as several;
+ghost use Rattle.further_spec.specs.Several as several;
 ghost use Rattle.totals_spec.specs.Bounds.{RangeBounds, FormatBounds, SettingsBounds};
 ghost use Rattle.format.specs.Joined.{formatOf, settingsOf, unpackedOf};
 ghost use Rattle.format.specs.Fits.{Encodes};

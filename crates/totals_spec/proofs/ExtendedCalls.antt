@@ -3,13 +3,13 @@ use mathlib.Core.Path.{_≡_, refl, sym, ap, _∙_}
 use mathlib.Core.Logic.{_≢_, _↔_}
 use mathlib.Core.Bool.{Bool, true, false, _||_, cond}
 use mathlib.Core.List.{List, _++_}
-use Prim.Native.Nat.{ℕ, _+_, _-_, _/_, _%_, _≤_, _<_, zero-le}
+use Prim.Native.Nat.{ℕ, _+_, _-_, _/_, _%_, _≤_, _<_}
 use native.Mathlib.Nat.{suc-ne-zero}
 use native.Mathlib.Omega.{arith}
 use lib.Dec.{T, eqb, eqb→eq, ltb→lt, lt→ltb}
 use lib.ListN.{length, drop, getD, length-drop, List·getD-append}
 use lib.Seq.{getD-drop}
-use borrow.Author.Tests.{eq-eqb, ne-eqb, le-leb, lt-leb, eqb-false, ltb-false}
+use borrow.Author.Tests.{eq-eqb, ne-eqb, lt-leb, eqb-false, ltb-false}
 use Rattle.totals_spec.specs.Format.{Format, validFormat}
 use Rattle.totals_spec.specs.Totals.{Answer, refuseIf}
 use Rattle.totals_spec.specs.Totals.{sumAnswer, sumRefusal, dotAnswer, dotRefusal}
@@ -20,7 +20,6 @@ use Rattle.totals_spec.specs.Conditions.{Condition, UnevenTens, Short32,
 use Rattle.totals_spec.specs.Extended.{kind4, extendedSumAnswer, extendedDotAnswer}
 use Rattle.totals_spec.specs.Extended.{tensIn, extendedWritten, extendedEntered, unevenTens, short32, extendedSumEntry, extendedDotEntry}
 use Rattle.totals_spec.specs.Extended.{isExtended, sumCall, dotCall}
-use Rattle.totals_spec.specs.Estimate.{within, sumWithin, dotWithin}
 use Rattle.totals_spec.specs.Promises.{FieldsFit, ReadsBack32, Other-kinds, Extended-elsewhere, Extended-call-refused-exactly, Call-refused}
 use Rattle.totals_spec.specs.Promises.{Extended-read-back, Tens-values, Extended-call-order}
 use Rattle.totals_spec.proofs.Exactly.{Tests, test, exactly, different, either}
@@ -45,12 +44,12 @@ module _ (f : Format) (h : f .kind ≡ 4) where
   unfolding dotCall
   dot-extended c left right old = rw (eq-eqb (f .kind) 4 h)
 
-  not-offered : validFormat f ≡ false
+  pub not-offered : validFormat f ≡ false
   unfolding validFormat
   not-offered = rw (lt-leb (f .kind) 3 (omega (arith, h)))
 
 pub extended-elsewhere : Extended-elsewhere
-unfolding sumAnswer sumRefusal dotAnswer dotRefusal penceAnswer sumPence tableAnswer tableRefusal sumWithin dotWithin within
+unfolding sumAnswer sumRefusal dotAnswer dotRefusal penceAnswer sumPence tableAnswer tableRefusal
 extended-elsewhere f h =
     let e = not-offered f h in (
       λ c u l. rw e,
@@ -58,8 +57,6 @@ extended-elsewhere f h =
       λ b. rw e,
       λ l. rw e,
       λ c rows columns cells old other. rw e,
-      λ c u l k k0. rw (e, ne-eqb k 0 (λ z. omega (arith, k0, z)), le-leb 0 k zero-le),
-      λ c xs ys k k0. rw (e, ne-eqb k 0 (λ z. omega (arith, k0, z)), le-leb 0 k zero-le),
     )
 
 -- ---- ten bytes a value

@@ -80,36 +80,17 @@ pub mod TurnedRound
 pub mod Mirror
 pub mod ExtendedMirror
 pub mod Squares
--- One total, several formats: a rounding does not depend on the unit; the records of targets, and their entry.
-pub mod Finer
-pub mod Several
-pub mod Targets
-pub mod TargetEntry
--- The contribution that reaches a target: a rounding rises with the sum, and a sum with each number in it; the least number, its record and its entry.
-pub mod Rises
-pub mod Ranks
-pub mod RoundRises
-pub mod SumRises
-pub mod RankNumbers
-pub mod Contribution
-pub mod ContributionRecord
--- Within an allowance: where a chain's passes stand, the answers, and their entries.
-pub mod Standing
-pub mod Within
-pub mod WithinEntry
 -- The promises: what `specs/Promises.antt` states. Read this one first.
 pub mod Promises
 -- More of a pass: how near S is to the exact sum, and that a boundary need not be taken off.
 pub mod Vanish
--- For the code's proofs: a window filled part by part, a list walked, values read from bytes, encodings of kind 4 in two words, pages part by part, a
--- chain walked, empty passes counted.
+-- For the code's proofs: a window filled part by part, a list walked, values read from bytes, encodings of kind 4 in two words, pages part by part,
+-- accepted calls, boundaries that passes keep, the order of numbers.
 pub mod Window
 pub mod Walk
 pub mod Values
 pub mod Halves
 pub mod PageParts
 pub mod Accepts
-pub mod Reached
 pub mod Kept
 pub mod Monotone
-pub mod Skip

@@ -1,5 +1,5 @@
--- The loop of passes: the code's chain holds what `Reached` and `Kept` of totals_spec say, from one pass to the next, and where it is done it is the
--- chain of the definitions.
+-- The loop of passes: the code's chain holds what `Reached` of further_spec and `Kept` of totals_spec say, from one pass to the next, and where it is done
+-- it is the chain of the definitions.
 use mathlib.Core.Path.{_≡_, refl, sym, ap, ap₂, _∙_, subst}
 use mathlib.Core.Bool.{Bool, true, false, cond}
 use mathlib.Core.List.{List}
@@ -19,9 +19,9 @@ use Rattle.totals_spec.proofs.Margin.{terms-max}
 use Rattle.totals_spec.proofs.Invariant.{Inv}
 use Rattle.totals_spec.proofs.Limit.{GoesOn, fair-look, pass-goes-on, lost-deep}
 use Rattle.totals_spec.proofs.Vanish.{vanishes}
-use Rattle.totals_spec.proofs.Reached.{Reached, at-start, at-next, at-done}
+use Rattle.further_spec.proofs.Reached.{Reached, at-start, at-next, at-done}
 use Rattle.totals_spec.proofs.Kept.{Kept, KeptStep, EndsAs, kept-start, kept-pass}
-use Rattle.totals_spec.proofs.Skip.{Empty, Skipped, pass-empty, skip}
+use Rattle.further_spec.proofs.Skip.{Empty, Skipped, pass-empty, skip}
 use Rattle.window.specs.declared.Pass.{Pass}
 use Rattle.window.specs.declared.Chain.{Chain}
 use Rattle.window.specs.declared.Step.{Step}

@@ -9,7 +9,7 @@ use Rattle.totals_spec.specs.Format.{Format, digits}
 use Rattle.totals_spec.specs.Round.{Rounded}
 use Rattle.totals_spec.specs.Settings.{Settings}
 use Rattle.totals_spec.specs.Settled.{settled}
-use Rattle.totals_spec.specs.Several.{targetGrid, onTarget, roundedInto, printed}
+use Rattle.further_spec.specs.Several.{targetGrid, onTarget, roundedInto, printed}
 use Rattle.totals_spec.specs.Totals.{Answer}
 use Rattle.format.specs.Joined.{formatOf, settingsOf}
 use Rattle.exact.specs.declared.Rounded as code
