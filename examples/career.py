@@ -1,8 +1,8 @@
 #!/usr/bin/env python3
-"""One career of 480 months, made up, what the program `total` prints for it, and its years.
+"""One career of 480 months, made up, what the program `total` prints for it, its years, and its statement.
 
-    career.py          writes career.txt, career.expected and pages.expected beside this file
-    career.py --check  says whether the three files are what it would write
+    career.py          writes career.txt, career.expected, pages.expected and statement.expected beside this file
+    career.py --check  says whether the four files are what it would write
 
 A line of career.txt is the amount paid in one month, in pounds, as the 16 hex
 digits of the nearest binary64 number. The amounts are monthly contributions
@@ -17,6 +17,9 @@ sum, not rounded before, to the nearest penny.
 pages.expected has the total of each year's twelve months and of all, as hex
 digits and in pounds: what the examples print that write the career as a page
 and ask it for spans.
+
+statement.expected has the total in binary64, binary32 and binary16, each the
+exact sum rounded once: hex digits, flags, side and pounds.
 """
 
 import pathlib
@@ -96,6 +99,28 @@ def years(months):
     yield line_of('all', months)
 
 
+def nearest_even(exact, digits):
+    """The nearest number of so many digits, a tie to the even one."""
+    unit = Fraction(1)
+    while abs(exact) >= 2 ** digits * unit:
+        unit *= 2
+    while abs(exact) < 2 ** (digits - 1) * unit:
+        unit /= 2
+    return round(exact / unit) * unit
+
+
+def statement(months):
+    exact = sum(map(Fraction, months))
+    for letter, width, digits in (('d', 64, 53), ('f', 32, 24), ('e', 16, 11)):
+        result = nearest_even(exact, digits)
+        # a number of the format, and not one below its least normal number: struct packs it as it is
+        encoding = struct.pack('>' + letter, result)
+        assert Fraction(struct.unpack('>' + letter, encoding)[0]) == result and abs(result) >= 1
+        flags = 0 if result == exact else 16 + (64 if abs(result) > abs(exact) else 0)
+        side = 1 if result < exact else 2 if result > exact else 0
+        yield f'binary{width} {encoding.hex()} flags {flags:02x} side {side} {float(result):.2f}'
+
+
 def running(months):
     total = 0.0
     for x in months:
@@ -109,7 +134,8 @@ def main():
     # What the example is for: three different totals, one of them right.
     assert len({hex_of(running(months)), hex_of(running(months[::-1])), answer[0]}) == 3
     same = True
-    for name, lines in (('career.txt', map(hex_of, months)), ('career.expected', answer), ('pages.expected', years(months))):
+    for name, lines in (('career.txt', map(hex_of, months)), ('career.expected', answer), ('pages.expected', years(months)),
+                        ('statement.expected', statement(months))):
         text = ''.join(line + '\n' for line in lines)
         if sys.argv[1:] == ['--check']:
             if (HERE / name).read_text() != text:

@@ -2422,16 +2422,476 @@ static void x87_records_refused(void)
     munmap((void *)unread, 16 * (most + 2));
 }
 
-/* Words, pence and tables have no kind 4, however many there are. */
+/* The three targets of an entry lie at an odd address, and so does the answer, with bytes behind it. */
+#define INTO_ROOM (TOTALS_INTO_ANSWER_BYTES + 24)
+#define INTO_VALUES 4
+#define MOST_TARGETS 7
+
+static uint8_t into_targets[1 + TOTALS_TARGETS_BYTES + 8], into_answer[1 + INTO_ROOM];
+
+/* Between the numbers of a format that has no name. */
+#define COMMA ,
+#define TO(format) {{format, TOTALS_OWN_BIAS}, TOTALS_SETTINGS_INIT}
+#define TO_ROUNDED(format, rounding) {{format, TOTALS_OWN_BIAS}, {rounding, 0, 0, 0, 0, 0, 0, 0}}
+#define TO_BIASED(format, bias) {{format, TOTALS_BIAS(bias)}, TOTALS_SETTINGS_INIT}
+
+static void lay_out_target(uint8_t *at, const totals_target *target)
+{
+    put(at, 8, target->format.kind);
+    put(at + 8, 8, target->format.exponent_bits);
+    put(at + 16, 8, target->format.width);
+    put(at + 24, 8, target->format.bias_named);
+    put(at + 32, 8, (uint64_t)target->format.bias);
+    put(at + 40, 8, target->settings.rounding);
+    put(at + 48, 8, target->settings.tininess);
+    put(at + 56, 8, target->settings.nan_propagation);
+    put(at + 64, 8, target->settings.default_nan_negative);
+    put(at + 72, 8, target->settings.flush_to_zero);
+    put(at + 80, 8, target->settings.denormals_are_zero);
+    put(at + 88, 8, target->settings.saturate);
+    put(at + 96, 8, target->settings.precision);
+}
+
+static uint64_t into(totals_format f, uint64_t denormals_are_zero, const totals_target *first, const totals_target *second,
+                     const totals_target *third, const uint64_t *values, size_t count)
+{
+    memset(into_answer, UNTOUCHED, sizeof into_answer);
+    lay_out_target(into_targets + 1, first);
+    lay_out_target(into_targets + 1 + 104, second);
+    lay_out_target(into_targets + 1 + 208, third);
+    return totals_sum_into(f.kind, f.exponent_bits, f.width, f.bias_named, f.bias, denormals_are_zero, into_targets + 1, TOTALS_TARGETS_BYTES,
+                           (const uint8_t *)values, 8 * count, into_answer + 1, INTO_ROOM);
+}
+
+/* The 32 bytes of a target: a code, and the answer of a sum or zeros. */
+static int slot_is(size_t at, uint64_t code, uint64_t result, uint64_t flags, uint64_t passes, uint64_t side)
+{
+    const uint64_t wanted[4] = {code, result, flags + (side << 16), passes};
+    uint8_t bytes[32];
+    size_t i;
+    for (i = 0; i < 4; i++) {
+        put(bytes + 8 * i, 8, wanted[i]);
+    }
+    return memcmp(into_answer + 1 + 32 * at, bytes, sizeof bytes) == 0;
+}
+
+static int slot_is_refused(size_t at, uint64_t code)
+{
+    return slot_is(at, code, 0, 0, 0, 0);
+}
+
+static int nothing_behind_slots(void)
+{
+    return into_answer[0] == UNTOUCHED && are_untouched(into_answer, 1 + TOTALS_INTO_ANSWER_BYTES, sizeof into_answer);
+}
+
+static int has_record(totals_record record, uint64_t result, unsigned flags, uint64_t passes, unsigned side)
+{
+    return record.refusal == TOTALS_ACCEPTED && record.place == 0 && record.result == result && record.flags == flags
+           && record.passes == passes && record.side == side;
+}
+
+typedef struct {
+    totals_format list;
+    uint64_t denormals_are_zero;
+    size_t count;
+    uint64_t values[INTO_VALUES];
+    totals_target target;
+    uint64_t result, passes;
+    unsigned flags, side;
+} into_row;
+
+/* The entry, and the wrappers of words and of the float that the list is of. */
+static int into_is(const into_row *row)
+{
+    const totals_target targets[3] = {row->target, row->target, row->target};
+    totals_record records[3];
+    double doubles[INTO_VALUES];
+    float floats[INTO_VALUES];
+    size_t i;
+    int are_right = into(row->list, row->denormals_are_zero, targets, targets + 1, targets + 2, row->values, row->count) == 0
+                    && nothing_behind_slots();
+
+    for (i = 0; i < row->count; i++) {
+        const uint32_t low = (uint32_t)row->values[i];
+        memcpy(&doubles[i], &row->values[i], sizeof *doubles);
+        memcpy(&floats[i], &low, sizeof low);
+    }
+    for (i = 0; i < 3; i++) {
+        are_right = are_right && slot_is(i, 0, row->result, row->flags, row->passes, row->side);
+    }
+#define ALL_THREE(call) \
+    are_right = are_right && (call) == TOTALS_ACCEPTED; \
+    for (i = 0; i < 3; i++) { \
+        are_right = are_right && has_record(records[i], row->result, row->flags, row->passes, row->side); \
+    }
+    ALL_THREE(totals_sum_into_words(row->list, row->values, row->count, row->denormals_are_zero, targets, 3, records))
+    if (row->list.bias_named == 0 && row->list.width == 64 && row->list.exponent_bits == 11 && row->list.kind == TOTALS_IEEE) {
+        ALL_THREE(totals_sum_into_double(doubles, row->count, row->denormals_are_zero, targets, 3, records))
+    }
+    if (row->list.bias_named == 0 && row->list.width == 32 && row->list.exponent_bits == 8 && row->list.kind == TOTALS_IEEE) {
+        ALL_THREE(totals_sum_into_float(floats, row->count, row->denormals_are_zero, targets, 3, records))
+    }
+#undef ALL_THREE
+    return are_right;
+}
+
+#define B64 {TOTALS_BINARY64, TOTALS_OWN_BIAS}
+#define B32 {TOTALS_BINARY32, TOTALS_OWN_BIAS}
+#define FNUZ {TOTALS_E4M3_FNUZ, TOTALS_OWN_BIAS}
+#define SHORT_LIST {TOTALS_IEEE, 2, 10, TOTALS_OWN_BIAS}
+
+#define TIE 0x3f40000000000000       /* 2^-11: half a unit of binary16 beside 1 */
+#define BESIDE 0x3b90000000000000    /* 2^-70 */
+#define FAR_BELOW 0x0170000000000000 /* 2^-1000 */
+
+/* A total in a target, worked out by hand. */
+static void sums_into_targets(void)
+{
+    static const into_row rows[] = {
+        /* a little above a tie, on it, a little below */
+        {B64, 0, 3, {ONE, TIE, BESIDE, 0}, TO(TOTALS_BINARY16), 0x3c01, 1, 0x50, TOTALS_ABOVE},
+        {B64, 0, 3, {ONE, TIE, BESIDE, 0}, TO(TOTALS_BINARY32), 0x3f801000, 1, 0x10, TOTALS_BELOW},
+        {B64, 0, 3, {ONE, TIE, BESIDE, 0}, TO(TOTALS_BINARY64), 0x3ff0020000000000, 1, 0x10, TOTALS_BELOW},
+        {B64, 0, 2, {ONE, TIE, 0, 0}, TO(TOTALS_BINARY16), 0x3c00, 1, 0x10, TOTALS_BELOW},
+        {B64, 0, 3, {ONE, TIE, MINUS + BESIDE, 0}, TO(TOTALS_BINARY16), 0x3c00, 1, 0x10, TOTALS_BELOW},
+        {B64, 0, 3, {MINUS + ONE, MINUS + TIE, MINUS + BESIDE, 0}, TO(TOTALS_BINARY16), 0xbc01, 1, 0x50, TOTALS_BELOW},
+        /* by a second pass */
+        {B64, 0, 3, {ONE, TIE, FAR_BELOW, 0}, TO(TOTALS_BINARY16), 0x3c01, 2, 0x50, TOTALS_ABOVE},
+        {B64, 0, 3, {ONE, TIE, MINUS + FAR_BELOW, 0}, TO(TOTALS_BINARY16), 0x3c00, 2, 0x10, TOTALS_BELOW},
+        {B64, 0, 2, {ONE, FAR_BELOW, 0, 0}, TO_ROUNDED(TOTALS_BINARY16, TOTALS_TOWARD_POSITIVE), 0x3c01, 2, 0x50, TOTALS_ABOVE},
+        /* too large, by kind and by rounding */
+        {B64, 0, 1, {GREATEST, 0, 0, 0}, TO(TOTALS_BINARY32), 0x7f800000, 1, 0x54, TOTALS_NO_COMPARISON},
+        {B64, 0, 1, {GREATEST, 0, 0, 0}, TO_ROUNDED(TOTALS_BINARY32, TOTALS_TOWARD_ZERO), 0x7f7fffff, 1, 0x14, TOTALS_BELOW},
+        {B64, 0, 1, {GREATEST, 0, 0, 0}, TO(TOTALS_E4M3), 0x7f, 1, 0x14, TOTALS_NO_COMPARISON},
+        {B64, 0, 1, {GREATEST, 0, 0, 0}, TO(TOTALS_E4M3_FNUZ), 0x80, 1, 0x14, TOTALS_NO_COMPARISON},
+        {B64, 0, 1, {GREATEST, 0, 0, 0}, TO(TOTALS_E2M1), 0x7, 1, 0x14, TOTALS_BELOW},
+        {B64, 0, 1, {GREATEST, 0, 0, 0}, {{TOTALS_BINARY32, TOTALS_OWN_BIAS}, {0, 0, 0, 0, 0, 0, 1, 0}}, 0x7f7fffff, 1, 0x14, TOTALS_BELOW},
+        /* 2^1024, which a target with more exponents has */
+        {B64, 0, 2, {GREATEST, 0x7ca0000000000000, 0, 0}, TO(TOTALS_IEEE COMMA 15 COMMA 32), 0x43ff0000, 1, 0, TOTALS_EQUAL},
+        /* below the least normal number: 2^-25 and 2^-40 into binary16 by each tininess, and flushed */
+        {B64, 0, 2, {0x3e60000000000000, 0x3d70000000000000, 0, 0}, TO(TOTALS_BINARY16), 1, 1, 0x78, TOTALS_ABOVE},
+        {B64, 0, 2, {0x3e60000000000000, 0x3d70000000000000, 0, 0}, {{TOTALS_BINARY16, TOTALS_OWN_BIAS}, {0, 0, 0, 0, 1, 0, 0, 0}}, 0, 1, 0x38,
+         TOTALS_BELOW},
+        /* 2^-14 less 2^-40 is tiny before rounding, and not after */
+        {B64, 0, 2, {0x3f10000000000000, MINUS + 0x3d70000000000000, 0, 0}, TO(TOTALS_BINARY16), 0x0400, 1, 0x78, TOTALS_ABOVE},
+        {B64, 0, 2, {0x3f10000000000000, MINUS + 0x3d70000000000000, 0, 0}, {{TOTALS_BINARY16, TOTALS_OWN_BIAS}, {0, 1, 0, 0, 0, 0, 0, 0}}, 0x0400, 1,
+         0x50, TOTALS_ABOVE},
+        /* 1.75 to two digits is 2 */
+        {B64, 0, 1, {0x3ffc000000000000, 0, 0, 0}, {{TOTALS_BINARY16, TOTALS_OWN_BIAS}, {0, 0, 0, 0, 0, 0, 0, 2}}, 0x4000, 1, 0x50, TOTALS_ABOVE},
+        /* named biases: 1 has the field 25; is 64 times the least number; is too large; is too small. And back from a bias */
+        {B64, 0, 1, {ONE, 0, 0, 0}, TO_BIASED(TOTALS_BINARY16, 25), 0x6400, 1, 0, TOTALS_EQUAL},
+        {B64, 0, 1, {ONE, 0, 0, 0}, TO_BIASED(TOTALS_BINARY16, -3), 0x0040, 1, 0x20, TOTALS_EQUAL},
+        {B64, 0, 1, {ONE, 0, 0, 0}, TO_BIASED(TOTALS_BINARY16, TOTALS_FARTHEST_BIAS), 0x7c00, 1, 0x54, TOTALS_NO_COMPARISON},
+        {B64, 0, 1, {ONE, 0, 0, 0}, TO_BIASED(TOTALS_BINARY16, -TOTALS_FARTHEST_BIAS), 0, 1, 0x38, TOTALS_BELOW},
+        {{TOTALS_BINARY16, TOTALS_BIAS(25)}, 0, 1, {0x6400, 0, 0, 0}, TO(TOTALS_BINARY16), 0x3c00, 1, 0, TOTALS_EQUAL},
+        /* how the list is read; a target's own denormals-are-zero has no effect */
+        {SHORT_LIST, 0, 1, {1, 0, 0, 0}, TO(TOTALS_IEEE COMMA 13 COMMA 20), 0x3fe00, 1, 0x80, TOTALS_EQUAL},
+        {SHORT_LIST, 1, 1, {1, 0, 0, 0}, TO(TOTALS_IEEE COMMA 13 COMMA 20), 0, 0, 0x80, TOTALS_EQUAL},
+        {SHORT_LIST, 0, 1, {1, 0, 0, 0}, {{TOTALS_IEEE, 13, 20, TOTALS_OWN_BIAS}, {0, 0, 0, 0, 0, 1, 0, 0}}, 0x3fe00, 1, 0x80, TOTALS_EQUAL},
+        {B64, 1, 2, {1, ONE, 0, 0}, TO(TOTALS_BINARY16), 0x3c00, 1, 0x80, TOTALS_EQUAL},
+        {FNUZ, 1, 1, {0x81, 0, 0, 0}, TO(TOTALS_IEEE COMMA 4 COMMA 8), 0x80, 0, 0x80, TOTALS_EQUAL},
+        {FNUZ, 1, 1, {0x81, 0, 0, 0}, TO(TOTALS_E4M3_FNUZ), 0, 0, 0x80, TOTALS_EQUAL},
+        /* zeros: none, of one sign, of both, and terms that cancel */
+        {B64, 0, 0, {0, 0, 0, 0}, TO_ROUNDED(TOTALS_BINARY16, TOTALS_TOWARD_NEGATIVE), 0, 0, 0, TOTALS_EQUAL},
+        {B64, 0, 2, {MINUS, MINUS, 0, 0}, TO(TOTALS_BINARY16), 0x8000, 0, 0, TOTALS_EQUAL},
+        {B64, 0, 2, {MINUS, 0, 0, 0}, TO(TOTALS_BINARY16), 0, 0, 0, TOTALS_EQUAL},
+        {B64, 0, 2, {MINUS, 0, 0, 0}, TO_ROUNDED(TOTALS_BINARY16, TOTALS_TOWARD_NEGATIVE), 0x8000, 0, 0, TOTALS_EQUAL},
+        {B64, 0, 3, {ONE, MINUS, MINUS + ONE, 0}, TO(TOTALS_BINARY16), 0, 1, 0, TOTALS_EQUAL},
+        {B64, 0, 3, {ONE, 0, MINUS + ONE, 0}, TO_ROUNDED(TOTALS_BINARY16, TOTALS_TOWARD_NEGATIVE), 0x8000, 1, 0, TOTALS_EQUAL},
+        /* lists of float: 1 and 2^-11 and 2^-40; a subnormal value; in the list's own format */
+        {B32, 0, 3, {0x3f800000, 0x3a000000, 0x2b800000, 0}, TO(TOTALS_BINARY16), 0x3c01, 1, 0x50, TOTALS_ABOVE},
+        {B32, 0, 3, {0x3f800000, 0x3a000000, 0x2b800000, 0}, TO(TOTALS_BINARY32), 0x3f801000, 1, 0x10, TOTALS_BELOW},
+        {B32, 0, 1, {1, 0, 0, 0}, TO(TOTALS_BFLOAT16), 0, 1, 0xb8, TOTALS_BELOW},
+        {B32, 1, 1, {0x80000001, 0, 0, 0}, TO(TOTALS_BFLOAT16), 0x8000, 0, 0x80, TOTALS_EQUAL},
+    };
+    size_t i;
+
+    for (i = 0; i < sizeof rows / sizeof *rows; i++) {
+        if (!into_is(&rows[i])) {
+            fprintf(stderr, "row %u of the sums into targets\n", (unsigned)i);
+        }
+        CHECK(into_is(&rows[i]));
+    }
+}
+
+/* Records of several targets, and what is returned. */
+static int into_records_are(unsigned returned, const totals_record *records, const totals_record *wanted, size_t count)
+{
+    unsigned first = TOTALS_ACCEPTED;
+    size_t i;
+
+    for (i = 0; i < count; i++) {
+        if (!alike(records[i], wanted[i])) {
+            return 0;
+        }
+        first = first == TOTALS_ACCEPTED ? wanted[i].refusal : first;
+    }
+    return returned == first && are_untouched((const uint8_t *)(records + count), 0, sizeof *records);
+}
+
+/* None to seven targets, in groups of three: each has what it has alone, and one that is refused does not touch the others. */
+static void several_targets(void)
+{
+    static const totals_target targets[MOST_TARGETS] = {
+        TO(TOTALS_BINARY16),
+        TO_ROUNDED(TOTALS_BINARY32, TOTALS_TOWARD_POSITIVE),
+        TO(TOTALS_IEEE COMMA 10 COMMA 64), /* 54 digits */
+        TO(TOTALS_E4M3),
+        TO_BIASED(TOTALS_E4M3, TOTALS_FARTHEST_BIAS + 1),
+        {{TOTALS_BINARY16, TOTALS_OWN_BIAS}, {0, 0, 0, 0, 0, 0, 0, 12}},
+        TO(TOTALS_BINARY64),
+    };
+    const totals_format f = B64;
+    const uint64_t list[3] = {ONE, TIE, BESIDE};
+    double doubles[3];
+    totals_record alone[MOST_TARGETS], records[MOST_TARGETS + 1];
+    size_t from, count, i, j, k;
+
+    memcpy(doubles, list, sizeof list);
+    for (i = 0; i < MOST_TARGETS; i++) {
+        totals_sum_into_words(f, list, 3, 0, &targets[i], 1, &alone[i]);
+    }
+    CHECK(has_record(alone[0], 0x3c01, 0x50, 1, TOTALS_ABOVE) && has_record(alone[1], 0x3f801001, 0x50, 1, TOTALS_ABOVE));
+    CHECK(REFUSED(alone[2], TOTALS_TARGET_OUT_OF_REACH, 0) && has_record(alone[3], 0x38, 0x10, 1, TOTALS_BELOW));
+    CHECK(REFUSED(alone[4], TOTALS_NO_SUCH_FORMAT, 0) && REFUSED(alone[5], TOTALS_SETTING_OUT_OF_RANGE, 0));
+    CHECK(has_record(alone[6], 0x3ff0020000000000, 0x10, 1, TOTALS_BELOW));
+    for (from = 0; from <= MOST_TARGETS; from++) {
+        for (count = 0; from + count <= MOST_TARGETS; count++) {
+            unsigned returned;
+            memset(records, UNTOUCHED, sizeof records);
+            returned = totals_sum_into_words(f, list, 3, 0, targets + from, count, records);
+            CHECK(into_records_are(returned, records, alone + from, count));
+            memset(records, UNTOUCHED, sizeof records);
+            returned = totals_sum_into_double(doubles, 3, 0, targets + from, count, records);
+            CHECK(into_records_are(returned, records, alone + from, count));
+        }
+    }
+    /* three of them in every order, and one thrice */
+    for (i = 0; i < MOST_TARGETS; i++) {
+        for (j = 0; j < MOST_TARGETS; j++) {
+            for (k = 0; k < MOST_TARGETS; k++) {
+                const size_t order[3] = {i, j, k};
+                size_t at;
+                CHECK(into(f, 0, &targets[i], &targets[j], &targets[k], list, 3) == TOTALS_ACCEPTED && nothing_behind_slots());
+                for (at = 0; at < 3; at++) {
+                    const totals_record r = alone[order[at]];
+                    CHECK(slot_is(at, r.refusal, r.result, r.flags, r.passes, r.side));
+                }
+            }
+        }
+    }
+}
+
+/* Every refusal of one target, of two and of three; of two that hold the first is given. */
+static void targets_refused(void)
+{
+    static const totals_target good = TO(TOTALS_BINARY16);
+    const totals_format f = {TOTALS_BINARY16, TOTALS_OWN_BIAS};
+    const totals_format no_lists[5] = {{4, 5, 16, 0, 0}, {0, 29, 64, 0, 0}, {0, 5, 65, 0, 0}, {0, 5, 16, 0, 15}, {0, 5, 16, 2, 15}};
+    const uint64_t fine[3] = {0x3c00, 0x3c00, 0x4000}, stray[3] = {0x3c00, 0x7c00, 0x10000};
+    const uint64_t infinite[3] = {0x3c00, 0xfc00, 0x3c00}, nan[3] = {0x7e00, 0x3c00, 0x3c00};
+    totals_target bad[18];
+    unsigned numbers[18];
+    totals_record records[3];
+    size_t i, k, held;
+
+    for (i = 0; i < 18; i++) {
+        bad[i] = good;
+        numbers[i] = i < 9 ? TOTALS_NO_SUCH_FORMAT : i < 17 ? TOTALS_SETTING_OUT_OF_RANGE : TOTALS_TARGET_OUT_OF_REACH;
+    }
+    bad[0].format.kind = 4;
+    bad[1].format.exponent_bits = 1;
+    bad[2].format.exponent_bits = 29;
+    bad[3].format.width = 6;
+    bad[4].format.width = 65;
+    bad[5].format.bias = 15; /* not named */
+    bad[6].format.bias_named = 2;
+    bad[7].format.bias_named = 1;
+    bad[7].format.bias = TOTALS_FARTHEST_BIAS + 1;
+    bad[8].format.bias_named = 1;
+    bad[8].format.bias = INT64_MIN;
+    bad[9].settings.rounding = 8;
+    bad[10].settings.tininess = 2;
+    bad[11].settings.nan_propagation = 4;
+    bad[12].settings.default_nan_negative = 2;
+    bad[13].settings.flush_to_zero = 2;
+    bad[14].settings.denormals_are_zero = 2;
+    bad[15].settings.saturate = 2;
+    bad[16].settings.precision = 12;
+    bad[17].format.width = 17;
+    for (i = 0; i < 18; i++) {
+        for (held = 0; held < 8; held++) {
+            totals_target three[3];
+            unsigned returned;
+            for (k = 0; k < 3; k++) {
+                three[k] = held >> k & 1 ? bad[i] : good;
+            }
+            CHECK(into(f, 0, &three[0], &three[1], &three[2], fine, 3) == TOTALS_ACCEPTED && nothing_behind_slots());
+            returned = totals_sum_into_words(f, fine, 3, 0, three, 3, records);
+            CHECK(returned == (held == 0 ? (unsigned)TOTALS_ACCEPTED : numbers[i]));
+            for (k = 0; k < 3; k++) {
+                if (held >> k & 1) {
+                    CHECK(slot_is_refused(k, numbers[i]) && REFUSED(records[k], numbers[i], 0));
+                } else {
+                    CHECK(slot_is(k, 0, 0x4400, 0, 1, 0) && has_record(records[k], 0x4400, 0, 1, TOTALS_EQUAL));
+                }
+            }
+            /* with a stray bit behind an infinity: 7 in place of 0 and of 17 */
+            CHECK(into(f, 0, &three[0], &three[1], &three[2], stray, 3) == TOTALS_ACCEPTED);
+            totals_sum_into_words(f, stray, 3, 0, three, 3, records);
+            for (k = 0; k < 3; k++) {
+                const unsigned number = held >> k & 1 && i < 17 ? numbers[i] : (unsigned)TOTALS_STRAY_BIT;
+                const uint64_t place = number == TOTALS_STRAY_BIT ? 2 : 0;
+                CHECK(slot_is_refused(k, number + 256 * place) && REFUSED(records[k], number, place));
+            }
+            /* with a value that is not finite: 17 in place of 0 */
+            for (k = 0; k < 6; k++) {
+                const unsigned number = held >> k % 3 & 1 ? numbers[i] : (unsigned)TOTALS_TARGET_OUT_OF_REACH;
+                CHECK(into(f, 0, &three[0], &three[1], &three[2], k < 3 ? nan : infinite, 3) == TOTALS_ACCEPTED);
+                CHECK(slot_is_refused(k % 3, number));
+            }
+            /* the list's denormals-are-zero above 1: 4 in place of all but 3 */
+            CHECK(into(f, 2, &three[0], &three[1], &three[2], stray, 3) == TOTALS_ACCEPTED);
+            totals_sum_into_words(f, stray, 3, UINT64_MAX, three, 3, records);
+            for (k = 0; k < 3; k++) {
+                const unsigned number = held >> k & 1 && i < 9 ? (unsigned)TOTALS_NO_SUCH_FORMAT : (unsigned)TOTALS_SETTING_OUT_OF_RANGE;
+                CHECK(slot_is_refused(k, number) && REFUSED(records[k], number, 0));
+            }
+            /* no format of the list: 3 in place of all */
+            for (k = 0; k < 5; k++) {
+                CHECK(into(no_lists[k], 2, &three[0], &three[1], &three[2], stray, 3) == TOTALS_ACCEPTED);
+                CHECK(slot_is_refused(0, TOTALS_NO_SUCH_FORMAT) && slot_is_refused(1, TOTALS_NO_SUCH_FORMAT));
+                CHECK(slot_is_refused(2, TOTALS_NO_SUCH_FORMAT) && nothing_behind_slots());
+                CHECK(totals_sum_into_words(no_lists[k], stray, 3, 0, three, 3, records) == TOTALS_NO_SUCH_FORMAT);
+                CHECK(REFUSED(records[0], TOTALS_NO_SUCH_FORMAT, 0) && REFUSED(records[2], TOTALS_NO_SUCH_FORMAT, 0));
+            }
+        }
+    }
+}
+
+/* Lengths in bytes: 1 before 2, and both before a target is looked at; nothing is written. */
+static void lengths_of_targets(void)
+{
+    static const size_t lengths[6] = {0, 104, 311, 312, 313, 320}, sizes[6] = {0, 1, 7, 8, 9, 16}, rooms[6] = {0, 24, 95, 96, 97, INTO_ROOM};
+    const uint64_t list[2] = {0x3c00, 0x10000};
+    const totals_target good = TO(TOTALS_BINARY16);
+    size_t i, j, k;
+
+    for (i = 0; i < 3; i++) {
+        lay_out_target(into_targets + 1 + 104 * i, &good);
+    }
+    for (i = 0; i < 6; i++) {
+        for (j = 0; j < 6; j++) {
+            for (k = 0; k < 6; k++) {
+                const uint64_t wanted = lengths[i] != TOTALS_TARGETS_BYTES || sizes[j] % 8 != 0 ? TOTALS_UNEVEN_LENGTH
+                                        : rooms[k] < TOTALS_INTO_ANSWER_BYTES                   ? TOTALS_SHORT_BUFFER
+                                                                                                : TOTALS_ACCEPTED;
+                memset(into_answer, UNTOUCHED, sizeof into_answer);
+                CHECK(totals_sum_into(TOTALS_BINARY16, TOTALS_OWN_BIAS, 0, into_targets + 1, lengths[i], (const uint8_t *)list, sizes[j],
+                                      into_answer + 1, rooms[k])
+                      == wanted);
+                CHECK(nothing_behind_slots());
+                if (wanted != TOTALS_ACCEPTED) {
+                    CHECK(are_untouched(into_answer, 0, sizeof into_answer));
+                } else if (sizes[j] == 16) {
+                    CHECK(slot_is_refused(0, TOTALS_STRAY_BIT + 256) && slot_is_refused(2, TOTALS_STRAY_BIT + 256));
+                } else {
+                    CHECK(slot_is(1, 0, sizes[j] == 0 ? 0 : 0x3c00, 0, sizes[j] / 8, 0));
+                }
+            }
+        }
+    }
+}
+
+/* Lists that are too long, or not there; targets and records that are not there; no memory. */
+static void targets_of_no_list(void)
+{
+    const size_t most = TOTALS_MOST_ELEMENTS;
+    const totals_format f = {TOTALS_BINARY16, TOTALS_OWN_BIAS};
+    totals_target targets[4] = {TO(TOTALS_BINARY16), TO(TOTALS_IEEE COMMA 2 COMMA 64), TO(TOTALS_BINARY16), TO(TOTALS_BINARY16)};
+    const double one = 1;
+    const float half = 0.5f;
+    uint64_t *unread = addresses(most + 2);
+    const double *doubles = (const double *)unread;
+    const float *floats = (const float *)unread;
+    float *singles = (float *)calloc(LONG, sizeof *singles);
+    totals_record records[5];
+    size_t i;
+
+    targets[2].format.kind = 4;
+    targets[3].settings.rounding = 8;
+    /* 3 and 4 of a target come first; 17 is not known */
+#define UNREAD(call, number) \
+    memset(records, UNTOUCHED, sizeof records); \
+    CHECK((call) == (number)); \
+    CHECK(REFUSED(records[0], number, 0) && REFUSED(records[1], number, 0) && REFUSED(records[2], TOTALS_NO_SUCH_FORMAT, 0)); \
+    CHECK(REFUSED(records[3], TOTALS_SETTING_OUT_OF_RANGE, 0) && are_untouched((const uint8_t *)(records + 4), 0, sizeof *records))
+    unread[1] = 0x10000;
+    UNREAD(totals_sum_into_words(f, unread, most + 1, 0, targets, 4, records), (unsigned)TOTALS_TOO_MANY_ELEMENTS);
+    UNREAD(totals_sum_into_double(doubles, most + 1, 0, targets, 4, records), (unsigned)TOTALS_TOO_MANY_ELEMENTS);
+    UNREAD(totals_sum_into_float(floats, most + 1, 1, targets, 4, records), (unsigned)TOTALS_TOO_MANY_ELEMENTS);
+    UNREAD(totals_sum_into_double(&one, SIZE_MAX, 0, targets, 4, records), (unsigned)TOTALS_TOO_MANY_ELEMENTS);
+    UNREAD(totals_sum_into_double(&one, SIZE_MAX / 8 + 2, 0, targets, 4, records), (unsigned)TOTALS_TOO_MANY_ELEMENTS);
+    UNREAD(totals_sum_into_words(f, NULL, most + 1, 0, targets, 4, records), (unsigned)TOTALS_TOO_MANY_ELEMENTS);
+    UNREAD(totals_sum_into_words(f, NULL, 1, 0, targets, 4, records), (unsigned)TOTALS_NO_LIST);
+    UNREAD(totals_sum_into_double(NULL, 2, 0, targets, 4, records), (unsigned)TOTALS_NO_LIST);
+    UNREAD(totals_sum_into_float(NULL, most, 0, targets, 4, records), (unsigned)TOTALS_NO_LIST);
+#undef UNREAD
+    CHECK(totals_sum_into_words(f, NULL, 1, 2, targets, 2, records) == TOTALS_SETTING_OUT_OF_RANGE);
+    CHECK(REFUSED(records[0], TOTALS_SETTING_OUT_OF_RANGE, 0) && REFUSED(records[1], TOTALS_SETTING_OUT_OF_RANGE, 0));
+    /* the entry, too, reads nothing of a list that is too long */
+    CHECK(into(f, 0, &targets[0], &targets[2], &targets[3], unread, most + 1) == TOTALS_ACCEPTED && nothing_behind_slots());
+    CHECK(slot_is_refused(0, TOTALS_TOO_MANY_ELEMENTS) && slot_is_refused(1, TOTALS_NO_SUCH_FORMAT));
+    CHECK(slot_is_refused(2, TOTALS_SETTING_OUT_OF_RANGE));
+
+    /* an empty list needs no pointer, nor do no targets and no records */
+    CHECK(totals_sum_into_double(NULL, 0, 0, targets, 1, records) == TOTALS_ACCEPTED && has_record(records[0], 0, 0, 0, TOTALS_EQUAL));
+    CHECK(totals_sum_into_float(NULL, 0, 0, targets, 1, records) == TOTALS_ACCEPTED && has_record(records[0], 0, 0, 0, TOTALS_EQUAL));
+    CHECK(totals_sum_into_words(f, NULL, 0, 0, targets, 1, records) == TOTALS_ACCEPTED && has_record(records[0], 0, 0, 0, TOTALS_EQUAL));
+    CHECK(totals_sum_into_double(&one, 1, 0, NULL, 0, NULL) == TOTALS_ACCEPTED);
+    CHECK(totals_sum_into_float(&half, 1, 0, NULL, 0, NULL) == TOTALS_ACCEPTED);
+    CHECK(totals_sum_into_double(NULL, 0, 0, NULL, 0, NULL) == TOTALS_ACCEPTED);
+    CHECK(totals_sum_into_double(doubles, most, 0, targets, 2, NULL) == TOTALS_NO_LIST);
+    memset(records, UNTOUCHED, sizeof records);
+    CHECK(totals_sum_into_double(&one, 1, 0, NULL, 4, records) == TOTALS_NO_LIST);
+    for (i = 0; i < 4; i++) {
+        CHECK(REFUSED(records[i], TOTALS_NO_LIST, 0));
+    }
+    CHECK(are_untouched((const uint8_t *)(records + 4), 0, sizeof *records));
+
+    /* floats are copied once for all targets, and given back */
+    singles[LONG - 1] = 1.5f;
+    CHECK(totals_sum_into_float(singles, LONG, 0, targets, 2, records) == TOTALS_TARGET_OUT_OF_REACH && owned == 0);
+    CHECK(has_record(records[0], 0x3e00, 0, 1, TOTALS_EQUAL) && REFUSED(records[1], TOTALS_TARGET_OUT_OF_REACH, 0));
+    has_memory = 0;
+    CHECK(totals_sum_into_float(floats, most, 0, targets, 2, records) == TOTALS_NO_MEMORY && asked == 2147483648 && owned == 0);
+    CHECK(REFUSED(records[0], TOTALS_NO_MEMORY, 0) && REFUSED(records[1], TOTALS_NO_MEMORY, 0));
+    CHECK(totals_sum_into_float(&half, 1, 0, targets, 1, records) == TOTALS_ACCEPTED && has_record(records[0], 0x3800, 0, 1, TOTALS_EQUAL));
+    has_memory = 1;
+    free(singles);
+    munmap(unread, 8 * (most + 2));
+}
+
+/* Words, pence, tables and targets have no kind 4, however many there are. */
 static void x87_elsewhere(void)
 {
     const totals_format formats[2] = {{TOTALS_EXTENDED, TOTALS_OWN_BIAS}, {TOTALS_EXTENDED, TOTALS_BIAS(16383)}};
     const uint64_t list[5] = {1, 2, 3, 4, 5};
+    const totals_format b64 = B64;
     uint64_t rows[1], columns[5];
+    totals_target target = TO(TOTALS_BINARY16);
+    totals_record record;
     size_t i, k;
 
     for (i = 0; i < 2; i++) {
         for (k = 0; k <= 5; k++) {
+            target.format = b64;
+            CHECK(totals_sum_into_words(formats[i], list, k, 0, &target, 1, &record) == TOTALS_NO_SUCH_FORMAT);
+            CHECK(REFUSED(record, TOTALS_NO_SUCH_FORMAT, 0));
+            target.format = formats[i];
+            CHECK(totals_sum_into_words(b64, list, k, 0, &target, 1, &record) == TOTALS_NO_SUCH_FORMAT);
+            CHECK(REFUSED(record, TOTALS_NO_SUCH_FORMAT, 0));
             CHECK(REFUSED(totals_sum_words(formats[i], TOTALS_VALUE, list, k, NULL), TOTALS_NO_SUCH_FORMAT, 0));
             CHECK(REFUSED(totals_dot_words(formats[i], list, k, list, 5, NULL), TOTALS_NO_SUCH_FORMAT, 0));
             CHECK(totals_pence_words(formats[i], list, k).refusal == TOTALS_NO_SUCH_FORMAT);
@@ -2444,20 +2904,23 @@ static void lists_are_only_read(void)
 {
     const double before[2] = {1, 2};
     double list[2] = {1, 2};
+    const totals_target target = TO(TOTALS_BINARY16);
     totals_settings bad = TOTALS_SETTINGS_INIT;
+    totals_record record;
     bad.rounding = 8;
     CHECK(totals_sum_double(list, 2, NULL).result == 3 && totals_sum_double(list, 2, &bad).refusal != TOTALS_ACCEPTED);
     CHECK(totals_pence_double(list, 2).figure == 300);
+    CHECK(totals_sum_into_double(list, 2, 0, &target, 1, &record) == TOTALS_ACCEPTED && record.result == 0x4200);
     CHECK(memcmp(list, before, sizeof list) == 0);
 }
 
 /* Every refusal has words of its own. */
 static void refusals_in_words(void)
 {
-    const unsigned known[16] = {0, 1, 2, 3, 4, 5, 6, 7, TOTALS_NO_PENCE, TOTALS_BAD_SHAPE, TOTALS_NO_ROOM, TOTALS_BAD_AMOUNT, TOTALS_NOT_A_PAGE,
-                                TOTALS_BAD_SPAN, TOTALS_NO_LIST, TOTALS_NO_MEMORY};
+    const unsigned known[17] = {0, 1, 2, 3, 4, 5, 6, 7, TOTALS_NO_PENCE, TOTALS_BAD_SHAPE, TOTALS_NO_ROOM, TOTALS_BAD_AMOUNT, TOTALS_NOT_A_PAGE,
+                                TOTALS_BAD_SPAN, TOTALS_TARGET_OUT_OF_REACH, TOTALS_NO_LIST, TOTALS_NO_MEMORY};
     size_t i, k;
-    for (i = 0; i < 16; i++) {
+    for (i = 0; i < 17; i++) {
         CHECK(strcmp(totals_strerror(known[i]), totals_strerror(100)) != 0);
         for (k = 0; k < i; k++) {
             CHECK(strcmp(totals_strerror(known[i]), totals_strerror(known[k])) != 0);
@@ -2473,7 +2936,7 @@ static void version(void)
 {
     char text[32];
     sprintf(text, "%d.%d.%d", TOTALS_VERSION_MAJOR, TOTALS_VERSION_MINOR, TOTALS_VERSION_PATCH);
-    CHECK(strcmp(text, TOTALS_VERSION) == 0 && TOTALS_VERSION_NUMBER == 700);
+    CHECK(strcmp(text, TOTALS_VERSION) == 0 && TOTALS_VERSION_NUMBER == 800);
 }
 
 int main(void)
@@ -2523,6 +2986,11 @@ int main(void)
     x87_pseudo_denormals();
     x87_refused();
     x87_records_refused();
+    sums_into_targets();
+    several_targets();
+    targets_refused();
+    lengths_of_targets();
+    targets_of_no_list();
     x87_elsewhere();
     lists_are_only_read();
     refusals_in_words();

@@ -11,15 +11,17 @@
  *   totals_table_double  totals_table_float  totals_table_words   the sums of the rows and columns of a table
  *   totals_range_double  totals_range_words   the lower and the upper total of amounts known within a range
  *   totals_page_write_double  totals_page_count  totals_page_sum_double   a career page: written, opened, a span of it summed
+ *   totals_sum_into_double  totals_sum_into_float  totals_sum_into_words   the exact sum, rounded into several formats
  *   totals_page_length                      the bytes that a page takes
  *   totals_strerror                         a refusal in words
  *   totals_sum         totals_dot           the functions of the library, over bytes
  *   totals_sum_biased  totals_dot_biased    the same in a format that names its bias
  *   totals_pence       totals_table   totals_range   and over words
  *   totals_page_sum    totals_page_write    and of a page
+ *   totals_sum_into                         the exact sum in three formats, over bytes
  *
- * The first twenty-five count elements, but of a page its bytes, and answer with a record. They are inline,
- * plain C, and call the last nine, which are proved. docs/LINKING.md has each with its special cases and an example.
+ * The first twenty-eight count elements, but of a page its bytes, and answer with a record, those of several formats with one for
+ * each. They are inline, plain C, and call the last ten, which are proved. docs/LINKING.md has each with its special cases and an example.
  * What is claimed of the library stands in docs/PROMISES.md, the exact meaning of each number below
  * in docs/SPECIFICATION.md. No function keeps a state, and all may be called from several threads.
  */
@@ -33,9 +35,9 @@
 
 /* The version of this header and of the archive that it was written for. */
 #define TOTALS_VERSION_MAJOR 0
-#define TOTALS_VERSION_MINOR 7
+#define TOTALS_VERSION_MINOR 8
 #define TOTALS_VERSION_PATCH 0
-#define TOTALS_VERSION "0.7.0"
+#define TOTALS_VERSION "0.8.0"
 #define TOTALS_VERSION_NUMBER (TOTALS_VERSION_MAJOR * 10000 + TOTALS_VERSION_MINOR * 100 + TOTALS_VERSION_PATCH)
 
 #ifdef __cplusplus
@@ -150,6 +152,17 @@ typedef struct totals_settings {
 
 #define TOTALS_SETTINGS_INIT {TOTALS_DEFAULTS}
 
+/*
+ * A target: a format that a sum is rounded into, of at most the digits of the list's, and its settings. Its denormals-are-zero has no
+ * effect: the list's is an argument of its own. Set it up as a whole, as a format:
+ *
+ *   totals_target half = {{TOTALS_BINARY16, TOTALS_OWN_BIAS}, TOTALS_SETTINGS_INIT};
+ */
+typedef struct totals_target {
+    totals_format format;
+    totals_settings settings;
+} totals_target;
+
 /* Summand: what of each value is summed. */
 enum {
     TOTALS_VALUE = 0,
@@ -193,9 +206,10 @@ enum {
  */
 enum {
     TOTALS_ACCEPTED = 0,
-    TOTALS_UNEVEN_LENGTH = 1,        /* a length that is not a multiple of 8, of TOTALS_X87 of 10; a page may have such a length */
-    TOTALS_SHORT_BUFFER = 2,         /* an answer buffer under 24 bytes, of TOTALS_X87 under 32; range: a pair under two words;
-                                        page: a destination shorter than the page would be */
+    TOTALS_UNEVEN_LENGTH = 1,        /* a length that is not a multiple of 8, of TOTALS_X87 of 10; a page may have such a length;
+                                        targets that are not 312 bytes */
+    TOTALS_SHORT_BUFFER = 2,         /* an answer buffer under 24 bytes, of TOTALS_X87 under 32, of targets under 96; range: a pair
+                                        under two words; page: a destination shorter than the page would be */
     TOTALS_NO_SUCH_FORMAT = 3,       /* kind above 3, exponent bits outside 2..28, width below these + 2 or above 64,
                                         or a named bias outside -268,435,456..268,435,456; TOTALS_X87 as it is said above */
     TOTALS_SETTING_OUT_OF_RANGE = 4, /* a setting or the summand out of its range */
@@ -209,6 +223,7 @@ enum {
                                         not finite or is below zero, even where no entry is missing */
     TOTALS_NOT_A_PAGE = 12,          /* page: the bytes are not the page of the values in them, or have over 268,435,456 of these */
     TOTALS_BAD_SPAN = 13,            /* page: the span starts above its end, or ends above the number of values */
+    TOTALS_TARGET_OUT_OF_REACH = 17, /* target: more digits than the list's format has, or a NaN or an infinity in the list */
     TOTALS_NO_LIST = 254,            /* this and the next from the inline functions alone: NULL for a list that is not empty */
     TOTALS_NO_MEMORY = 255           /* a long list of float, or of the figures of a range, could not be copied */
 };
@@ -220,9 +235,13 @@ enum {
  */
 #define TOTALS_PLACE(code) ((code) / 256)
 
-/* An answer takes 24 bytes, one of TOTALS_X87 32. */
+/* An answer takes 24 bytes, one of TOTALS_X87 32, and one of three targets 96. */
 #define TOTALS_ANSWER_BYTES 24
 #define TOTALS_X87_ANSWER_BYTES 32
+#define TOTALS_INTO_ANSWER_BYTES 96
+
+/* Three targets, thirteen numbers of eight bytes each. */
+#define TOTALS_TARGETS_BYTES 312
 
 /*
  * The sum of the values, of their magnitudes or of their squares.
@@ -419,6 +438,38 @@ uint64_t totals_page_write(const uint64_t *values, size_t count,
                            uint8_t *page, size_t page_len);
 
 /*
+ * The exact sum of the values, rounded once into each of three targets. What a target has is what it has alone: one that is refused does
+ * not touch the others. The result is an encoding of the target's format. The passes and TOTALS_SUBNORMAL_INPUT are those of the list, and
+ * in the list's own format all is as in totals_sum, under the target's settings with this denormals_are_zero. A sum of zero has the sign that
+ * the target's rounding gives it.
+ *
+ *   kind to bias         the list's format, as in totals_pence
+ *   denormals_are_zero   0 or 1: how the list is read. That of a target has no effect
+ *   targets              312 bytes, little end first: of each target the kind, the exponent bits, the width, 1 where it names its bias or
+ *                        else 0, the bias in two's complement, and the eight settings, eight bytes each
+ *   values               eight bytes a value, as in totals_sum
+ *   answer               at least 96 bytes, apart from the targets and from the values
+ *
+ * Lengths count bytes. No pointer may be NULL, not even with length 0.
+ *
+ * Returns 0 and writes 32 bytes for each target: its refusal, plus 256 times a place for TOTALS_STRAY_BIT, in 0..7, and behind it, in 8..31,
+ * what totals_sum writes, or zeros where it is refused. Later bytes stay as they were. A target's refusal is the first of these that holds:
+ *
+ *   TOTALS_NO_SUCH_FORMAT         of the list or of the target; also where a bias is named neither by 1 nor by 0 beside 0
+ *   TOTALS_SETTING_OUT_OF_RANGE   denormals_are_zero, or a setting of the target
+ *   TOTALS_TOO_MANY_ELEMENTS
+ *   TOTALS_STRAY_BIT              of the list
+ *   TOTALS_TARGET_OUT_OF_REACH    without a place
+ *
+ * Or writes nothing and returns TOTALS_UNEVEN_LENGTH, of the targets or of the values, or TOTALS_SHORT_BUFFER, in this order.
+ */
+uint64_t totals_sum_into(uint64_t kind, uint64_t exponent_bits, uint64_t width, uint64_t bias_named, int64_t bias,
+                         uint64_t denormals_are_zero,
+                         const uint8_t *targets, size_t targets_len,
+                         const uint8_t *values, size_t values_len,
+                         uint8_t *answer, size_t answer_len);
+
+/*
  * Records: what the inline functions answer. Where refusal is TOTALS_ACCEPTED, result, flags, passes and side hold the total, or
  * figure its pence, or lower and upper the two that it lies between, or length and count those of a page. Else refusal says why there
  * is none, and every other field is 0 but for the place of a TOTALS_STRAY_BIT. Later versions add fields at the end.
@@ -490,9 +541,10 @@ static inline const char *totals_strerror(uint64_t refusal)
 {
     switch (TOTALS_REFUSAL(refusal)) {
     case TOTALS_ACCEPTED: return "accepted";
-    case TOTALS_UNEVEN_LENGTH: return "the length in bytes is not a multiple of 8, or of 10 for X87";
+    case TOTALS_UNEVEN_LENGTH: return "the length in bytes is not a multiple of 8, or of 10 for X87, or that of the targets is not 312";
     case TOTALS_SHORT_BUFFER:
-        return "the answer buffer has fewer than 24 bytes, or 32 for X87, the pair fewer than two words, or the destination fewer than the page";
+        return "the answer buffer has fewer than 24 bytes, 32 for X87 or 96 for targets, the pair fewer than two words, or the destination "
+               "fewer than the page";
     case TOTALS_NO_SUCH_FORMAT: return "there is no such format, or the bias that it names is out of its range";
     case TOTALS_SETTING_OUT_OF_RANGE: return "a setting or the summand is out of its range";
     case TOTALS_DIFFERENT_LENGTHS: return "the lists differ in length";
@@ -505,7 +557,9 @@ static inline const char *totals_strerror(uint64_t refusal)
         return "a tag is above 2, a figure is not finite, a low is above its high, or the ceiling is not finite or below zero";
     case TOTALS_NOT_A_PAGE: return "the bytes are not the page of the values in them, or have more than 268,435,456 of these";
     case TOTALS_BAD_SPAN: return "the span starts above its end, or ends above the number of values";
-    case TOTALS_NO_LIST: return "the list or the page is NULL, and its length is not 0";
+    case TOTALS_TARGET_OUT_OF_REACH:
+        return "the target has more digits than the list's format, or the list holds a NaN or an infinity";
+    case TOTALS_NO_LIST: return "a list or the page is NULL, and its length is not 0";
     case TOTALS_NO_MEMORY: return "there is no memory for a copy of the list";
     default: return "a refusal that this header does not know";
     }
@@ -884,6 +938,79 @@ static inline totals_range_record totals_take_range_(uint64_t code, const uint64
     return record;
 }
 
+static inline void totals_put_(uint8_t *bytes, uint64_t word)
+{
+    int i;
+    for (i = 0; i < 8; i++) {
+        bytes[i] = (uint8_t)(word >> 8 * i);
+    }
+}
+
+/* The thirteen numbers of a target, one third of what totals_sum_into takes. */
+static inline void totals_put_target_(uint8_t *bytes, const totals_target *target)
+{
+    const totals_format *f = &target->format;
+    const totals_settings *c = &target->settings;
+    const uint64_t numbers[13] = {f->kind, f->exponent_bits, f->width, f->bias_named, (uint64_t)f->bias, c->rounding, c->tininess,
+                                  c->nan_propagation, c->default_nan_negative, c->flush_to_zero, c->denormals_are_zero, c->saturate,
+                                  c->precision};
+    size_t i;
+    for (i = 0; i < 13; i++) {
+        totals_put_(bytes + 8 * i, numbers[i]);
+    }
+}
+
+/* Three targets from `targets`, or where `count` is less its last one again, with values that the entry can read; a code for each. */
+static inline void totals_enter_three_(totals_format f, uint64_t denormals_are_zero, const totals_target *targets, size_t count,
+                                       const uint8_t *values, size_t size, uint64_t *codes, uint8_t *answer)
+{
+    uint8_t numbers[TOTALS_TARGETS_BYTES];
+    uint64_t code;
+    size_t i;
+
+    for (i = 0; i < 3; i++) {
+        totals_put_target_(numbers + i * (TOTALS_TARGETS_BYTES / 3), targets + (i < count ? i : count - 1));
+    }
+    code = totals_sum_into(f.kind, f.exponent_bits, f.width, f.bias_named, f.bias, denormals_are_zero, numbers, TOTALS_TARGETS_BYTES, values,
+                           size, answer, TOTALS_INTO_ANSWER_BYTES);
+    for (i = 0; i < 3; i++) {
+        codes[i] = code == TOTALS_ACCEPTED ? totals_get_(answer + 32 * i) : code;
+    }
+}
+
+/* The refusal of the first target that has one. Without records there is nowhere to say more. */
+static inline unsigned totals_take_into_(totals_format f, uint64_t denormals_are_zero, totals_list_ list, const totals_target *targets,
+                                         size_t target_count, totals_record *records)
+{
+    /* As in totals_take_: a format or a setting is refused first, with an empty list too. Of a list that is not read 17 is not known. */
+    const int is_refused = list.count > TOTALS_MOST_ELEMENTS || totals_is_missing_(list);
+    const uint64_t unread = list.count > TOTALS_MOST_ELEMENTS ? TOTALS_TOO_MANY_ELEMENTS : TOTALS_NO_LIST;
+    const totals_list_ lent = is_refused || records == NULL ? totals_list_of_(NULL, 0, list.size) : list;
+    uint8_t answer[TOTALS_INTO_ANSWER_BYTES], room[8 * TOTALS_ROOM_], *owned = NULL;
+    const uint8_t *values = totals_bytes_(lent, room, &owned);
+    unsigned first = records == NULL && target_count != 0 ? TOTALS_NO_LIST : TOTALS_ACCEPTED;
+    uint64_t codes[3] = {0, 0, 0};
+    size_t i, k;
+
+    for (i = 0; records != NULL && i < target_count; i++) {
+        k = i % 3;
+        if (targets != NULL && values != NULL && k == 0) {
+            totals_enter_three_(f, denormals_are_zero, targets + i, target_count - i, values, 8 * lent.count, codes, answer);
+        }
+        if (targets == NULL) {
+            codes[k] = TOTALS_NO_LIST;
+        } else if (values == NULL) {
+            codes[k] = TOTALS_NO_MEMORY;
+        } else if (is_refused && (codes[k] == TOTALS_ACCEPTED || codes[k] == TOTALS_TARGET_OUT_OF_REACH)) {
+            codes[k] = unread;
+        }
+        records[i] = totals_record_of_(codes[k], answer + 32 * k + 8);
+        first = first == TOTALS_ACCEPTED ? records[i].refusal : first;
+    }
+    TOTALS_FREE(owned);
+    return first;
+}
+
 /* The bytes of a page behind its `count` values; of more than a page can have too, and never more than a size_t holds. */
 static inline size_t totals_behind_values_(size_t count)
 {
@@ -1194,6 +1321,34 @@ static inline totals_page_record totals_page_count(const uint8_t *page, size_t s
         record.count = totals_counted_(page, size);
     }
     return record;
+}
+
+/*
+ * The exact sum of `count` elements, rounded once into each of `target_count` targets, any number of them, as totals_sum_into has it. The
+ * record of each goes to `records`, which has room for as many, apart from the list and the targets; its result is an encoding of the
+ * target's format. Returns TOTALS_ACCEPTED where no target is refused, else the refusal of the first that is; that of each stands in its
+ * record. The list is summed once for each three. One of float is copied once, eight bytes an element: up to 2 GiB.
+ * A pointer may be NULL where its count is 0. Where the list is NULL and is not empty, a record without a refusal of 3 to 6 says
+ * TOTALS_NO_LIST, and where the targets are, every record does; where the records are, that is returned.
+ */
+static inline unsigned totals_sum_into_double(const double *values, size_t count, uint64_t denormals_are_zero, const totals_target *targets,
+                                              size_t target_count, totals_record *records)
+{
+    const totals_format f = {TOTALS_BINARY64, TOTALS_OWN_BIAS};
+    return totals_take_into_(f, denormals_are_zero, totals_list_of_(values, count, sizeof *values), targets, target_count, records);
+}
+
+static inline unsigned totals_sum_into_float(const float *values, size_t count, uint64_t denormals_are_zero, const totals_target *targets,
+                                             size_t target_count, totals_record *records)
+{
+    const totals_format f = {TOTALS_BINARY32, TOTALS_OWN_BIAS};
+    return totals_take_into_(f, denormals_are_zero, totals_list_of_(values, count, sizeof *values), targets, target_count, records);
+}
+
+static inline unsigned totals_sum_into_words(totals_format format, const uint64_t *values, size_t count, uint64_t denormals_are_zero,
+                                             const totals_target *targets, size_t target_count, totals_record *records)
+{
+    return totals_take_into_(format, denormals_are_zero, totals_list_of_(values, count, sizeof *values), targets, target_count, records);
 }
 
 #ifdef __cplusplus

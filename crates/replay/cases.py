@@ -113,7 +113,7 @@ column  0      w
        14      what the entry returns, six digits
        21      the values, 16 digits each, and a space; then the destination after the call, two digits for each byte
 
-At last come the rows of values of ten bytes, their number first. Such a row has 496 bytes, with the format, the settings, the summand and the length of the
+Then come the rows of values of ten bytes, their number first. Such a row has 496 bytes, with the format, the settings, the summand and the length of the
 buffer where a sum's row has them; and else:
 
 column  0      s a sum, d a dot
@@ -126,6 +126,24 @@ column  0      s a sum, d a dot
        77      forty bytes of buffer before the call, two digits each, of which the entry is lent as many as the row says
       158      the same after the call
       239      128 bytes, two digits each: a sum's list from the first on; a dot's left list from the first on, its right one from the 65th on
+
+At last come the rows of one total in several formats, their number first. Such a row has 1,371 bytes:
+
+column  0      i
+        2      kind, E, W of the list, as above
+       10      1 where the list's format names its bias, 0 where it does not, or another digit
+       12      that bias: a sign and 16 digits
+       30      the list's denormals-are-zero
+       32      bytes that are lent of the targets, three digits
+       36      bytes that are lent of the values, two digits
+       39      bytes that are lent of the buffer, two digits
+       42      what the entry returns
+       44      a note of what the row is, 24 bytes
+       69      three targets, thirteen numbers of 16 digits each: kind, E, W, whether it names its bias, the bias (below 0 in two's complement), and the
+               eight settings in the order of a sum's row
+      732      thirteen values, 16 digits each
+      953      104 bytes of buffer before the call, two digits each
+     1162      the same after the call
 """
 
 import os
@@ -1346,6 +1364,9 @@ def texts(made):
     rows = tens()
     stdin += '%04x\n' % len(rows) + ''.join(t.row() for t in rows)
     stdout += dots('values of ten bytes') + ' %d of %d agree\n' % (len(rows), len(rows))
+    rows = several()
+    stdin += '%04x\n' % len(rows) + ''.join(call.row() for call in rows)
+    stdout += dots('one total, several formats') + ' %d of %d agree\n' % (len(rows), len(rows))
     return stdin, stdout
 
 
@@ -1389,11 +1410,13 @@ def write(binary):
         if differs(t.record, answer):
             sys.exit('values of ten bytes, row %d: %s\n  oracle %s, model %x %d %d' % (
                 i, t.line(), answer, t.record.result, t.record.flags, t.record.passes))
+    into, lists = several_asked(binary)
     for file, text in zip(('stdin', 'stdout'), texts(made)):
         with open(os.path.join(HERE, file), 'w') as out:
             out.write(text)
     print(len(accepted), 'accepted rows with the answers of the oracle,', sum(len(cases) for _, cases in made) - len(accepted),
-          'refused ones;', len(totals), 'totals of tables;', len(of_spans), 'of spans of pages;', len(of_tens), 'of values of ten bytes')
+          'refused ones;', len(totals), 'totals of tables;', len(of_spans), 'of spans of pages;', len(of_tens), 'of values of ten bytes;', into,
+          'targets, and the passes of', lists, 'of their lists')
 
 
 def check():
@@ -1418,7 +1441,7 @@ def check():
                         ('tables', lambda row: table_of(row, False).row()), ('tables, a bias named', lambda row: table_of(row, True).row()),
                         ('amounts known within a range', lambda row: range_of(row).row()),
                         *((name, again(read, most)) for name, _, most, read in page_parts()),
-                        ('values of ten bytes', lambda row: tens_of(row).row())):
+                        ('values of ten bytes', lambda row: tens_of(row).row()), ('one total, several formats', lambda row: several_of(row).row())):
         n = int(lines[at], 16)
         for i, row in enumerate(lines[at + 1:at + 1 + n]):
             rows += 1
@@ -1434,9 +1457,14 @@ def check():
     sys.exit(wrong != 0 or not same)
 
 
-def draw_more(binary, seed, count):
+def known_formats(binary):
+    """The oracle's formats: kind, E, W, and the bias of those that name one."""
     known = subprocess.run([binary, 'formats'], capture_output=True, text=True, check=True).stdout.split('\n')
-    known = [k for k in (tuple(map(int, row.split())) for row in known if row) if k[0] < 4]
+    return [k for k in (tuple(map(int, row.split())) for row in known if row) if k[0] < 4]
+
+
+def draw_more(binary, seed, count):
+    known = known_formats(binary)
     draw = Draw(seed)
     cases = [drawn(draw, Format(*draw.choice(known)), (mixed, near_tie, cancelling, staircase, descent)) for _ in range(count)]
     wrong = [(case, answer) for case, answer in zip(cases, asked(binary, cases)) if differs(case, answer)]
@@ -1475,6 +1503,7 @@ def cover():
     cover_ranges(ranges())
     cover_pages(spans() + long_spans(), written_pages() + long_written())
     cover_tens(tens())
+    cover_several(several())
 
 
 def cover_plain(every):
@@ -3350,6 +3379,562 @@ def cover_tens(every):
     fewest('one refusal alone', [t for t in every if len(t.holds) == 1 and t.f[0] == 4], lambda t: tuple(t.holds), range(1, 6))
     fewest('3 for E, for W, for a bias', [t for t in every if t.returned == 3 and t.f[0] == 4],
            lambda t: ((t.f[1] != 15) + 2 * (t.f[2] != 80) + 4 * (t.f[3] is not None),), (1, 2, 4))
+
+
+# ---- one total, several formats
+
+INTO_ROW, INTO_NUMBERS, INTO_LIST, INTO_BUFFER, INTO_NOTE = 1371, 39, 13, 104, 24
+SINGLE, HALFWIDTH, BFLOAT = (0, 8, 32), (0, 5, 16), (0, 8, 16)
+
+
+def five(f):
+    """The five numbers of a format (kind, E, W), of one that names its bias (kind, E, W, bias), or of one that is given by all five."""
+    return {3: lambda: (*f, 0, 0), 4: lambda: (*f[:3], 1, f[3]), 5: lambda: f}[len(f)]()
+
+
+def format_of(numbers):
+    """The format (kind, E, W, bias) of five numbers, and whether it is named as a whole."""
+    bias, whole = named_bias(*numbers[3:])
+    return (*numbers[:3], bias), whole
+
+
+class Aim:
+    """A target beside a list: a format, settings, and what the call answers for it."""
+
+    def __init__(self, numbers, daz, values, target):
+        t, c = target
+        self.numbers, self.c = five(t), {**PLAIN, **c}
+        (f, f_whole), (t, t_whole) = format_of(numbers), format_of(self.numbers)
+        self.holds = target_conditions(f, f_whole, daz, values, t, t_whole, self.c)
+        self.refusal = next((n for n in TARGET_ORDER if n in self.holds), 0)
+        self.place = stray(f[2], values)[0] if self.refusal == 7 else 0
+        self.record = None
+        if not self.refusal:
+            self.f, self.t = Format(*f), Format(*t)
+            self.record = target_record(self.f, daz, values, self.t, self.c)
+
+    def words(self):
+        return [n % 2 ** 64 for n in self.numbers] + [self.c[name] for name in SETTINGS]
+
+    def slot(self):
+        if self.refusal:
+            return (self.refusal + 256 * self.place).to_bytes(32, 'little')
+        r = self.record
+        return bytes(8) + r.result.to_bytes(8, 'little') + bytes([r.flags, 0, r.leans]) + bytes(5) + r.passes.to_bytes(8, 'little')
+
+
+class Several:
+    """A call of the entry with a list and three targets, each a format with settings, and what it answers."""
+
+    def __init__(self, note, f, values, targets, daz=0, size=312, more=0, room=96, first=0xa0):
+        self.note, self.numbers, self.values, self.daz = note, five(f), values, daz
+        self.size, self.more, self.room, self.first = size, more, room, first
+        self.targets = targets
+        self.aims = [Aim(self.numbers, daz, values, target) for target in targets]
+        self.holds = {1} if size != 312 or more else set()
+        if room < 96:
+            self.holds.add(2)
+        self.returned = min(self.holds, default=0)
+
+    def before(self):
+        return bytes((self.first + 7 * i) % 256 for i in range(INTO_BUFFER))
+
+    def after(self):
+        return self.before() if self.returned else b''.join(aim.slot() for aim in self.aims) + self.before()[96:]
+
+    def row(self):
+        kind, e, w, named, bias = self.numbers
+        lent = 8 * len(self.values) + self.more
+        assert len(self.note) <= INTO_NOTE and lent <= 8 * INTO_LIST and len(self.aims) == 3
+        head = 'i %x %02x %02x %x %s %x %03x %02x %02x %x %s' % (
+            kind, e, w, named, signed(bias, 16), self.daz, self.size, lent, self.room, self.returned, self.note.ljust(INTO_NOTE, '.'))
+        # what stands behind the list is no zero, and has bits that are stray in most formats
+        values = self.values + [0x5a5a5a5a5a5a5a5a] * (INTO_LIST - len(self.values))
+        words = [n for aim in self.aims for n in aim.words()] + values
+        text = ' '.join([head] + ['%016x' % n for n in words] + [self.before().hex(), self.after().hex()]) + '\n'
+        assert len(text) == INTO_ROW
+        return text
+
+
+def several_of(row):
+    """The call of a row, with the model's answer."""
+    number = lambda at, digits: int(row[at:at + digits], 16)
+    words = [number(at, 16) for at in range(69, 69 + 17 * (INTO_NUMBERS + INTO_LIST), 17)]
+    targets = []
+    for at in (0, 13, 26):
+        bias = (words[at + 4] + 2 ** 63) % 2 ** 64 - 2 ** 63
+        targets.append(((*words[at:at + 4], bias), dict(zip(SETTINGS, words[at + 5:at + 13]))))
+    n, more = divmod(number(36, 2), 8)
+    f = number(2, 1), number(4, 2), number(7, 2), number(10, 1), number(12, 17)
+    return Several(row[44:68].rstrip('.'), f, words[INTO_NUMBERS:][:n], targets, number(30, 1), number(32, 3), more, number(39, 2), number(953, 2))
+
+
+def in_threes(note, f, values, targets, **more):
+    """A call for each three of the targets; the last ones are filled up with the first."""
+    filled = targets + targets[:-len(targets) % 3]
+    return [Several(note, f, values, filled[i:i + 3], **more) for i in range(0, len(filled), 3)]
+
+
+def into_examples():
+    """The rows of document 02's request and others by hand: list, targets, and of each target refusal, result, flags, passes, side, last edge."""
+    at = lambda n: power(DOUBLE, n)
+    f = DOUBLE.kind, DOUBLE.e, DOUBLE.w
+    zero, down, up = {'rounding': TO_ZERO}, {'rounding': DOWN}, {'rounding': UP}
+    sharp = [at(0), at(-11), at(-70)]
+    rows = [
+        ('1, 2^-11 and 2^-70', f, 0, sharp, [(HALFWIDTH, {}), (SINGLE, {}), (f, {})],
+         [(0, 0x3c01, 0x50, 1, 2, -702), (0, 0x3f801000, 0x10, 1, 1, -702), (0, 0x3ff0020000000000, 0x10, 1, 1, -702)]),
+        ('five digits, toward 0', f, 0, sharp, [(HALFWIDTH, {**up, 'precision': 5}), (HALFWIDTH, zero), (BFLOAT, {})],
+         [(0, 0x3c40, 0x50, 1, 2, -702), (0, 0x3c00, 0x10, 1, 1, -702), (0, 0x3f80, 0x10, 1, 1, -702)]),
+        ('binary16 in binary32', HALFWIDTH, 0, [0x3c00], [(HALFWIDTH, {}), (SINGLE, {}), (HALFWIDTH, {})],
+         [(0, 0x3c00, 0, 1, 0, -702), (17,), (0, 0x3c00, 0, 1, 0, -702)]),
+        ('the largest double', f, 0, [MOST], [(SINGLE, {}), (SINGLE, zero), ((1, 4, 8), {})],
+         [(0, 0x7f800000, 0x54, 1, 3, 321), (0, 0x7f7fffff, 0x14, 1, 1, 321), (0, 0x7f, 0x14, 1, 3, 321)]),
+        ('the largest double', f, 0, [MOST], [((2, 4, 8), {}), ((3, 2, 4), {}), (f, {})],
+         [(0, 0x80, 0x14, 1, 3, 321), (0, 7, 0x14, 1, 1, 321), (0, MOST, 0, 1, 0, 321)]),
+        ('a wider range', (0, 2, 10), 0, [1], [((0, 13, 20), {}), ((0, 13, 20), {'daz': 1}), ((0, 2, 10), {})],
+         [(0, 0x3fe00, 0x80, 1, 0, -709), (0, 0x3fe00, 0x80, 1, 0, -709), (0, 1, 0xa0, 1, 0, -709)]),
+        ('taken as zero', (0, 2, 10), 1, [1], [((0, 13, 20), {}), ((0, 13, 20), {'daz': 1}), ((0, 2, 10), down)],
+         [(0, 0, 0x80, 0, 0, 0)] * 3),
+        ('zero of its sign', (2, 4, 8), 1, [0x81], [((0, 4, 8), {}), ((2, 4, 8), {}), ((3, 4, 8), {})],
+         [(0, 0x80, 0x80, 0, 0, 0), (0, 0, 0x80, 0, 0, 0), (0, 0x80, 0x80, 0, 0, 0)]),
+        ('7 before 17', HALFWIDTH, 0, [0x10000, 0x7c00], [(SINGLE, {}), (HALFWIDTH, {}), (HALFWIDTH, {'rounding': 8})], [(7, 0), (7, 0), (4,)]),
+        ('an infinity', HALFWIDTH, 0, [0x3c00, 0x7c00], [(SINGLE, {}), (HALFWIDTH, {}), (HALFWIDTH, {'precision': 12})], [(17,), (17,), (4,)]),
+        ('beside a tie of binary32', f, 0, [at(0), at(-24), at(-1000)], [(SINGLE, {}), (SINGLE, {'rounding': TIES_TO_ZERO}), (f, {})],
+         [(0, 0x3f800001, 0x50, 2, 2, -1403)] * 2 + [(0, 0x3ff0000010000000, 0x10, 2, 1, -1403)]),
+        ('beside a tie of binary32', f, 0, [at(0), at(-24), MINUS + at(-1000)], [(SINGLE, {}), (SINGLE, {'rounding': TIES_AWAY}), (f, {})],
+         [(0, 0x3f800000, 0x10, 2, 1, -1403)] * 2 + [(0, 0x3ff0000010000000, 0x50, 2, 2, -1403)]),
+        ('C7', f, 0, [at(0), at(-53), at(-1000)], [(SINGLE, {}), (f, {}), (SINGLE, {**up})],
+         [(0, 0x3f800000, 0x10, 2, 1, -1403), (0, 0x3ff0000000000001, 0x50, 2, 2, -1403), (0, 0x3f800001, 0x50, 2, 2, -1403)]),
+        ('zeros of both signs', f, 0, [0, MINUS], [(HALFWIDTH, down), (HALFWIDTH, {}), ((2, 5, 16), down)],
+         [(0, 0x8000, 0, 0, 0, 0), (0, 0, 0, 0, 0, 0), (0, 0, 0, 0, 0, 0)]),
+        ('1 and -1', f, 0, [at(0), MINUS + at(0)], [(HALFWIDTH, down), (SINGLE, {}), ((2, 5, 16), down)],
+         [(0, 0x8000, 0, 1, 0, -702), (0, 0, 0, 1, 0, -702), (0, 0, 0, 1, 0, -702)]),
+        ('no values', f, 0, [], [(HALFWIDTH, down), (SINGLE, {}), (f, up)], [(0, 0, 0, 0, 0, 0)] * 3),
+    ]
+    made = []
+    for note, f, daz, values, targets, answers in rows:
+        call = Several(note, f, values, targets, daz)
+        for aim, answer in zip(call.aims, answers, strict=True):
+            assert aim.refusal == answer[0]
+            if aim.refusal:
+                assert aim.place == (answer[1] if len(answer) > 1 else 0)
+            else:
+                r = aim.record
+                assert (r.result, r.flags, r.passes, r.leans, r.edge) == answer[1:], (note, '%x' % r.result, r.flags, r.passes, r.leans, r.edge)
+        made.append(call)
+    return made
+
+
+# formats of lists, and of targets; each has targets of at most its digits
+INTO_LISTS = ((11, 64), (8, 32), (15, 64), (8, 64), (11, 33), (20, 53), (5, 16))
+INTO_TARGETS = ((5, 16), (8, 16), (4, 8), (5, 8), (3, 16), (8, 19), (11, 13), (15, 24), (2, 4))
+
+
+def aimed(i, f, count=3):
+    """Targets of every kind and of at most the list's digits, another choice for every i."""
+    fits = [pair for pair in INTO_TARGETS + INTO_LISTS if pair[1] - pair[0] <= f.p]
+    return [(((i + j) % 4, *fits[(i // 2 + 5 * j) % len(fits)])) for j in range(count)]
+
+
+def into_orders():
+    """The same three targets in their six orders, and the same list backwards: one slot for each, wherever it stands."""
+    made = []
+    for i, (e, w) in enumerate(INTO_LISTS[:4]):
+        f = Format(i % 4, e, w)
+        targets = [(t, {'rounding': (3 * i + j) % 8}) for j, t in enumerate(aimed(i, f))]
+        # one of the three is refused in two of the lists
+        if i % 2:
+            targets[1] = ((0, 2, 64), {}) if i == 1 else (targets[1][0], {'precision': 65})
+        values = [power(f, 2, i % 2, 1), power(f, -f.p + 2), power(f, -2 * f.p), power(f, 1, 1 - i % 2, (1 << f.fraction) - 1)]
+        slots = set()
+        for order in permutations(range(3)):
+            call = Several('targets in six orders', (f.kind, e, w), values if order < (1, 2, 0) else values[::-1], [targets[j] for j in order])
+            slots |= {(j, aim.slot()) for j, aim in zip(order, call.aims)}
+            made.append(call)
+        assert len(slots) == 3
+    return made
+
+
+def into_ties():
+    """Each rounding, sign and side of a tie of a target: a number of the target's digits and less than half a unit of its last one, half of it beside an
+    even and beside an odd number, and more than half. What decides lies below the list's digits, in every other row below the first window."""
+    made = []
+    for mode, negative, side in product(range(8), range(2), ('below', 'on', 'on odd', 'above')):
+        i = len(made)
+        pair = INTO_LISTS[i % 3] if i % 2 == 0 else (11, 64)
+        f = Format(i // 3 % 4, *pair)
+        e, w = INTO_TARGETS[(i // 2) % 5]
+        t = Format((i + mode) % 4, e, w)
+        top = i % 3 if t.e > 2 else 0
+        odd = side == 'on odd' or side != 'on' and i // 4 % 2
+        m = (1 << t.fraction) + (i * 2654435761 % (1 << t.fraction) & ~1) + odd
+        m -= 2 * (t.kind == NOINF and m == (1 << t.p) - 1)
+        trace = f.number(negative, 1, max(top - (900 if i % 2 else f.p + 9), f.low))
+        values = [f.number(negative, m, top - t.fraction), f.number(negative, 1, top - t.p)]
+        values += {'below': [trace ^ f.sign], 'above': [trace]}.get(side, [trace, trace ^ f.sign])
+        c = {'rounding': mode, 'tininess': i % 2}
+        other = (t.kind + 1) % 4, e, w
+        made.append(Several('ties of a target', (f.kind, *pair), values, [((t.kind, e, w), c), (other, {**c, 'rounding': (mode + 3) % 8}),
+                                                                       ((f.kind, *pair), c)]))
+        r = made[-1].aims[0].record
+        assert (r.side, r.negative) == (side, negative)
+    return made
+
+
+def into_boundaries():
+    """Chains with a boundary of the list's p + 1 digits, below it, on it and above it, into the list's own format and two of fewer digits; and chains of
+    more passes, whose pairs cancel."""
+    made = []
+    for mode, negative, side in product(range(8), range(2), ('below', 'on', 'above')):
+        i = len(made)
+        pair = FAR[i % 11]
+        f = Format(i // 5 % 4, *pair)
+        t = i % 13
+        edge = t - 702
+        # in every other row the middle of two of the targets' numbers, else a number of the target
+        first, second = aimed(i, f, 2)
+        p = Format(*first).p
+        values = [power(f, t, negative)] + [power(f, t - p, negative)] * (i // 2 % 2)
+        near, far = power(f, edge + 3 + 4 * (i % 13), negative), power(f, edge - 67 - i, negative)
+        if side == 'on':
+            values += [far, far ^ f.sign] + [near, near ^ f.sign] * (i // 2 % 2)
+        else:
+            below = f.sign * (side == 'below')
+            values += [near ^ below, far ^ f.sign * (i // 5 % 2)] if i // 3 % 2 else [far ^ below]
+        c = {'rounding': mode, 'tininess': i % 2}
+        made.append(Several('beside a boundary', (f.kind, *pair), values, [(first, c), ((f.kind, *pair), c), (second, {**c, 'rounding': (mode + 1) % 8})]))
+        r = made[-1].aims[1].record
+        assert (r.end, r.passes > 1, r.negative) == (side, True, negative)
+    for i, (e, w) in enumerate(((11, 64), (12, 64), (12, 14), (13, 15), (14, 64), (15, 41), (16, 18), (17, 64), (18, 20), (20, 53))):
+        f = Format(i % 4, e, w)
+        big, least = power(f, f.emax), 1 + f.sign * (i // 2 % 2)
+        targets = [(t, {'rounding': (i + j) % 8}) for j, t in enumerate(aimed(i, f, 2))] + [((f.kind, e, w), {'rounding': i % 8})]
+        made.append(Several('long chains', (f.kind, e, w), [least, big, power(f, 0), big ^ f.sign] if i % 3 else [big, least], targets))
+    return made
+
+
+def into_ways():
+    """Sums that a rounding to the list's format, or to binary64, makes a tie of a target, or takes from one: the same rounding twice has another result."""
+    made = []
+    for i, (kind, pair, mode, negative) in enumerate(product(range(4), ((11, 64), (8, 64)), (EVEN, TIES_AWAY, TIES_TO_ZERO), range(2))):
+        if i % 4 == 2:
+            continue
+        f = Format(kind, *pair)
+        # half a unit of the target, and a trace below half a unit of the list's format: more where the tie goes down, less where it goes up
+        targets = [((i + j) % 4, *INTO_TARGETS[(i + 2 * j) % 4]) for j in range(3)]
+        t = Format(*targets[0])
+        odd = i // 2 % 2
+        more = mode == TIES_TO_ZERO or mode == EVEN and not odd
+        m = (1 << t.fraction) + odd
+        values = [f.number(negative, m, -t.fraction), f.number(negative, 1, -t.p), f.number(negative if more else 1 - negative, 1, max(-f.p - 9 - i, f.low))]
+        made.append(Several('by way of the list', (kind, *pair), values, [(targets[0], {'rounding': mode}), (targets[1], {'rounding': (mode + 1) % 3}),
+                                                                         (targets[2], {'rounding': mode})]))
+        assert twice_rounded(made[-1].aims[0], made[-1]) != made[-1].aims[0].record.result
+    return made
+
+
+def exact_total(aim, call):
+    """The sum of an accepted list, a whole number times a power of two, and that power; None where it is 0."""
+    terms, _ = sum_terms(VALUE, operands(aim.f, {'daz': call.daz}, call.values)[0])
+    low = min((x for _, _, x in terms), default=0)
+    total = sum((-m if negative else m) << (x - low) for negative, m, x in terms)
+    return (total, low) if total else None
+
+
+def twice_rounded(aim, call):
+    """The result in the target of a sum that is first rounded to the list's format, in the same mode; None where that is no number."""
+    found = exact_total(aim, call)
+    if found is None:
+        return aim.record.result
+    total, low = found
+    first, _, _ = round_once(aim.f, {**PLAIN, 'rounding': aim.c['rounding']}, int(total < 0), abs(total), low)
+    v = aim.f.decode(first)
+    return round_once(aim.t, aim.c, v[1], v[2], v[3])[0] if v[0] == 'number' else None
+
+
+def into_overflows():
+    """In every kind, rounding, sign and saturation of a target: far beyond its largest number, and half a unit of its last place beyond it, less or more."""
+    made = []
+    for negative, far in product(range(2), range(2)):
+        every = [((kind, *((5, 16), (4, 8), (5, 8))[(mode + kind) % 3]), {'rounding': mode, 'saturate': saturate, 'precision': 3 * (mode % 4 == 3)})
+                 for mode, saturate, kind in product(range(8), range(2), range(4))]
+        if far:
+            values = [power(DOUBLE, 900, negative, 5), power(DOUBLE, 3, 1 - negative)]
+            made += in_threes('overflow', (0, 11, 64), values, every[negative::2])
+        else:
+            for j, (format_, c) in enumerate(every[negative::7]):
+                t = Format(*format_)
+                big, unit = t.largest(negative, t.p), t.emax - t.p + 1
+                _, sign, m, x = t.decode(big)
+                f = Format(j % 4, 11, 64)
+                half, bit = f.number(negative, 1, unit - 1), f.number(negative, 1, -900)
+                values = [f.number(sign, m, x), half] + [[], [bit], [bit ^ f.sign]][j % 3]
+                others = [(format_, {**c, 'rounding': (c['rounding'] + k) % 8, 'precision': 0, 'saturate': (j + k) % 2}) for k in range(3)]
+                made.append(Several('largest and half', (f.kind, 11, 64), values, others))
+    return made
+
+
+def into_tiny():
+    """Each rounding, tininess and flush of a target: just below its least normal number, an exact subnormal number, beside half of its least one, and far
+    below that."""
+    made = []
+    for i in range(6):
+        negative, i = i % 2, i % 4
+        t = (2 * i + negative) % 4, *((5, 16), (4, 8), (8, 16), (5, 8))[i]
+        g = Format(*t)
+        f = Format((i + negative) % 4, 11, 64)
+        number = lambda m, x, turn=0: f.number(negative ^ turn, m, x)
+        values = [[number(1, g.emin), number(1, g.emin - g.p - 1, 1)], [number(3, g.low)], [number(1, g.low - 1), number(1, g.low - 60, i % 2)],
+                  [number(1, g.low - 300), number(5, g.low - 800)]][i]
+        every = [(t, {'rounding': mode, 'tininess': tininess, 'flush': flush, 'precision': (0, 2)[mode == 6 and flush == 0]})
+                 for mode, tininess, flush in product(range(8), range(2), range(2)) if (mode + tininess + flush) % 2 == (i > 1)]
+        made += in_threes('tiny', (f.kind, 11, 64), values, every)
+    return made
+
+
+def into_precisions():
+    """Every precision of binary16 and of a target of 16 digits: a tie at q digits, or a trace beside it."""
+    made = []
+    for p, t in ((11, HALFWIDTH), (16, (1, 8, 24)), (8, (2, 8, 16))):
+        for q in range(1, p + 1, 3):
+            # the three digits from q on, each of which makes its tie of the list
+            values = [power(DOUBLE, 0, q % 2)] + [power(DOUBLE, -q, q % 2)] + [[], [power(DOUBLE, -800)], [power(DOUBLE, -90, 1)]][q % 3]
+            made.append(Several('precision', (0, 11, 64), values, [(t, {'rounding': (q + p) % 8, 'precision': min(q + k, p)}) for k in range(3)]))
+    return made
+
+
+def into_zeros():
+    """Zeros of either sign and of both, terms that cancel, subnormal values taken as zeros and as they are, under targets of every kind and rounding."""
+    made = []
+    for i, kind in enumerate((0, 1, 2, 3)):
+        f = Format(kind, *INTO_LISTS[i])
+        minus = 0 if kind == FNUZ else f.sign
+        one, least = power(f, 0), 1
+        lists = [[0, minus], [minus, minus], [one, minus, one ^ f.sign], [least ^ f.sign], [least ^ f.sign, 0, f.quiet],
+                 [power(f, 5), one, power(f, 5) ^ f.sign]]
+        for j, values in enumerate(lists):
+            k = i + j
+            targets = [(((k + n) % 4, *t[1:]), {'rounding': (DOWN, EVEN, k % 8)[n], 'daz': (k + n) % 2}) for n, t in enumerate(aimed(k, f))]
+            made.append(Several('zeros and cancelling', (kind, f.e, f.w), values, targets, daz=j % 2))
+    return made
+
+
+def into_ranges(draw):
+    """A list of each kind into targets of each, whose exponents reach farther or less far, above, below or both: E from 2 to 28, and named biases."""
+    made = []
+    far = (-2 ** 28, 2 ** 28, -2 ** 28 + 1, 2 ** 28 - 1, 2000, -2000, 40, -40, 0)
+    for i in range(48):
+        e = (11, 28, 5, 2, 20, 8, 15)[i % 7]
+        w = draw.choice([n for n in widths(e) if n - e >= 3])
+        f = (i % 4, e, w) if i % 3 else (i % 4, *((11, 64), (5, 16), (28, 64), (4, 8))[i // 3 % 4], far[i // 3 % 9])
+        g = Format(*f)
+        near = draw.choice([g.bias, draw.below(g.ones), 1])
+        spread = 60 if len(f) == 4 or e > 15 else 700
+        field = lambda: min(max(near + draw.between(-spread, spread), 0), g.ones - 1)
+        values = [g.normal(draw.bits(1), field(), draw.choice([0, 1, draw.bits(g.fraction)])) for _ in range(draw.between(1, 4))]
+        values = [v for v in values if g.decode(v)[0] in ('number', 'zero')]
+        targets = []
+        for j in range(3):
+            wide = 2 + (2 * i + j) % 27
+            digits = draw.between(2, g.p)
+            t = (i // 4 + j) % 4, wide, min(wide + digits, 64)
+            if (i + j) % 3 == 0:
+                t = (t[0], *draw.choice([pair for pair in ((5, 16), (4, 8), (11, 64), (28, 30), (2, 4), (8, 32)) if pair[1] - pair[0] <= g.p] or [(2, 4)]),
+                     g.bias - 5 if len(f) == 4 and j else far[(i + j) // 3 % 9])
+            if t[2] - t[1] > g.p:
+                t = (t[0], t[1], t[1] + 2)
+            targets.append((t, settings(draw, Format(*t))))
+        made.append(Several('other ranges', f, values, targets, daz=draw.below(2)))
+    return made
+
+
+BAD_FORMATS = ((4, 15, 80), (5, 5, 16), (15, 11, 64), (0, 1, 16), (0, 29, 64), (0, 5, 6), (0, 11, 65), (0, 5, 16, 2 ** 28 + 1), (2, 4, 8, -2 ** 28 - 1),
+               (0, 5, 16, 2 ** 63 - 1), (0, 5, 16, 0, 15), (0, 5, 16, 2, 0), (0, 5, 16, 15, 15), (0, 5, 16, 0, -1))
+# what the numbers of a target may be beside these
+FARTHER = ((2 ** 32, 5, 16), (0, 2 ** 32 + 5, 16), (0, 5, 2 ** 32 + 16), (0, 5, 16, 2 ** 32 + 1, 15), (0, 5, 16, 1, -2 ** 63), (2 ** 64 - 1, 5, 16))
+NOT_FINITE = (0x7c00, 0xfc00, 0x7e00, 0x7c01)
+
+
+def into_refusals():
+    """Each refusal for one, two and three of the targets, each two of them at once, and the lower number for each; 1 and 2 before all else."""
+    made = []
+    good = [(HALFWIDTH, {}), ((1, 4, 8), {'rounding': UP}), ((2, 5, 8), {'rounding': DOWN})]
+    values = [0x3c00, 0x1000, 0x8001]
+    put = lambda places, bad: [bad if j in places else target for j, target in enumerate(good)]
+    for i, bad in enumerate(BAD_FORMATS):
+        # the list's: for all three; a target's: for itself
+        made.append(Several("3, the list's format", bad, [0x3c00, 0x10000] if i % 2 else [1], put([i % 3], (HALFWIDTH, {'rounding': 8})), daz=2 * (i % 3 == 0)))
+        made.append(Several("3, a target's format", HALFWIDTH, values, put([i % 3], (bad, {'precision': 65 * (i % 2)}))))
+    for i, bad in enumerate(FARTHER):
+        made.append(Several("3, a target's format", HALFWIDTH, values, put([i % 3, (i + 1) % 3], (bad, {}))))
+    made.append(Several('3, all three', HALFWIDTH, [0x10000], [(bad, {}) for bad in BAD_FORMATS[:3]]))
+    for i, (name, most) in enumerate(zip(SETTINGS, RANGES + (12,))):
+        made.append(Several('4, a setting', HALFWIDTH, values, put([i % 3], (HALFWIDTH, {name: most}))))
+        far = HALFWIDTH, {name: (2 ** 32, 2 ** 64 - 1)[i % 2]}
+        made.append(Several('4, a setting', HALFWIDTH, [0x10000, 0x7c00][i % 2:], put([i % 3, (i + 1) % 3], far)))
+    for q, t in ((5, (1, 4, 8)), (9, BFLOAT), (25, SINGLE), (54, (0, 11, 64)), (11, HALFWIDTH), (4, (1, 4, 8))):
+        made.append(Several('4, precision', (0, 11, 64), [power(DOUBLE, 0), power(DOUBLE, -8)], put([q % 3], (t, {'precision': q}))))
+    for daz, some in ((2, values), (2, [0x10000]), (3, [0x7c00]), (15, values)):
+        made.append(Several("4, the list's", HALFWIDTH, some, put([daz % 3], ((0, 5, 6), {})), daz=daz))
+    for i, place in enumerate((0, 1, 4, 11)):
+        some = [0x3c00] * 12
+        some[place] = 0x10000 << 3 * i
+        made.append(Several('7', HALFWIDTH, some, good))
+        made.append(Several('7', HALFWIDTH, some[:place + 1] + [2 ** 63, 0x7c00, 2 ** 16][:11 - place], put([i % 3], (SINGLE, {}))))
+        made.append(Several('7 beside 3 and 4', HALFWIDTH, some, put([i % 3], (HALFWIDTH, {'daz': 2}))[:2] + [((0, 1, 16), {})]))
+    for i, b in enumerate(NOT_FINITE):
+        made.append(Several('17, not finite', HALFWIDTH, [0x3c00] * i + [b], good))
+        made.append(Several('17, not finite', HALFWIDTH, [b, 0x3c00, 0x8001], put([i % 3], (HALFWIDTH, {'flush': 2}))))
+    for f, b in (((1, 4, 8), 0x7f), ((1, 4, 8), 0xff), ((2, 4, 8), 0x80), ((0, 11, 64), INFINITE), ((0, 11, 64), NOT_A_NUMBER)):
+        made.append(Several('17, not finite', f, [1, b], [(f, {}), ((3, 2, 4), {}), ((0, 11, 64), {})]))
+    for i, numbers in enumerate(combinations((3, 4, 7, 17), 2)):
+        spoiled_list = [0x3c00] + [0x10000] * (7 in numbers) + [0x7c00] * (17 in numbers)
+        bad = ((0, 1, 16) if 3 in numbers else HALFWIDTH), {'saturate': 2 * (4 in numbers)}
+        made.append(Several('two at once', HALFWIDTH, spoiled_list, put([i % 3], bad)))
+    # as many digits, one more, and the precision does not count
+    for i, (f, t) in enumerate(((HALFWIDTH, (0, 4, 15)), (HALFWIDTH, (0, 4, 16)), (HALFWIDTH, (3, 28, 39)), (HALFWIDTH, (3, 28, 40)), (SINGLE, (1, 2, 26)),
+                               (SINGLE, (1, 2, 27)), ((0, 11, 64), (0, 8, 61)), ((0, 11, 64), (0, 8, 62)), ((3, 2, 4), (0, 28, 30)), ((3, 2, 4), (0, 28, 31)))):
+        g = Format(*f)
+        made.append(Several('17, digits', f, [power(g, 0), 1], [(t, {}), (f, {}), (t, {'precision': 1 + i % 2})]))
+    for size in (0, 104, 208, 304, 311, 313, 320):
+        made.append(Several('1, the targets', HALFWIDTH, values, good, size=size, room=(96, 95)[size % 3 == 0], first=size % 256))
+    for more in (1, 3, 4, 7):
+        made.append(Several('1, the values', (HALFWIDTH, (0, 1, 16))[more % 2], values, good, more=more, room=(96, 0)[more % 3 == 0]))
+    for room in (0, 24, 32, 64, 95, 97, 103, 104):
+        made.append(Several('room', HALFWIDTH, values, put([room % 3], (SINGLE, {})), room=room, first=3 * room))
+    made += [Several('2 before 3', (0, 1, 16), values, good, room=95), Several('2 before 4', HALFWIDTH, values, good, daz=2, room=95),
+             Several('2 before 7 and 17', HALFWIDTH, [0x10000], put([0, 1, 2], (SINGLE, {})), room=95)]
+    return made
+
+
+def into_drawn(draw):
+    """Lists drawn, of every kind, into the format itself and two others; and lists of 2, 3 and 4 passes."""
+    made = []
+    for i in range(30):
+        case = drawn_sum(draw, i) if i % 5 else drawn_passes(draw, 2 + i // 5 % 3)
+        f = case.format()
+        targets = [((f.kind, f.e, f.w), case.c)] + [(t, settings(draw, Format(*t))) for t in aimed(draw.below(60), f, 2)]
+        made.append(Several('drawn', (f.kind, f.e, f.w), case.left, draw.shuffled(targets), case.c['daz'], room=draw.between(96, 104), first=draw.bits(8)))
+    return made
+
+
+def drawn_sum(draw, i):
+    """A plain sum of finite values."""
+    while True:
+        f = Format(i % 4, *INTO_LISTS[i % 7])
+        case = drawn(draw, f, (near_tie, cancelling, staircase, mixed))
+        if case.right is None and case.summand == VALUE and is_finite_in(f, case.left):
+            return case
+
+
+def drawn_passes(draw, passes):
+    """A plain sum of so many passes: steps that the window does not reach, and pairs that cancel."""
+    while True:
+        f = Format(draw.below(4), *draw.choice(((11, 64), (12, 64), (15, 64), (12, 14))))
+        case = drawn(draw, f, (staircase, cancelling))
+        if case.right is None and case.passes == passes and is_finite_in(f, case.left):
+            return case
+
+
+def several():
+    draw = Draw(14)
+    return (into_examples() + into_orders() + into_ties() + into_boundaries() + into_ways() + into_overflows() + into_tiny() + into_precisions()
+            + into_zeros() + into_ranges(draw) + into_refusals() + into_drawn(draw))
+
+
+def as_products(t, q, total, low):
+    """A sum as a dot product of normal numbers of the format t, whose exact value is rounded alike to q digits: pieces of its digits, each times a power of
+    two. Digits that no product reaches become one, right below those that are; None where that one could decide, or where the sum is beyond all products."""
+    m, most = abs(total), t.ones - 1 - t.bias
+    if low < 2 * t.emin:
+        kept = m >> 2 * t.emin - low
+        m, low = kept | (kept << 2 * t.emin - low != m), 2 * t.emin
+        top = low + m.bit_length() - 1
+        if max(t.emin, top) - q <= low or top - q <= low and m > 1:
+            return None
+    if low + m.bit_length() - 1 > 2 * most:
+        return None
+    left, right = [], []
+    while m:
+        size = min(t.p, m.bit_length())
+        rest = m.bit_length() - size
+        piece, at = m >> rest, low + m.bit_length() - 1
+        a = min(max(at // 2, t.emin), most)
+        left.append(t.normal(int(total < 0), a + t.bias, (piece << t.p - size) - (1 << t.fraction)))
+        right.append(power(t, at - a))
+        m -= piece << rest
+    return left, right
+
+
+def several_asked(binary):
+    """Holds the accepted targets to the oracle: result and flags, but 128, to a dot product in the target's format that has the same exact sum, and the
+    passes to the plain sum of the list. How many targets and lists there are of which it knows the format and can be asked."""
+    known = set(known_formats(binary))
+    named = lambda numbers: numbers[:3] + numbers[4:] * numbers[3]
+    dots, sums = [], []
+    for call in several():
+        accepted = [aim for aim in call.aims if aim.record and not call.returned]
+        if accepted and named(call.numbers) in known:
+            sums.append((call, accepted[0].record, Case(accepted[0].f, {'daz': call.daz}, call.values)))
+        for aim in accepted:
+            found = exact_total(aim, call)
+            pairs = found and as_products(aim.t, aim.c['precision'] or aim.t.p, *found)
+            if pairs and named(aim.numbers) in known:
+                dots.append((call, aim.record, Case(aim.t, {**aim.c, 'daz': 0}, *pairs)))
+    for asked_of, mine in ((dots, lambda r: ('%x' % r.result, r.flags % 128)), (sums, lambda r: (r.passes,))):
+        for (call, r, case), answer in zip(asked_of, asked(binary, [case for _, _, case in asked_of])):
+            result, flags, passes = answer.split()
+            if mine(r) != ((result, int(flags) % 128) if asked_of is dots else (int(passes),)):
+                sys.exit('%s: %s\n  oracle %s, model %x %d %d' % (call.note, case.line(), answer, r.result, r.flags, r.passes))
+    return len(dots), len(sums)
+
+
+def cover_several(every):
+    entered = [call for call in every if not call.returned]
+    aims = [(call, aim) for call in entered for aim in call.aims]
+    accepted = [(call, aim) for call, aim in aims if not aim.refusal]
+    print('%5d  calls for several formats, %d of them entered; %d targets, %d of them accepted' % (len(every), len(entered), len(aims), len(accepted)))
+    where = lambda holds: [(call, aim) for call, aim in accepted if holds(call, aim, aim.record)]
+    of = lambda key: lambda pair: key(pair[0], pair[1], pair[1].record)
+    fewest('kind of the list, kind of the target', accepted, of(lambda call, aim, r: (aim.f.kind, aim.t.kind)), range(4), range(4))
+    fewest('kind of the target, rounding', accepted, of(lambda call, aim, r: (aim.t.kind, aim.c['rounding'])), range(4), range(8))
+    fewest('E of the target', accepted, of(lambda call, aim, r: (aim.t.e,)), range(2, 29))
+    reach = lambda aim: (aim.t.emax > aim.f.emax, aim.t.low < aim.f.low)
+    fewest('target reaches farther than the list or not, above, below', accepted, of(lambda call, aim, r: reach(aim)), (False, True), (False, True))
+    fewest('digits: as many, fewer', accepted, of(lambda call, aim, r: (aim.t.p < aim.f.p,)), (False, True))
+    fewest('rounding, sign, side of a tie (below, on even, on odd, above)', accepted,
+           of(lambda call, aim, r: (aim.c['rounding'], r.negative, r.side)), range(8), range(2), ('below', 'on', 'on odd', 'above'))
+    fewest('rounding, sign, side of a boundary (below, on, above)', accepted,
+           of(lambda call, aim, r: (aim.c['rounding'], r.negative, r.end)), range(8), range(2), ('below', 'on', 'above'))
+    fewest('overflow by kind, rounding, saturation', where(lambda call, aim, r: r.flags & OVERFLOW),
+           of(lambda call, aim, r: (aim.t.kind, aim.c['rounding'], aim.c['saturate'])), range(4), range(8), range(2))
+    fewest('tiny by rounding, tininess, flush', where(lambda call, aim, r: r.flags & TINY),
+           of(lambda call, aim, r: (aim.c['rounding'], aim.c['tininess'], aim.c['flush'])), range(8), range(2), range(2))
+    fewest('precision below p, by rounding', where(lambda call, aim, r: 0 < aim.c['precision'] < aim.t.p),
+           of(lambda call, aim, r: (aim.c['rounding'],)), range(8))
+    fewest('side', accepted, of(lambda call, aim, r: (r.leans,)), range(4))
+    fewest('passes, 0 to 4', accepted, of(lambda call, aim, r: (r.passes,)), range(5))
+    print('%5d  passes of the longest chain' % max(aim.record.passes for _, aim in accepted))
+    subnormal = where(lambda call, aim, r: r.flags & SUBNORMAL)
+    fewest("a subnormal value by the list's denormals-are-zero and the target's", subnormal, of(lambda call, aim, r: (call.daz, aim.c['daz'])),
+           range(2), range(2))
+    fewest('no term, or a sum of 0, by kind of the target, toward negative or not', where(lambda call, aim, r: r.end in ('', 'zero')),
+           of(lambda call, aim, r: (aim.t.kind, aim.c['rounding'] == DOWN)), range(4), (False, True))
+    fewest('another result by way of the list, by kind of the list', where(lambda call, aim, r: twice_rounded(aim, call) != r.result),
+           of(lambda call, aim, r: (aim.f.kind,)), range(4))
+    fewest('own format, by kind', where(lambda call, aim, r: aim.numbers == call.numbers), of(lambda call, aim, r: (aim.t.kind,)), range(4))
+    named = lambda numbers: numbers[3] == 1
+    fewest('a bias named by the list, by the target, by both', accepted, of(lambda call, aim, r: (named(call.numbers) + 2 * named(aim.numbers),)), range(1, 4))
+    both = [(numbers[4], k) for call, aim in accepted for k, numbers in enumerate((call.numbers, aim.numbers))]
+    fewest('2^28 or one less, and their negatives, of the list and of the target', both, lambda pair: pair,
+           (2 ** 28, 2 ** 28 - 1, -2 ** 28, 1 - 2 ** 28), range(2))
+    refused = [(call, aim) for call, aim in aims if aim.refusal]
+    fewest('one refusal alone', [aim for _, aim in refused if len(aim.holds) == 1], lambda aim: tuple(aim.holds), (3, 4, 7, 17))
+    fewest('two refusals at once, by pair', [aim for _, aim in refused if len(aim.holds) == 2], lambda aim: (tuple(sorted(aim.holds)),),
+           combinations((3, 4, 7, 17), 2))
+    fewest('one, two, three targets refused', entered, lambda call: (sum(aim.refusal > 0 for aim in call.aims),), range(1, 4))
+    fewest('1, 2 and both', every, lambda call: (tuple(sorted(call.holds)),), ((1,), (2,), (1, 2)))
 
 
 def main():

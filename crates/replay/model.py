@@ -1,5 +1,5 @@
 """What document 01 says of a total, and document 02 of which way its result leans, of a named bias, of a list's pence, of a table, of amounts known
-within a range, of career pages, of the most elements of a list and of values of ten bytes, in whole numbers of any length.
+within a range, of career pages, of the most elements of a list, of values of ten bytes and of one total in several formats, in whole numbers of any length.
 
 Written from the text of document 01, and from the Rust's where document 01
 names a function of it (the choice among NaNs, overflow, the largest number).
@@ -8,7 +8,9 @@ once. The chain of passes is walked beside that, for the passes and the last
 edge alone; the result does not depend on the walk. A range's totals are found
 among the doubles by their size, with fractions and no rounding at all. A
 page's summaries are those of Python's floats, as fractions; a page is read
-field by field, and held to the page that is written of its values.
+field by field, and held to the page that is written of its values. A target's
+result is the list's exact sum rounded in the target's format, and by way of no
+other.
 """
 
 import math
@@ -675,3 +677,50 @@ def page_written(values, room):
     if len(page) > room:
         return 2, b''
     return (6, b'') if len(values) > LIMIT else (256 * len(page), page)
+
+
+# ---- one total, several formats
+
+# the numbers of a target's refusals, in the order in which they are given
+TARGET_ORDER = (3, 4, 6, 7, 17)
+
+
+def named_bias(named, bias):
+    """The bias of a format that is given by five numbers, None for its kind's own; and whether it is named as a whole."""
+    return (bias, True) if named == 1 else (None, named == 0 and bias == 0)
+
+
+def target_conditions(f, f_whole, daz, values, t, t_whole, c):
+    """The numbers whose conditions hold for one target, by the formats (kind, E, W, bias) of the list and of the target, and whether each is named as a
+    whole. Of an invalid format the numbers that ask for its digits or its values are left out."""
+    listed, aimed = f_whole and valid_format(*f), t_whole and valid_format(*t)
+    holds = set() if listed and aimed else {3}
+    if daz > 1 or any(c[name] >= most for name, most in zip(SETTINGS, RANGES)) or aimed and c['precision'] > t[2] - t[1]:
+        holds.add(4)
+    if len(values) > LIMIT:
+        holds.add(6)
+    if listed and stray(f[2], values):
+        holds.add(7)
+    if listed and aimed and t[2] - t[1] > f[2] - f[1]:
+        holds.add(17)
+    if listed and any(Format(*f).decode(v % (1 << f[2]))[0] in ('nan', 'infinity') for v in values):
+        holds.add(17)
+    return holds
+
+
+def target_record(f, daz, values, t, c):
+    """The exact sum of the list, rounded once into the format t. Passes and last edge are those of the list's chain, and so is flag 128."""
+    vs, flags = operands(f, {'daz': daz}, values)
+    down = int(c['rounding'] == DOWN)
+    zeros = {v[1] for v in vs if v[0] == 'zero'}
+    terms, top = sum_terms(VALUE, vs)
+    if not terms:
+        return without_terms(t, t.zero(down if len(zeros) == 2 else 1 in zeros), flags)
+    passes, edge, end = chain(f.p, terms, top)
+    low = min(x for _, _, x in terms)
+    total = sum((-m if negative else m) << (x - low) for negative, m, x in terms)
+    if total == 0:
+        return Record(t.zero(down), flags, passes, edge, leaning(t, t.zero(down), total, low), end)
+    negative = int(total < 0)
+    result, more, side = round_once(t, c, negative, abs(total), low)
+    return Record(result, flags + more, passes, edge, leaning(t, result, total, low), end, side, negative)

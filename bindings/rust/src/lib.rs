@@ -3,7 +3,10 @@
 
 extern crate alloc;
 
+use alloc::vec::Vec;
+
 mod format;
+mod into;
 mod page;
 mod range;
 pub mod raw;
@@ -16,6 +19,7 @@ mod value;
 mod x87;
 
 pub use format::{Format, Kind};
+pub use into::Target;
 pub use page::Page;
 pub use range::{range, Amount};
 pub use record::{Flags, Record, Side};
@@ -202,4 +206,52 @@ pub fn table<T: Float + Word>(
     columns: usize,
 ) -> Result<Table<T>, Refusal> {
     Totals::new().table(cells, rows, columns)
+}
+
+/// The exact sum of the values, rounded once into each of the targets: a record, or a refusal, for
+/// each, in their order. [`Target::new`] rounds to the nearest, ties to even.
+///
+/// The exact sum itself is rounded each time. A sum that was rounded to `f64` first can lie on a tie of
+/// a shorter format where the exact one does not. [`Totals::sum_into`] takes encodings of any format,
+/// and counts subnormal values as zeros where it is asked to.
+///
+/// # Errors
+///
+/// A target that is refused does not touch the others. Of each the first of these that holds:
+/// [`Refusal::NoSuchFormat`] where the library does not have the target's format, or it names a bias
+/// out of its range; [`Refusal::PrecisionOutOfRange`]; [`Refusal::TooManyElements`] where there are more
+/// than 268,435,456 values; [`Refusal::TargetOutOfReach`] where the target has more digits than `T`, or
+/// a value is a NaN or an infinity.
+///
+/// Proved: the contract of `totals_sum_into` in `crates/totals/src/entry.rt`; `target-rounds`,
+/// `target-zero`, `target-exact`, `target-own`, `target-order`, `target-refusal` in
+/// `crates/further_spec/proofs/Promises.antt`.
+///
+/// ```
+/// use fermuzhai::{sum, sum_into, Flags, Format, Refusal, Target};
+///
+/// // 1, 2^−11 and 2^−70: a little more than a tie of half precision
+/// let list = [1.0, 2f64.powi(-11), 2f64.powi(-70)];
+/// let targets = [Format::BINARY16, Format::BINARY32, Format::BINARY64].map(Target::new);
+/// let records = sum_into(&list, &targets);
+/// assert_eq!(records[0]?.result, 0x3c01);
+/// assert_eq!(records[0]?.flags, Flags::INEXACT | Flags::ROUNDED_UP);
+/// assert_eq!(records[1]?.result, 0x3f80_1000);
+/// assert_eq!(records[2]?.result, 0x3ff0_0200_0000_0000);
+/// assert_eq!(records[2]?.flags, Flags::INEXACT);
+///
+/// // by way of f64 it is the tie, and goes to the even neighbour
+/// let twice = sum_into(&[sum(&list)?.result], &targets[..1]);
+/// assert_eq!(twice[0]?.result, 0x3c00);
+///
+/// let records = sum_into(&[1.0, f64::NAN], &targets);
+/// assert_eq!(records, [Err(Refusal::TargetOutOfReach); 3]);
+/// # Ok::<(), Refusal>(())
+/// ```
+#[must_use]
+pub fn sum_into<T: Float + Word>(
+    values: &[T],
+    targets: &[Target],
+) -> Vec<Result<Record<u64>, Refusal>> {
+    Totals::<T>::new().sum_into(values, targets)
 }

@@ -1,5 +1,6 @@
-//! The nine entries of `libtotals.a`, as they are: four over bytes, [`pence`], [`table`] and
-//! [`range`] over words, and [`page_sum`] and [`page_write`] for career pages.
+//! The ten entries of `libtotals.a`, as they are: four over bytes, [`pence`], [`table`] and
+//! [`range`] over words, [`page_sum`] and [`page_write`] for career pages, and [`sum_into`] for a sum
+//! in three formats.
 //!
 //! The numbers and the layout of the answer are those of the repository's `docs/SPECIFICATION.md`.
 //! For most callers [`Totals`](crate::Totals), for ranges [`crate::range`] and for pages
@@ -165,6 +166,20 @@ mod entry {
             count: usize,
             page: *mut u8,
             page_room: usize,
+        ) -> u64;
+        pub fn totals_sum_into(
+            kind: u64,
+            exponent_bits: u64,
+            width: u64,
+            bias_named: u64,
+            bias: i64,
+            denormals_are_zero: u64,
+            targets: *const u8,
+            targets_len: usize,
+            values: *const u8,
+            values_len: usize,
+            answer: *mut u8,
+            answer_len: usize,
         ) -> u64;
     }
 }
@@ -622,6 +637,73 @@ pub fn page_write(values: &[u64], page: &mut [u8]) -> Result<usize, u64> {
         Ok((code / 256) as usize)
     } else {
         Err(code)
+    }
+}
+
+/// The sum of the values, rounded once into each of three targets. `values` are eight bytes each, as of
+/// [`sum`], and `bias` is as in [`pence`]. `targets` are three times thirteen numbers of eight bytes,
+/// the least byte first: kind, exponent bits, width, 1 where the format names its bias or else 0, the
+/// bias in two's complement, and the eight settings.
+///
+/// Returns 0 and writes 32 bytes for each target: a refusal, plus 256 times its place, in eight bytes,
+/// and behind it the 24 of an answer of [`sum`], zeros where the target is refused. What lies behind
+/// byte 95 stays as it was. A target's refusals are 3, 4, 6, 7 and 17, the first that holds; what they
+/// mean is said at [`Totals::sum_into`](crate::Totals::sum_into). 3 is also that the fourth number of a
+/// target is above 1, or is 0 beside a bias that is not; and 4 that `denormals_are_zero` is above 1, or
+/// a setting of the target is out of its range.
+///
+/// Or returns 1, where the targets are not 312 bytes or the values no multiple of 8, or 2, where the
+/// answer has fewer than 96, and writes nothing.
+///
+/// Proved: the contract of `totals_sum_into` in `crates/totals/src/entry.rt`; `target-rounds`,
+/// `target-entry-refusal`, `target-entry-refused`, `target-entry-order`, `target-entry-read-back` in
+/// `crates/further_spec/proofs/Promises.antt`.
+///
+/// ```
+/// use fermuzhai::{raw, Format, Target};
+///
+/// // 1 and 2^−11 in binary16; into the same, the same with a bias of −3, and binary32
+/// let formats = [Format::BINARY16, Format::BINARY16.with_bias(-3), Format::BINARY32];
+/// let numbers = formats.map(|format| <[u64; 13]>::from(Target::new(format)));
+/// assert_eq!(numbers[1][..5], [0, 5, 16, 1, -3i64 as u64]);
+/// let (targets, values) = (raw::bytes(numbers.as_flattened()), raw::bytes(&[0x3c00, 0x1000]));
+///
+/// let mut answer = [7; 97];
+/// assert_eq!(raw::sum_into([0, 5, 16], None, 0, &targets, &values, &mut answer), 0);
+/// assert_eq!(answer[..11], [0, 0, 0, 0, 0, 0, 0, 0, 0x00, 0x3c, 0]); // 1, of a tie
+/// assert_eq!(answer[40..42], [0x40, 0x00]); // 64 times its least number, 2^−6
+/// assert_eq!(answer[64..72], 17u64.to_le_bytes()); // 24 digits are more than 11
+/// assert_eq!(answer[72..], [[0; 24].as_slice(), &[7]].concat());
+///
+/// assert_eq!(raw::sum_into([0, 5, 16], None, 0, &targets[1..], &values, &mut answer), 1);
+/// assert_eq!(raw::sum_into([0, 5, 16], None, 0, &targets, &values, &mut answer[..95]), 2);
+/// ```
+#[must_use = "the answer is written only where 0 is returned"]
+pub fn sum_into(
+    f: Format,
+    bias: Option<i64>,
+    denormals_are_zero: u64,
+    targets: &[u8],
+    values: &[u8],
+    answer: &mut [u8],
+) -> u64 {
+    // SAFETY: each pointer comes with the length of the slice that it is taken from, and `answer`,
+    // being borrowed for writing, lies apart from the other two. Of the numbers nothing is asked.
+    unsafe {
+        entry::totals_sum_into(
+            f[0],
+            f[1],
+            f[2],
+            bias.is_some().into(),
+            bias.unwrap_or(0),
+            denormals_are_zero,
+            targets.as_ptr(),
+            targets.len(),
+            values.as_ptr(),
+            values.len(),
+            answer.as_mut_ptr(),
+            answer.len(),
+        )
     }
 }
 

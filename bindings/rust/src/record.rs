@@ -206,7 +206,8 @@ impl Side {
 #[derive(Clone, Copy, Debug)]
 #[non_exhaustive]
 pub struct Record<T> {
-    /// The exact sum, rounded once: a float, or an encoding where the list was of encodings.
+    /// The exact sum, rounded once: a float, or an encoding where the list was of encodings, and of a
+    /// [`Target`](crate::Target).
     pub result: T,
     /// What happened on the way.
     pub flags: Flags,

@@ -1,6 +1,8 @@
 use core::error::Error;
 use core::fmt::{self, Display, Formatter};
 
+use crate::{Format, Settings};
+
 /// One of the two lists of a dot product.
 #[derive(Clone, Copy, Debug, PartialEq, Eq, Hash)]
 pub enum List {
@@ -29,7 +31,8 @@ impl Display for OfList {
 ///
 /// Proved: `sum-refusal`, `dot-refusal`, `extended-call-refused-exactly`, `sum-pence-refused-exactly`, `table-refused-exactly`,
 /// `range-refused-exactly`, `page-refused-exactly`, `page-span-refused-exactly` in
-/// `crates/totals_spec/proofs/Promises.antt`.
+/// `crates/totals_spec/proofs/Promises.antt`; `target-refusal` in
+/// `crates/further_spec/proofs/Promises.antt`.
 ///
 /// ```
 /// use fermuzhai::{dot, Refusal};
@@ -41,14 +44,16 @@ impl Display for OfList {
 #[derive(Clone, Copy, Debug, PartialEq, Eq, Hash)]
 #[non_exhaustive]
 pub enum Refusal {
-    /// 1: a list of bytes whose length is not a multiple of 8, or, of [`X87`](crate::X87), of 10.
+    /// 1: a list of bytes whose length is not a multiple of 8, or, of [`X87`](crate::X87), of 10. Through
+    /// [`raw`](crate::raw) also targets that are not 312 bytes.
     UnevenLength {
         /// Which list of a dot, the left one where both are; `None` in a sum, and from
         /// [`Refusal::from_code`].
         list: Option<List>,
     },
     /// 2: a destination that is shorter than the page would be. Through [`raw`](crate::raw) also an
-    /// answer buffer under 24 bytes, of [`X87`](crate::X87) under 32, or of a range a pair under two words.
+    /// answer buffer under 24 bytes, of [`X87`](crate::X87) under 32, of three targets under 96, or of a
+    /// range a pair under two words.
     ShortBuffer,
     /// 3: the library has no such format, or the format names a bias outside −268,435,456 to
     /// 268,435,456; or it is [`Format::EXTENDED`](crate::Format::EXTENDED), of encodings in words.
@@ -94,6 +99,9 @@ pub enum Refusal {
     NotAPage,
     /// 13: a span of a page starts above its end, or ends above the page's count of values.
     BadSpan,
+    /// 17: of a target, more digits than the list's format has; or a NaN or an infinity in the list,
+    /// and then of every target. It has no place.
+    TargetOutOfReach,
     /// A code that this crate does not know: the archive is not the one that it was written for.
     Unknown {
         /// What the entry returned.
@@ -128,12 +136,25 @@ impl Refusal {
             11 => Self::BadAmount,
             12 => Self::NotAPage,
             13 => Self::BadSpan,
+            17 => Self::TargetOutOfReach,
             _ if code % 256 == 7 => Self::StrayBit {
                 place: (code / 256) as usize,
                 list: None,
             },
             _ => Self::Unknown { code },
         })
+    }
+
+    /// Says which setting is out of its range. In the types of this crate that can be the precision
+    /// alone.
+    pub(crate) fn with_setting(self, format: Format, settings: Settings) -> Self {
+        match (self, settings.precision) {
+            (Self::SettingOutOfRange, Some(precision)) => Self::PrecisionOutOfRange {
+                precision: precision.get(),
+                digits: format.digits(),
+            },
+            _ => self,
+        }
     }
 }
 
@@ -143,12 +164,12 @@ impl Display for Refusal {
             Self::UnevenLength { list } => {
                 write!(
                     out,
-                    "the length{} in bytes is not a multiple of 8, or of 10 for X87",
+                    "the length{} in bytes is not a multiple of 8, or of 10 for X87, or that of the targets is not 312",
                     OfList(*list)
                 )
             }
             Self::ShortBuffer => out.write_str(
-                "the destination is shorter than the page, the answer buffer has fewer than 24 bytes, or 32 for X87, or the pair fewer than two words",
+                "the destination is shorter than the page, the answer buffer has fewer than 24 bytes, 32 for X87 or 96 for targets, or the pair fewer than two words",
             ),
             Self::NoSuchFormat => out.write_str(
                 "there is no such format, or the bias that it names is out of its range",
@@ -181,6 +202,7 @@ impl Display for Refusal {
             ),
             Self::NotAPage => out.write_str("the bytes are not a page: its trailer, areas or a summary are not what the values give, or it counts too many"),
             Self::BadSpan => out.write_str("the span starts above its end, or ends above the number of values"),
+            Self::TargetOutOfReach => out.write_str("the target has more digits than the list's format, or the list holds a NaN or an infinity"),
             Self::Unknown { code } => {
                 write!(
                     out,
@@ -217,8 +239,20 @@ mod tests {
         assert_eq!(Refusal::from_code(11), Some(Refusal::BadAmount));
         assert_eq!(Refusal::from_code(12), Some(Refusal::NotAPage));
         assert_eq!(Refusal::from_code(13), Some(Refusal::BadSpan));
+        assert_eq!(Refusal::from_code(17), Some(Refusal::TargetOutOfReach));
         // a place belongs to a stray bit alone
-        for code in [14, 255, 256, 257, 8 + 256, 9 + 256, 13 + 256, u64::MAX] {
+        for code in [
+            14,
+            18,
+            255,
+            256,
+            257,
+            8 + 256,
+            9 + 256,
+            13 + 256,
+            17 + 256,
+            u64::MAX,
+        ] {
             assert_eq!(Refusal::from_code(code), Some(Refusal::Unknown { code }));
         }
     }
@@ -228,17 +262,17 @@ mod tests {
         for (refusal, words) in [
             (
                 Refusal::UnevenLength { list: None },
-                "the length in bytes is not a multiple of 8, or of 10 for X87",
+                "the length in bytes is not a multiple of 8, or of 10 for X87, or that of the targets is not 312",
             ),
             (
                 Refusal::UnevenLength {
                     list: Some(List::Right),
                 },
-                "the length of the right list in bytes is not a multiple of 8, or of 10 for X87",
+                "the length of the right list in bytes is not a multiple of 8, or of 10 for X87, or that of the targets is not 312",
             ),
             (
                 Refusal::ShortBuffer,
-                "the destination is shorter than the page, the answer buffer has fewer than 24 bytes, or 32 for X87, or the pair fewer than two words",
+                "the destination is shorter than the page, the answer buffer has fewer than 24 bytes, 32 for X87 or 96 for targets, or the pair fewer than two words",
             ),
             (
                 Refusal::NoSuchFormat,
@@ -282,6 +316,10 @@ mod tests {
             (
                 Refusal::BadSpan,
                 "the span starts above its end, or ends above the number of values",
+            ),
+            (
+                Refusal::TargetOutOfReach,
+                "the target has more digits than the list's format, or the list holds a NaN or an infinity",
             ),
         ] {
             assert_eq!(refusal.to_string(), words);

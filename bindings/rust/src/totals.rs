@@ -11,7 +11,8 @@ use crate::{
 const MOST_EMPTY: usize = 1 << 20;
 
 /// The four totals in one format and under one choice of settings; the sums of the rows and columns
-/// of a table; those of a span of a page; and the pence of a sum, in which settings play no part.
+/// of a table; those of a span of a page; a sum in several formats; and the pence of a sum, in which
+/// settings play no part.
 ///
 /// [`Totals::new`] is for the floats of Rust and for [`X87`](crate::X87), which has the four totals
 /// alone; [`Totals::of`] is for encodings of any other format.
@@ -292,16 +293,9 @@ impl<T: Value> Totals<T> {
         }
     }
 
-    /// Says which setting is out of its range. In the types of this crate that can be the precision
-    /// alone.
+    /// Says which setting is out of its range.
     fn with_setting(&self, refusal: Refusal) -> Refusal {
-        match (refusal, self.settings.precision) {
-            (Refusal::SettingOutOfRange, Some(precision)) => Refusal::PrecisionOutOfRange {
-                precision: precision.get(),
-                digits: self.format.digits(),
-            },
-            _ => refusal,
-        }
+        refusal.with_setting(self.format, self.settings)
     }
 
     /// Says which list of a dot is refused: the left one where that is at fault, else the right.

@@ -8,6 +8,7 @@ use binary::nan::select;
 use binary::nan::selected;
 use binary::operand;
 use exact::Unrounded;
+use exact::narrowed;
 use exact::round;
 use format::Format;
 use format::Named;
@@ -25,16 +26,15 @@ use format::origin;
 use format::unpacked::Unpacked;
 use format::valid_format;
 use hex::number;
-use limbs_window as window;
 ghost use mathlib.Core.Path.{_≡_};
 ghost use mathlib.Core.Bool.{true};
-ghost use Prim.Native.Nat.{suc, _^_, _<_, _≤_};
-ghost use Rattle.limbs.specs.Value.{value};
+ghost use Prim.Native.Nat.{_^_, _<_, _≤_};
 ghost use Rattle.totals_spec.specs.Format as spec;
 ghost use Rattle.totals_spec.specs.Bounds.{FormatBounds, RangeBounds};
 ghost use Rattle.format.specs.Joined.{formatOf};
 ghost use Rattle.format.specs.Fits.{Encodes};
 ghost use Rattle.binary.specs.Joined.{nanOf};
+ghost use Rattle.exact.specs.Joined.{significandOf};
 
 fn agrees(a: u64, b: u64) -> u64
     ensures { λ r. ⌜ r ≤ 1 ⌝ }
@@ -209,7 +209,7 @@ pub fn nan_row(s: &[u8]) -> u64
     if valid_format(f) { choices(f, s) } else { 0 }
 }
 
-// A value to round: two words, which stand at a word of the window.
+// A value to round: two words at a word of a window, which is narrowed.
 fn value_at(s: &[u8], negative: bool) -> Unrounded {
     let mut w = [0u64; 12];
     let i = number(s, 5, 1) as usize;
@@ -217,24 +217,18 @@ fn value_at(s: &[u8], negative: bool) -> Unrounded {
         w[i] = number(s, 34, 16);
         w[i + 1] = number(s, 17, 16);
     }
-    Unrounded {
-        negative,
-        sticky: number(s, 4, 1) == 1,
-        position: number(s, 12, 4) % 65536,
-        significand: w,
-    }
+    narrowed(negative, number(s, 4, 1) == 1, number(s, 12, 4) % 65536, w)
 }
 
-// Whether a value with a sticky bit has two digits more than the format keeps.
+// Whether a value with a sticky bit has a digit more than the format keeps.
 fn is_long(f: Format, v: Unrounded) -> bool
     requires { ⌜ FormatBounds (formatOf f) ⌝ }
-    ensures { λ r. ⌜ (r ≡ true → v .sticky ≡ true → 2 ^ suc (spec.digits (formatOf f)) ≤ value (v .significand)) ⌝ }
+    ensures { λ r. ⌜ (r ≡ true → v .sticky ≡ true → 2 ^ spec.digits (formatOf f) ≤ significandOf v) ⌝ }
 {
     if !v.sticky {
         return true;
     }
-    let w = v.significand;
-    window::bit_length(w) > (digits(f) as usize) + 1
+    v.length() > digits(f)
 }
 
 // The result and the flags of a rounding, and 65,536 for what cannot be rounded.
@@ -250,8 +244,7 @@ fn rounded(f: Format, c: Settings, g: u64, v: Unrounded) -> u64
     if v.position > 65535 {
         return 65536;
     }
-    let w = v.significand;
-    if window::is_zero(w) {
+    if v.length() == 0 {
         return 65536;
     }
     if !is_long(f, v) {

@@ -7,14 +7,14 @@ use native.Mathlib.Omega.{arith}
 use lib.Dec.{leb, eqb}
 use lib.Pow.{pow-mono, pow-pos}
 use lib.Ieee.{size}
-use Rattle.limbs.specs.Value.{value, bitLength}
+use Rattle.limbs.specs.Value.{bitLength}
 use Rattle.totals_spec.specs.Basics.{flag, isSet}
 use Rattle.totals_spec.specs.Format.{Format, digits, eminAt}
 use Rattle.totals_spec.specs.Settings.{Settings, Rounding, roundingOf, precisionOf}
 use Rattle.totals_spec.specs.Decode.{zeroOf, finite}
 use Rattle.totals_spec.specs.Round.{Dropped, dropped, inexact, roundsUp, roundedAt, overflows, overflow, round}
 use Rattle.format.specs.Fits.{Encodes}
-use Rattle.exact.specs.Joined.{Stands, Measured, RoundedTo, EndsAt, Begins, smallOf}
+use Rattle.exact.specs.Joined.{significandOf, Stands, Measured, RoundedTo, EndsAt, Begins, smallOf}
 use Rattle.exact.specs.declared.Unrounded.{Unrounded}
 use Rattle.exact.specs.declared.Digits.{Digits}
 use Rattle.exact.proofs.Rules.{flag-le}
@@ -28,14 +28,14 @@ use Rattle.exact.proofs.Once.{kept-lt, kept-ge, normal-is, number-norma
 
 module _ {v : Unrounded} {end q : ℕ} (M : Measured v end q) where
   long : (x : ℕ) → Stands v x → size x ≡ end
-  long x st = stands-size (v .sticky) (value (v .significand)) (v .position) x st (M .some) ∙ sym (M .is)
+  long x st = stands-size (v .sticky) (significandOf v) (v .position) x st (M .some) ∙ sym (M .is)
 
   one : ℕ
-  one = someNumber (v .sticky) (value (v .significand)) (v .position)
+  one = someNumber (v .sticky) (significandOf v) (v .position)
 
   one-stands : Stands v one
   unfolding one
-  one-stands = stands-some (v .sticky) (value (v .significand)) (v .position) (omega (arith, M .high))
+  one-stands = stands-some (v .sticky) (significandOf v) (v .position) (omega (arith, M .high))
 
   module _ {kept : ℕ} {d : Dropped} (cut : (x : ℕ) → Stands v x → (kept ≡ x / 2 ^ (end - q)) × (d ≡ dropped x (end - q))) where
     pub first-lt : kept < 2 ^ q
@@ -63,8 +63,8 @@ module _ {f : Format} {c : Settings} {g : ℕ} {v : Unrounded} {end : ℕ} (B : 
   p-most : digits f ≤ 64
   p-most = omega (arith, B .rounds .format .p-le)
 
-  sticky-long : v .sticky ≡ true → suc (digits f) < bitLength (value (v .significand))
-  sticky-long t = size-above (value (v .significand)) (suc (digits f)) (B .rounds .long t)
+  sticky-long : v .sticky ≡ true → digits f < bitLength (significandOf v)
+  sticky-long t = size-above (significandOf v) (digits f) (B .rounds .long t)
 
   pub measured : Measured v end q
   measured = record {
@@ -116,7 +116,7 @@ module _ {f : Format} {c : Settings} {g : ℕ} {v : Unrounded} {end : ℕ} (B : 
 
   -- below emin, cut at the subnormal grid
   module _ (h : end ≤ eminAt f g) where
-    pub small-word : v .position + bitLength (value (v .significand)) ≤ g + (digits f - q) + 64
+    pub small-word : v .position + bitLength (significandOf v) ≤ g + (digits f - q) + 64
     small-word = omega (arith, B .is, h, p-most, Q .1, Q .2)
 
     pub small-sticky : v .sticky ≡ true → v .position < g + (digits f - q)

@@ -1,20 +1,17 @@
 -- Cutting a value at a position: the digits kept and the part dropped are those of every number that the value stands for.
 use mathlib.Core.Path.{_≡_, refl, sym, ap, ap₂, _∙_}
 use mathlib.Core.Bool.{Bool, true, false, not, _||_, cond}
-use mathlib.Core.List.{List, [], _∷_}
 use Prim.Native.Nat.{ℕ, zero, suc, _+_, _-_, _*_, _/_, _%_, _^_, _≤_, _<_}
-use native.Mathlib.Nat.{lt-of-lt-of-le, mul-le-mul-right, mul-assoc, suc-mul, mod-lt, mod-eq-of-lt, div-one, add-zero}
+use native.Mathlib.Nat.{lt-of-lt-of-le, mul-le-mul-right, mul-assoc, suc-mul, mul-comm, mod-lt, mod-eq-of-lt, add-comm, add-zero}
 use native.Mathlib.Omega.{arith}
 use lib.Dec.{eqb}
-use lib.ListN.{getD}
-use lib.Arith.{digits-div, digits-mod}
-use lib.Pow.{pow-add, pow-pos, pow-mono, shr-shr, shl-shr, shr-lt, mod-pow-add}
+use lib.Arith.{digits-lt, digits-div, digits-mod}
+use lib.Pow.{pow-add, pow-pos, pow-mono, shr-shr, shl-shr, shr-lt, mod-pow-add, split}
 use lib.Ieee.{size}
 use lib.Ieee.Digits.{size-lt}
 use borrow.Author.Tests.{eq-eqb, lt-ltb, le-ltb, ne-eqb}
 use Rattle.totals_spec.proofs.Bits.{size-pos, pow-split, multiple-mod}
 use Rattle.totals_spec.specs.Round.{nothing, compared, dropped}
-use Rattle.limbs.specs.Value.{value}
 use Rattle.exact.specs.Joined.{droppedBy, StandsAt}
 use Rattle.totals_spec.proofs.Powers.{size-over, scaled-lt}
 
@@ -117,6 +114,26 @@ module _ (s : Bool) (v a x : ℕ) (st : StandsAt s v (2 ^ a) x) where
       ap (λ (y : ℕ). dropped y u) (o .is) ∙ dropped-at v a (o .more) (o .small) i u at
       ∙ ap (droppedBy (eqb (v / 2 ^ i % 2) 1)) (o .some (v % 2 ^ i))
 
+-- and the other way round: such a number, with a sticky bit just where it is not v × 2^a
+stands-over : (v a e x : ℕ) → x ≡ v * 2 ^ a + e → e < 2 ^ a → StandsAt (not (eqb e 0)) v (2 ^ a) x
+stands-over v a zero x is h = is ∙ add-zero (v * 2 ^ a)
+stands-over v a (suc e) x is h = rw (ne-eqb (suc e) 0 (λ z. omega (arith, z))) (omega arith, omega (arith, suc-mul v (2 ^ a)))
+
+-- without its lowest d bits, and with a sticky bit where one of them is set, it stands for the same numbers
+pub stands-without : (s : Bool) (v a d x : ℕ) → StandsAt s v (2 ^ a) x → StandsAt (s || not (eqb (v % 2 ^ d) 0)) (v / 2 ^ d) (2 ^ (a + d)) x
+stands-without s v a d x st =
+    let o = over s v a x st in
+    rw (← o .some (v % 2 ^ d)) (stands-over (v / 2 ^ d) (a + d) (v % 2 ^ d * 2 ^ a + o .more) x (o .is ∙ whole (o .more)) (below (o .more) (o .small)))
+  where
+    unit : 2 ^ (a + d) ≡ 2 ^ d * 2 ^ a
+    unit = pow-add 2 a d ∙ mul-comm (2 ^ a) (2 ^ d)
+
+    whole : (e : ℕ) → v * 2 ^ a + e ≡ v / 2 ^ d * 2 ^ (a + d) + (v % 2 ^ d * 2 ^ a + e)
+    whole e = rw unit (omega (arith, ap (λ (n : ℕ). n * 2 ^ a) (split v d)))
+
+    below : (e : ℕ) → e < 2 ^ a → v % 2 ^ d * 2 ^ a + e < 2 ^ (a + d)
+    below e h = rw unit (digits-lt {m = 2 ^ d} (mod-lt v (pow-pos d)) h)
+
 -- there is such a number
 abbrev pub someNumber : Bool → ℕ → ℕ → ℕ
 someNumber s v a = cond s (v * 2 ^ a + 1) (v * 2 ^ a)
@@ -160,10 +177,7 @@ cut-up false v a u h le pos end = record {
 pub cut-down : (v a j u : ℕ) → a + j ≡ u → a + size v ≤ u + 64 → v / 2 ^ j < 2 ^ 64
 cut-down v a j u at end = shr-lt 64 j (lt-of-lt-of-le (size-lt v) (pow-mono {i = size v} {j = 64 + j} (omega arith)))
 
-pub first-word : (l : List ℕ) → value l < 2 ^ 64 → getD l 0 0 ≡ value l
-unfolding value
-first-word [] h = refl
-first-word (w ∷ l) h = omega arith
-
-pub one-word : (x : ℕ) → x < 2 ^ 64 → x / 2 ^ (64 * 0) % 2 ^ 64 ≡ x
-one-word x h = ap (λ (y : ℕ). y % 2 ^ 64) (div-one x) ∙ mod-eq-of-lt h
+-- and the digits from the bit i + 1 of a number y that is y / 2^i of two words
+pub two-word-digits : (v i low high : ℕ) → high * 2 ^ 64 + low ≡ v / 2 ^ i → v / 2 ^ (i + 1) < 2 ^ 64 → (low + high * 2 ^ 64) / 2 ^ 1 % 2 ^ 64 ≡ v / 2 ^ (i + 1)
+two-word-digits v i low high e h =
+    ap (λ (x : ℕ). x / 2 ^ 1 % 2 ^ 64) (add-comm low (high * 2 ^ 64) ∙ e) ∙ ap (λ (x : ℕ). x % 2 ^ 64) (shr-shr v i 1) ∙ mod-eq-of-lt h

@@ -1,7 +1,8 @@
 -- The code's types as those of totals_spec, the exact numbers that a value to round stands for, and what its rounding is.
 use mathlib.Core.Path.{_≡_}
 use mathlib.Core.Bool.{Bool, true, false, _&&_, cond}
-use Prim.Native.Nat.{ℕ, suc, _+_, _-_, _*_, _/_, _^_, _≤_, _<_}
+use mathlib.Core.List.{List}
+use Prim.Native.Nat.{ℕ, suc, _+_, _-_, _*_, _/_, _^_, _≤_, _<_, min}
 use lib.Dec.{eqb}
 use Rattle.limbs.specs.Value.{value, bitLength}
 use Rattle.totals_spec.specs.Basics.{flag}
@@ -46,31 +47,45 @@ underflowOf tiny inexact flush = cond (tiny && flush) (Flushed (8 + 16 + 32)) (K
 
 -- ---- values to round
 
+-- its two words' number
+abbrev pub significandOf : Unrounded → ℕ
+significandOf v = v .high * 2 ^ 64 + v .low
+
 -- the exact numbers that m units stand for: m units, or with a sticky bit every number strictly between m and m + 1 units
 abbrev pub StandsAt : Bool → ℕ → ℕ → ℕ → Type 0
 StandsAt false m unit x = x ≡ m * unit
 StandsAt true m unit x = (m * unit < x) × (x < suc m * unit)
 
 abbrev pub Stands : Unrounded → ℕ → Type 0
-Stands v x = StandsAt (v .sticky) (value (v .significand)) (2 ^ (v .position)) x
+Stands v x = StandsAt (v .sticky) (significandOf v) (2 ^ (v .position)) x
+
+-- a window w to round at a position, in two words: a value that stands for all that the window stands for
+pub record Narrows (negative sticky : Bool) (position : ℕ) (w : List ℕ) (v : Unrounded) : Type 0 where
+  pub sign : v .negative ≡ negative
+  pub stands : (x : ℕ) → StandsAt sticky (value w) (2 ^ position) x → Stands v x
+  pub some : 0 < value w → 0 < significandOf v
+  pub low : position ≤ v .position
+  pub high : v .position ≤ position + 640
+  pub few : bitLength (value w) ≤ 128 → v .sticky ≡ sticky
+  pub long : v .sticky ≡ true → min 65 (bitLength (value w)) ≤ bitLength (significandOf v)
 
 -- the same value, counted from a unit n positions lower
 abbrev pub raisedBy : ℕ → Unrounded → Unrounded
-raisedBy n v = record { negative = v .negative; sticky = v .sticky; position = v .position + n; significand = v .significand }
+raisedBy n v = record { negative = v .negative; sticky = v .sticky; position = v .position + n; low = v .low; high = v .high }
 
 -- the position just above a value's highest bit
 abbrev pub endOf : Unrounded → ℕ
-endOf v = v .position + bitLength (value (v .significand))
+endOf v = v .position + bitLength (significandOf v)
 
 -- a value of which q digits can be taken: its highest bit lies just below `end`, and a sticky bit below its first q digits
 pub record Measured (v : Unrounded) (end q : ℕ) : Type 0 where
-  pub some : 0 < value (v .significand)
-  pub is : end ≡ v .position + bitLength (value (v .significand))
+  pub some : 0 < significandOf v
+  pub is : end ≡ v .position + bitLength (significandOf v)
   pub top : end < 9223372036854775808
   pub least : 1 ≤ q
   pub most : q ≤ 64
   pub high : 64 ≤ v .position
-  pub long : v .sticky ≡ true → q < bitLength (value (v .significand))
+  pub long : v .sticky ≡ true → q < bitLength (significandOf v)
 
 -- its first q digits, rounded: kept has q digits, and kept × 2^lowest is what each number rounds to that the value stands for
 pub record RoundedTo (m : env.Rounding) (v : Unrounded) (end q : ℕ) (d : Digits) : Type 0 where
@@ -85,16 +100,16 @@ pub record RoundedTo (m : env.Rounding) (v : Unrounded) (end q : ℕ) (d : Digit
 pub record Rounds (f : spec.Format) (c : env.Settings) (g : ℕ) (v : Unrounded) : Type 0 where
   pub format : RangeBounds f
   pub settings : SettingsBounds f c
-  pub some : 0 < value (v .significand)
+  pub some : 0 < significandOf v
   pub high : 64 ≤ v .position
   pub low : v .position ≤ 2 ^ 62 + 2 ^ 30
   pub grid : g < 2 ^ 62
-  pub long : v .sticky ≡ true → 2 ^ suc (spec.digits f) ≤ value (v .significand)
+  pub long : v .sticky ≡ true → 2 ^ spec.digits f ≤ significandOf v
 
 -- such a value, and the position `end` just above its highest bit
 pub record EndsAt (f : spec.Format) (c : env.Settings) (g : ℕ) (v : Unrounded) (end : ℕ) : Type 0 where
   pub rounds : Rounds f c g v
-  pub is : end ≡ v .position + bitLength (value (v .significand))
+  pub is : end ≡ v .position + bitLength (significandOf v)
   pub top : end < 9223372036854775808
 
 -- such a value with its first q digits, rounded: q digits are kept

@@ -18,14 +18,17 @@ use format::env::flag;
 use format::env::precision_within;
 use format::exponent_range;
 use format::unpacked::Unpacked;
+use limbs::pair;
+use limbs::word::either;
+use limbs::word::funnel;
 use limbs::word::ones;
 use limbs::word::power;
 use limbs::word::scaled;
 ghost use mathlib.Core.Path.{_≡_};
-ghost use mathlib.Core.Bool.{true, not, cond, _||_};
-ghost use Prim.Native.Nat.{ℕ, _+_, _-_, _*_, _/_, _%_, _^_, _<_, _≤_};
-ghost use lib.Dec.{eqb, leb};
-ghost use Rattle.limbs.specs.Value.{value, bitLength};
+ghost use mathlib.Core.Bool.{true, cond};
+ghost use Prim.Native.Nat.{ℕ, _+_, _*_, _/_, _^_, _<_, _≤_};
+ghost use lib.Dec.{leb, eqb};
+ghost use Rattle.limbs.specs.Value.{bitLength};
 ghost use Rattle.totals_spec.specs.Basics as basics;
 ghost use Rattle.totals_spec.specs.Bounds.{RangeBounds};
 ghost use Rattle.totals_spec.specs.Format as spec;
@@ -33,14 +36,16 @@ ghost use Rattle.totals_spec.specs.Settings as env;
 ghost use Rattle.totals_spec.specs.Round as round;
 ghost use Rattle.format.specs.Joined.{formatOf, settingsOf, unpackedOf};
 ghost use Rattle.format.specs.Fits.{Encodes};
-ghost use Rattle.exact.specs.Joined.{droppedOf, smallOf, roundedOf, Stands, endOf, Measured, RoundedTo, Rounds, Begins, RoundedOnce};
+ghost use Rattle.exact.specs.Joined.{droppedOf, smallOf, roundedOf, significandOf, Stands, endOf, Narrows, Measured, RoundedTo, Rounds, Begins, RoundedOnce};
 
-// A magnitude to round: significand * 2^position units, or with a sticky bit any number between that and significand + 1 of these.
+// A magnitude to round: the significand high * 2^64 + low, times 2^position units, or with a sticky bit any number between that and significand + 1
+// of these.
 pub struct Unrounded {
     pub negative: bool,
     pub sticky: bool,
     pub position: u64,
-    pub significand: [u64; 12],
+    pub low: u64,
+    pub high: u64,
 }
 
 // A magnitude cut at a position: the digits at and above it, and what is dropped.
@@ -62,36 +67,81 @@ pub struct Rounded {
     pub flags: u64,
 }
 
-// Whether something lies below a position: a bit of the words, or what the sticky bit stands for.
-fn some_below(s: [u64; 12], count: usize, sticky: bool) -> bool
-    ensures { λ r. ⌜ r ≡ (sticky || not (eqb (value s % 2 ^ count) 0)) ⌝ }
+// A window to round, in two words: those from its highest on, with a sticky bit for what is dropped below them. They keep at least 65 bits, one more than
+// a result can have.
+pub fn narrowed(negative: bool, sticky: bool, position: u64, w: [u64; 12]) -> Unrounded
+    requires { ⌜ position < 2 ^ 63 ⌝ }
+    ensures { λ r. ⌜ Narrows negative sticky position w r ⌝ }
 {
-    if sticky {
-        return true;
+    let n = limbs_window::bit_length(w);
+    if n <= 128 {
+        return Unrounded {
+            negative,
+            sticky,
+            position,
+            low: w[0],
+            high: w[1],
+        };
     }
-    limbs_window::any_below(s, count)
+    let top = (n - 1) / 64;
+    let under = top - 1;
+    Unrounded {
+        negative,
+        sticky: either(sticky, limbs_window::any_below(w, 64 * under)),
+        position: position + 64 * (under as u64),
+        low: w[under],
+        high: w[top],
+    }
+}
+
+// Nothing to round.
+pub fn nothing() -> Unrounded
+    ensures { λ r. ⌜ significandOf r ≡ 0 ⌝ }
+{
+    Unrounded {
+        negative: false,
+        sticky: false,
+        position: 0,
+        low: 0,
+        high: 0,
+    }
 }
 
 impl Unrounded {
+    pub fn is_nothing(self) -> bool
+        ensures { λ r. ⌜ r ≡ eqb (significandOf self) 0 ⌝ }
+    {
+        if self.low != 0 {
+            return false;
+        }
+        self.high == 0
+    }
+
+    // The digits of the significand.
+    pub fn length(self) -> u64
+        ensures { λ r. ⌜ (r ≡ bitLength (significandOf self)) × (r ≤ 128) ⌝ }
+    {
+        pair::bit_length(self.low, self.high) as u64
+    }
+
     // Cuts at a position from which the digits fit a word, and below which all lies that the sticky bit stands for.
     pub fn cut(self, lowest: u64) -> Cut
-        requires { ⌜ (0 < value (self .significand)) × (self .position + bitLength (value (self .significand)) ≤ lowest + 64) ⌝ }
+        requires { ⌜ (0 < significandOf self) × (endOf self ≤ lowest + 64) ⌝ }
         requires { ⌜ (self .sticky ≡ true → self .position < lowest) ⌝ }
         ensures { λ r. ⌜ ((x : ℕ) → Stands self x → (r .kept ≡ x / 2 ^ lowest) × (droppedOf (r .dropped) ≡ round.dropped x lowest)) ⌝ }
     {
-        let s = self.significand;
         if lowest <= self.position {
             return Cut {
-                kept: scaled(s[0], self.position - lowest),
+                kept: scaled(self.low, self.position - lowest),
                 dropped: Dropped::Nothing,
             };
         }
-        let shift = (lowest - self.position) as usize;
-        let first = limbs_window::bit(s, shift - 1);
-        let rest = some_below(s, shift - 1, self.sticky);
-        let d = Dropped::new(first, rest);
+        let below = (lowest - self.position - 1) as usize;
+        let one = pair::shr(self.low, self.high, below);
+        let rest = either(self.sticky, pair::any_below(self.low, self.high, below));
+        let d = Dropped::new(one.low % 2 == 1, rest);
         Cut {
-            kept: limbs_window::shr_at(s, shift, 0),
+            kept: funnel(one.low, one.high, 1),
             dropped: d,
         }
     }
@@ -290,20 +340,12 @@ fn round_small(f: Format, c: Settings, g: u64, v: Unrounded, q: u64, unlimited: 
     }
 }
 
-// The digits of a significand.
-pub fn length(s: [u64; 12]) -> u64
-    ensures { λ r. ⌜ (r ≡ bitLength (value s)) × (r ≤ 768) ⌝ }
-{
-    limbs_window::bit_length(s) as u64
-}
-
 // One rounding of a non-zero magnitude, where g is the position of the format's least non-zero number.
 pub fn round(f: Format, c: Settings, g: u64, v: Unrounded) -> Rounded
     requires { ⌜ Rounds (formatOf f) (settingsOf c) g v ⌝ }
     ensures { λ r. ⌜ RoundedOnce (formatOf f) (settingsOf c) g v r ⌝ }
 {
-    let s = v.significand;
-    let end = v.position + length(s);
+    let end = v.position + v.length();
     let q = precision_within(f, c);
     let d = first_digits(c.rounding, v, end, q);
     if end > emin(f, g) {

@@ -1,21 +1,22 @@
 -- Whether one of the lowest c bits of a list's number is set: in a word that lies below c as a whole, or in the word after these.
-use mathlib.Core.Path.{_≡_, sym, ap, ap₂, _∙_}
+use mathlib.Core.Path.{_≡_, refl, sym, ap, ap₂, _∙_}
 use mathlib.Core.Logic.{_⊎_, inl, inr}
 use mathlib.Core.Bool.{true, not}
 use mathlib.Core.List.{List}
-use Prim.Native.Nat.{ℕ, _+_, _-_, _*_, _/_, _%_, _^_, _<_, _≤_, min}
+use Prim.Native.Nat.{ℕ, zero-le, _+_, _-_, _*_, _/_, _%_, _^_, _<_, _≤_, min}
 use native.Mathlib.Nat.{add-zero, zero-mul, add-mul-mod-self-right, mod-eq-of-lt, lt-of-lt-of-le, lt-of-not-le, le-of-lt, le-of-eq, sub-add-cancel}
 use native.Mathlib.Nat.{mul-le-mul-right, min-eq-left, min-eq-right, min-le-left, eq-zero-or-pos, zero-mod, zero-div}
 use native.Mathlib.Decide.{decLe}
 use native.Mathlib.Omega.{arith}
 use lib.Dec.{eqb}
 use lib.ListN.{getD, List·getD-eq-default}
+use lib.Bits.{bitOr, or-add-and, and-le-l, and-le-r}
 use lib.Pow.{pow-pos, pow-mono, mod-pow-add, mod-mod-pow}
 use borrow.Author.Tests.{eq-eqb, ne-eqb}
 use Rattle.limbs.specs.declared.word.Place.{Place}
 use Rattle.limbs.specs.Splits.{Splits}
 use Rattle.limbs.specs.Value.{Words, value}
-use Rattle.limbs.proofs.Words.{low, low-lt, cut, whole}
+use Rattle.limbs.proofs.Words.{low, low-zero, low-skip, low-lt, cut, whole}
 use Rattle.limbs.proofs.Digits.{word-digit, low-digit, placed}
 
 -- a word that is not 0, of those that lie below c as a whole
@@ -31,6 +32,33 @@ some-word-below l f n i {c} {p} s h z = ap not (sym (ne-eqb (value l % 2 ^ c) 0 
 
     none : 0 / 2 ^ (64 * i) % 2 ^ 64 ≡ 0
     none = ap (λ (x : ℕ). x % 2 ^ 64) (zero-div (2 ^ (64 * i))) ∙ zero-mod (2 ^ 64)
+
+-- the first i words, of those that lie below c as a whole, in one: 0 where they all are, and else a bit below c is set
+pub record Gathered (l : List ℕ) (c end i word : ℕ) : Type 0 where
+  pub within : i ≤ end
+  pub none : word ≡ 0 → low l i ≡ 0
+  pub some : (word ≡ 0 → ⊥) → true ≡ not (eqb (value l % 2 ^ c) 0)
+
+or-none : (a b : ℕ) → bitOr a b ≡ 0 → (a ≡ 0) × (b ≡ 0)
+or-none a b e =
+    let sum = or-add-and a b in
+    (omega (arith, sum, and-le-r a b), omega (arith, sum, and-le-l a b))
+
+pub gather-none : (l : List ℕ) (c end : ℕ) → Gathered l c end 0 0
+gather-none l c end = record { within = zero-le; none = λ _. low-zero l; some = λ n. absurd (n refl) }
+
+pub gather-next : {l : List ℕ} → ((k : ℕ) → getD l k 0 < 2 ^ 64) → (n : ℕ) {c end i word : ℕ} {p : Place} → Splits c p → end ≡ min (p .word) n
+    → Gathered l c end i word → i < end → Gathered l c end (i + 1) (bitOr word (getD l i 0))
+gather-next {l} f n {c} {end} {i} {word} {p} s is g h = record {
+  within = omega arith;
+  none = λ e. let z = or-none word (getD l i 0) e in low-skip l i (z .1) ∙ g .none (z .0);
+  some = λ e. go e (eq-zero-or-pos word) (eq-zero-or-pos (getD l i 0));
+}
+  where
+    go : (bitOr word (getD l i 0) ≡ 0 → ⊥) → (word ≡ 0) ⊎ (0 < word) → (getD l i 0 ≡ 0) ⊎ (0 < getD l i 0) → true ≡ not (eqb (value l % 2 ^ c) 0)
+    go e (inl z) (inl y) = absurd (e (ap₂ bitOr z y))
+    go e (inl z) (inr y) = some-word-below l f n i s (rw is at h) (λ d. omega arith)
+    go e (inr z) y = g .some (λ d. omega arith)
 
 -- a product by a number that is not 0 is 0 where the number multiplied is
 pub same-zero : (x P : ℕ) → 0 < P → eqb x 0 ≡ eqb (x * P) 0

@@ -162,10 +162,12 @@ pub fn any_below(a: [u64; 12], count: usize) -> bool
 {
     let p = split(count);
     let end = smaller(p.word, 12);
+    let mut whole: u64 = 0;
     for i in 0..end {
-        if a[i] != 0 {
-            return true;
-        }
+        whole = whole | a[i];
+    }
+    if whole != 0 {
+        return true;
     }
     let w = word_at(a, end);
     word::low_bits(w, p.bit) != 0

@@ -117,13 +117,13 @@ module _ (l old : List ℕ) where
 
 -- ---- a trailer, word by word
 
--- one word more behind the bytes s that are laid
-laid-next : (l s : List ℕ) (at x : ℕ) → at + length s ≤ length l → laid (laidOver l at s) (at + length s) x ≡ laidOver l at (s ++ toBytes 8 x)
-laid-next l s at x h =
-    ap (λ (one : List ℕ). laid one k x) (sym (append-assoc (take at l) s rest))
-    ∙ ap₂ (λ (a b : List ℕ). a ++ (toBytes 8 x ++ b)) (take-at front rest k size) beyond
-    ∙ append-assoc (take at l) s (toBytes 8 x ++ drop (k + 8) l)
-    ∙ ap (λ (r : List ℕ). take at l ++ r) (sym (append-assoc s (toBytes 8 x) (drop (k + 8) l)) ∙ ap (λ (i : ℕ). (s ++ toBytes 8 x) ++ drop i l) place)
+-- more bytes t behind the bytes s that are laid
+pub over-next : (l s t : List ℕ) (at : ℕ) → at + length s ≤ length l → laidOver (laidOver l at s) (at + length s) t ≡ laidOver l at (s ++ t)
+over-next l s t at h =
+    ap (λ (one : List ℕ). laidOver one k t) (sym (append-assoc (take at l) s rest))
+    ∙ ap₂ (λ (a b : List ℕ). a ++ (t ++ b)) (take-at front rest k size) beyond
+    ∙ append-assoc (take at l) s (t ++ drop (k + length t) l)
+    ∙ ap (λ (r : List ℕ). take at l ++ r) (sym (append-assoc s t (drop (k + length t) l)) ∙ ap (λ (i : ℕ). (s ++ t) ++ drop i l) place)
   where
     k : ℕ
     k = at + length s
@@ -137,11 +137,11 @@ laid-next l s at x h =
     size : length front ≡ k
     size = omega (arith, length-append (take at l) s, length-take-le at l (omega (arith, h)))
 
-    beyond : drop (k + 8) (front ++ rest) ≡ drop (k + 8) l
-    beyond = ap (λ (i : ℕ). drop (i + 8) (front ++ rest)) (sym size) ∙ drop-append-add front rest 8 ∙ drop-drop 8 k l
+    beyond : drop (k + length t) (front ++ rest) ≡ drop (k + length t) l
+    beyond = ap (λ (i : ℕ). drop (i + length t) (front ++ rest)) (sym size) ∙ drop-append-add front rest (length t) ∙ drop-drop (length t) k l
 
-    place : k + 8 ≡ at + length (s ++ toBytes 8 x)
-    place = omega (arith, length-append s (toBytes 8 x))
+    place : k + length t ≡ at + length (s ++ t)
+    place = omega (arith, length-append s t)
 
 module _ (l : List ℕ) (at n : ℕ) where
   pub short-laid : n ≤ shortMost → at + 16 ≤ length l → (one two : List ℕ) → one ≡ laid l at (8 * n + 4294967296 * n)
@@ -150,7 +150,7 @@ module _ (l : List ℕ) (at n : ℕ) where
   short-laid few h one two a b =
       let s = toBytes 8 (8 * n + 4294967296 * n) in
       rw (le-leb n shortMost few)
-      (b ∙ ap (λ (x : List ℕ). laid x (at + 8) shortEnding) a ∙ laid-next l s at shortEnding (omega (arith, h))
+      (b ∙ ap (λ (x : List ℕ). laid x (at + 8) shortEnding) a ∙ over-next l s (toBytes 8 shortEnding) at (omega (arith, h))
       ∙ ap (laidOver l at) (sym (short-words n few)))
 
   pub long-laid : shortMost < n → at + 24 ≤ length l → (one two three : List ℕ) → one ≡ laid l at (8 * n) → two ≡ laid one (at + 8) n
@@ -160,8 +160,8 @@ module _ (l : List ℕ) (at n : ℕ) where
       let s = toBytes 8 (8 * n) in
       rw (lt-leb n shortMost many)
       (c ∙ ap (λ (x : List ℕ). laid x (at + 16) longEnding)
-      (b ∙ ap (λ (x : List ℕ). laid x (at + 8) n) a ∙ laid-next l s at n (omega (arith, h)))
-      ∙ laid-next l (s ++ toBytes 8 n) at longEnding (omega (arith, h)) ∙ ap (laidOver l at) (sym (long-words n)))
+      (b ∙ ap (λ (x : List ℕ). laid x (at + 8) n) a ∙ over-next l s (toBytes 8 n) at (omega (arith, h)))
+      ∙ over-next l (s ++ toBytes 8 n) (toBytes 8 longEnding) at (omega (arith, h)) ∙ ap (laidOver l at) (sym (long-words n)))
 
 -- values, summaries and trailer, laid one after another
 module _ (l old : List ℕ) (w : AllWords l) (g : ℕ) (e : g ≡ groups (length l)) where

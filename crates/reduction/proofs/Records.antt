@@ -10,7 +10,7 @@ use lib.Signed.{mag}
 use mir.Syntax.{w64}
 use mir.Val.{toZ}
 use borrow.Author.Tests.{lt-ltb, le-ltb}
-use Rattle.totals_spec.specs.Basics.{Signed}
+use Rattle.totals_spec.specs.Basics.{Signed, raised}
 use Rattle.totals_spec.specs.Bounds.{RangeBounds, SettingsBounds}
 use Rattle.totals_spec.specs.Format.{Format, kindOf}
 use Rattle.totals_spec.specs.Settings.{Settings}
@@ -65,3 +65,7 @@ position-fits a b h k = go (ltb a b) (nltb→le a b) (ltb→lt a b)
     go : (t : Bool) → (T (not t) → b ≤ a) → (T t → a < b) → mag (cond t (negsuc (b - suc a)) (pos (a - b))) < 2 ^ 63
     go true f g = let e : b - suc a < 9223372036854775808 = omega (arith, k) in e
     go false f g = let e : a - b < 9223372036854775808 = omega (arith, h) in e
+
+-- a rounding by what the functions of the formats say of its grid and unit
+pub moved : {f : Format} {c : Settings} (x : Signed) {r : Rounded} {g h m n : ℕ} → g ≡ h → m ≡ n → RoundedSum f c g (raised m x) r → RoundedSum f c h (raised n x) r
+moved x e k o = rw (e, k) at o

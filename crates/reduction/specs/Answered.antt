@@ -4,7 +4,7 @@ use mathlib.Core.Bool.{Bool, true, false, not, _&&_}
 use mathlib.Core.List.{List}
 use Prim.Native.Nat.{ℕ, _+_, _^_, _≤_, _<_}
 use lib.Dec.{leb, eqb}
-use lib.IntN.{subℕ}
+use lib.IntN.{ℤ, subℕ}
 use Rattle.totals_spec.specs.Basics.{Signed, flag, any}
 use Rattle.totals_spec.specs.Bounds.{RangeBounds, FormatBounds, SettingsBounds}
 use Rattle.totals_spec.specs.Format as spec
@@ -19,10 +19,7 @@ use Rattle.format.specs.Fits.{Encodes}
 use Rattle.exact.specs.declared.Rounded.{Rounded}
 use Rattle.exact.specs.declared.Unrounded.{Unrounded}
 use Rattle.exact.specs.Joined.{roundedOf}
-use Rattle.window.specs.declared.Chain.{Chain}
-use Rattle.window.specs.declared.ExactSum.{ExactSum}
-use Rattle.window.specs.declared.Outcome.the-variants.{Zero}
-use Rattle.window.specs.Joined.{Ended, Leaves}
+use Rattle.window.specs.Joined.{LeftOf}
 use Rattle.reduction.specs.declared.total.Answer.{Answer}
 use Rattle.reduction.specs.declared.total.Wide.{Wide}
 
@@ -69,20 +66,16 @@ givenAs w a = record {
   side = a .side;
 }
 
--- what the end of a chain leaves to round, where the terms do not cancel
-abbrev pub LeftOf : ExactSum → Unrounded → Type 0
-LeftOf e v = (e .outcome ≡ Zero → ⊥) → Leaves e v
-
--- the end of a chain, of which v is left, can be rounded into f on a grid g, counted from a unit `up` positions lower: f has at most the chain's digits
-pub record CanRound (f : spec.Format) (c : env.Settings) (g up : ℕ) (e : ExactSum) (v : Unrounded) : Type 0 where
-  pub chain-digits : ℕ
+-- what is left of a sum can be rounded into f on a grid g, counted from a unit `up` positions lower: f has at most the digits that are decided
+pub record CanRound (f : spec.Format) (c : env.Settings) (g up : ℕ) (v : Unrounded) : Type 0 where
+  pub decided : ℕ
+  pub sum : Signed
+  pub left : LeftOf decided sum v
   pub format : RangeBounds f
   pub settings : SettingsBounds f c
-  pub enough : spec.digits f ≤ chain-digits
-  pub ended : Ended chain-digits e
+  pub enough : spec.digits f ≤ decided
   pub grid : g < 2 ^ 62
-  pub few : up ≤ 2 ^ 30
-  pub left : LeftOf e v
+  pub few : up + 640 ≤ 2 ^ 30
 
 -- the rounding of a signed sum x on a grid g, which can be encoded, and leaves flag 128 free
 pub record RoundedSum (f : spec.Format) (c : env.Settings) (g : ℕ) (x : Signed) (r : Rounded) : Type 0 where
@@ -90,26 +83,30 @@ pub record RoundedSum (f : spec.Format) (c : env.Settings) (g : ℕ) (x : Signed
   pub encodes : Encodes f (unpackedOf (r .value))
   pub flags : r .flags < 128
 
--- the end of a chain over a list in the format f, of which v is left, and a target t that it can be rounded into, under the target's settings
-pub record Into (f t : spec.Format) (c : env.Settings) (e : ExactSum) (v : Unrounded) : Type 0 where
+-- what is left of the sum of a list in the format f, and a target t that it can be rounded into, under the target's settings
+pub record Into (f t : spec.Format) (c : env.Settings) (v : Unrounded) : Type 0 where
+  pub sum : Signed
+  pub left : LeftOf (spec.digits f) sum v
   pub list : RangeBounds f
   pub format : FormatBounds t
   pub settings : SettingsBounds t c
   pub digits-le : spec.digits t ≤ spec.digits f
-  pub ended : Ended (spec.digits f) e
-  pub left : LeftOf e v
 
--- the record of a rounding: its passes and last edge are those of a chain in the units of f
-abbrev pub recordOf : spec.Format → (subnormal products : Bool) → ℕ → Rounded → Chain → totals.Answer
-recordOf f sub products result r h = record {
+-- the record of a rounding, and of the chain behind it
+abbrev pub recordOf : (subnormal : Bool) → ℕ → Rounded → ℕ → ℤ → totals.Answer
+recordOf sub result r passes edge = record {
   result = result;
   flags = flag 128 sub + r .flags;
-  passes = h .passes;
-  lastEdge = subℕ (h .edge + spec.fall f products) (spec.origin f products);
+  passes = passes;
+  lastEdge = edge;
   refusal = 0;
   place = 0;
   side = roundedSide (unpackedOf (r .value)) (r .flags);
 }
+
+-- of a chain over a list in the format f, as a record has it
+abbrev pub lastEdgeOf : spec.Format → (products : Bool) → ℕ → ℤ
+lastEdgeOf f products edge = subℕ (edge + spec.fall f products) (spec.origin f products)
 
 -- ---- a walk that is accepted, of the summand's number u: over the pairs of a dot, or over the elements of one list
 

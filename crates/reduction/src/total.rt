@@ -3,6 +3,7 @@ use binary::encode;
 use binary::extended::encode as encode_ten;
 use exact::Rounded;
 use exact::Unrounded;
+use exact::nothing;
 use exact::round;
 use format::Format;
 use format::depth;
@@ -22,15 +23,15 @@ use format::origin;
 use format::rise;
 use format::unpacked::Unpacked;
 use values::Ten;
-use window::Chain;
 use window::ExactSum;
 use window::Outcome;
 use window::near_boundary;
 ghost use mathlib.Core.Path.{_≡_};
 ghost use mathlib.Core.Bool.{false};
-ghost use Prim.Native.Nat.{_^_, _<_, _≤_};
+ghost use Prim.Native.Nat.{ℕ, _^_, _<_, _≤_};
 ghost use lib.IntN.{subℕ};
-ghost use Rattle.totals_spec.specs.Basics.{raised};
+ghost use Rattle.totals_spec.specs.Basics.{Signed, raised};
+ghost use Rattle.totals_spec.specs.Chain.{Run};
 ghost use Rattle.totals_spec.specs.Format as spec;
 ghost use Rattle.totals_spec.specs.Decode as dec;
 ghost use Rattle.totals_spec.specs.Encode as enc;
@@ -43,8 +44,8 @@ ghost use Rattle.totals_spec.specs.Bounds.{RangeBounds, FormatBounds, SettingsB
 ghost use Rattle.format.specs.Joined.{formatOf, settingsOf, unpackedOf};
 ghost use Rattle.format.specs.Fits.{Encodes};
 ghost use Rattle.values.specs.Walks.{wide, Known};
-ghost use Rattle.window.specs.Joined.{outcomeOf, runOf, Ended};
-ghost use Rattle.reduction.specs.Answered.{wordsAs, writtenAs, answerOf, answerAs, givenAs, LeftOf, CanRound, RoundedSum, Into, recordOf};
+ghost use Rattle.window.specs.Joined.{outcomeOf, runOf, Ended, LeftOf};
+ghost use Rattle.reduction.specs.Answered.{wordsAs, writtenAs, answerOf, answerAs, givenAs, CanRound, RoundedSum, Into, recordOf, lastEdgeOf};
 
 // Where a result lies beside the exact sum. A NaN or an infinity is not compared.
 pub const EQUAL: u64 = 0;
@@ -157,38 +158,32 @@ pub fn special(f: Format, subnormal: bool, v: Unpacked, invalid: bool) -> Wide
     }
 }
 
-// The value that the end of a chain of p digits leaves to round; none where the terms cancel.
+// What the end of a chain of p digits leaves to round; nothing where the terms cancel.
 pub fn left(p: u64, e: ExactSum) -> Unrounded
     requires { ⌜ (p ≤ 64) × Ended p e ⌝ }
-    ensures { λ r. ⌜ LeftOf e r ⌝ }
+    ensures { λ r. ⌜ LeftOf p (settled.settled (outcomeOf e)) r ⌝ }
 {
     let o = e.outcome;
     let Outcome::Zero = o else {
         return near_boundary(e);
     };
-    Unrounded {
-        negative: false,
-        sticky: false,
-        position: 0,
-        significand: [0; 12],
-    }
+    nothing()
 }
 
 // The exact sum, of which v is left, counted from a unit `up` positions lower and rounded once on the grid g. Terms that cancel give a zero.
-fn round_sum(f: Format, c: Settings, g: u64, up: u64, e: ExactSum, v: Unrounded) -> Rounded
-    requires { ⌜ CanRound (formatOf f) (settingsOf c) g up e v ⌝ }
-    ensures { λ r. ⌜ RoundedSum (formatOf f) (settingsOf c) g (raised up (settled.settled (outcomeOf e))) r ⌝ }
+fn round_sum(f: Format, c: Settings, g: u64, up: u64, v: Unrounded) -> Rounded
+    requires { ⌜ CanRound (formatOf f) (settingsOf c) g up v ⌝ }
+    ensures { λ r. ⌜ ((p : ℕ) (x : Signed) → LeftOf p x v → RoundedSum (formatOf f) (settingsOf c) g (raised up x) r) ⌝ }
 {
-    let o = e.outcome;
-    let Outcome::Zero = o else {
-        let mut w = v;
-        w.position += up;
-        return round(f, c, g, w);
-    };
-    Rounded {
-        value: Unpacked::Zero(zero_sum_is_negative(c)),
-        flags: 0,
+    if v.is_nothing() {
+        return Rounded {
+            value: Unpacked::Zero(zero_sum_is_negative(c)),
+            flags: 0,
+        };
     }
+    let mut w = v;
+    w.position += up;
+    round(f, c, g, w)
 }
 
 // A position counted from the unit, as one counted from the bit worth 1.
@@ -199,17 +194,17 @@ fn position_of(at: u64, origin: u64) -> i64
     (at as i64) - (origin as i64)
 }
 
-// The record of a rounding and of the chain behind it, which counts in the units of f.
-fn recorded(f: Format, products: bool, subnormal: bool, result: u64, r: Rounded, h: Chain) -> Answer
-    requires { ⌜ RangeBounds (formatOf f) × (r .flags < 128) × (h .edge < 2 ^ 62) ⌝ }
-    ensures { λ a. ⌜ answerOf a ≡ recordOf (formatOf f) subnormal products result r h ⌝ }
+// The record of a rounding, and of the chain behind it.
+fn recorded(subnormal: bool, result: u64, r: Rounded, passes: u64, last_edge: i64) -> Answer
+    requires { ⌜ r .flags < 128 ⌝ }
+    ensures { λ a. ⌜ answerOf a ≡ recordOf subnormal result r passes «last_edge» ⌝ }
 {
     let x = r.value;
     Answer {
         result,
         flags: flag(DENORMAL_INPUT, subnormal) + r.flags,
-        passes: h.passes,
-        last_edge: position_of(h.edge + fall(f, products), origin(f, products)),
+        passes,
+        last_edge,
         refusal: 0,
         place: 0,
         side: side_of(x, r.flags),
@@ -225,38 +220,39 @@ pub fn finish(
     e: ExactSum,
     v: Unrounded,
 ) -> Wide
-    requires { ⌜ Known (wide (formatOf f)) (formatOf f) × SettingsBounds (formatOf f) (settingsOf c) × Ended (spec.digits (formatOf f)) e × LeftOf e v ⌝ }
+    requires { ⌜ Known (wide (formatOf f)) (formatOf f) × SettingsBounds (formatOf f) (settingsOf c) × Ended (spec.digits (formatOf f)) e × LeftOf (spec.digits (formatOf f)) (settled.settled (outcomeOf e)) v ⌝ }
     ensures { λ r. ⌜ answerAs (wide (formatOf f)) r ≡ givenAs (wide (formatOf f)) (totals.reported (formatOf f) subnormal products (totals.onGrid (formatOf f) products (settled.settled (outcomeOf e))) (totals.sumRounded (formatOf f) (settingsOf c) (spec.grid (formatOf f) products) (totals.towardsNegative (settingsOf c)) (totals.onGrid (formatOf f) products (settled.settled (outcomeOf e)))) (runOf e)) ⌝ }
 {
-    let r = round_sum(f, c, grid(f, products), rise(f, products), e, v);
+    let r = round_sum(f, c, grid(f, products), rise(f, products), v);
     let x = r.value;
     let b = encoded(f, x);
     let h = e.chain;
-    let answer = recorded(f, products, subnormal, b.significand, r, h);
+    let last_edge = position_of(h.edge + fall(f, products), origin(f, products));
+    let answer = recorded(subnormal, b.significand, r, h.passes, last_edge);
     Wide {
         head: b.head,
         answer,
     }
 }
 
-// The record of a target: the sum of a list in the format f, whose chain leaves v, rounded once into the format t. Counted from a unit
-// depth(t) + fall(f) positions lower, the target's least number has a position, wherever its grid lies.
+// The record of a target: the sum of a list in the format f, of which v is left, rounded once into the format t. Counted from a unit depth(t) + fall(f)
+// positions lower, the target's least number has a position, wherever its grid lies. Passes and last edge are the list's.
 pub fn print(
     f: Format,
     t: Format,
     c: Settings,
     subnormal: bool,
-    e: ExactSum,
+    passes: u64,
+    last_edge: i64,
     v: Unrounded,
 ) -> Answer
-    requires { ⌜ Into (formatOf f) (formatOf t) (settingsOf c) e v ⌝ }
-    ensures { λ r. ⌜ answerOf r ≡ several.printed (formatOf f) (formatOf t) subnormal (settled.settled (outcomeOf e)) (several.roundedInto (formatOf f) (formatOf t) (settingsOf c) (settled.settled (outcomeOf e))) (runOf e) ⌝ }
+    requires { ⌜ Into (formatOf f) (formatOf t) (settingsOf c) v ⌝ }
+    ensures { λ r. ⌜ ((x : Signed) (h : Run) → LeftOf (spec.digits (formatOf f)) x v → passes ≡ h .passes → «last_edge» ≡ lastEdgeOf (formatOf f) false (h .edge) → answerOf r ≡ several.printed (formatOf f) (formatOf t) subnormal x (several.roundedInto (formatOf f) (formatOf t) (settingsOf c) x) h) ⌝ }
 {
     let g = origin(f, false) + lift(t);
-    let r = round_sum(t, c, g, depth(t) + fall(f, false), e, v);
+    let r = round_sum(t, c, g, depth(t) + fall(f, false), v);
     let x = r.value;
-    let h = e.chain;
-    recorded(f, false, subnormal, encode(t, x), r, h)
+    recorded(subnormal, encode(t, x), r, passes, last_edge)
 }
 
 // The record of a target where the list has no term: a zero, by the signs of the listed zeros.

@@ -1,6 +1,7 @@
 // Replays the cases of standard input: works each one out, compares the answer with the one that its row holds, and prints how many agree. Totals are
 // worked out over words, over bytes and through a byte entry, the pence of a list, the totals of a table, of ranges and of a page's span by the function and
-// through its entry; pages are written through theirs, and values of ten bytes are added through the byte entries.
+// through its entry; pages are written through theirs, values of ten bytes are added through the byte entries, and one total in several formats comes
+// through its own.
 // cases.py makes the list, and says how it is laid out; README.md says where the answers come from.
 mod counts;
 mod figures;
@@ -9,6 +10,7 @@ mod pages;
 mod ranges;
 mod row;
 mod tables;
+mod targets;
 mod tens;
 mod ways;
 
@@ -23,6 +25,7 @@ use row::BIASED;
 use row::LONG;
 use row::ROW;
 use tables::tables;
+use targets::targets;
 use tens::tens;
 use ways::by_bytes;
 use ways::by_entry;
@@ -149,7 +152,7 @@ fn sections(n: u64) -> Agreed
     all
 }
 
-// The number of the rows of pence, of tables, of ranges, of pages or of ten bytes that follow.
+// The number of the rows of pence, of tables, of ranges, of pages, of ten bytes or of targets that follow.
 fn next_count() -> u64
     ensures { λ r. ⌜ r < 65536 ⌝ }
 {
@@ -202,6 +205,12 @@ fn report_tens(name: &[u8]) {
     report_of(name, tens(n), n);
 }
 
+// The same of the rows of one total in several formats.
+fn report_targets(name: &[u8]) {
+    let n = next_count();
+    report_of(name, targets(n), n);
+}
+
 fn main() {
     let mut head = [0u8; 3];
     io::read_full(0, &mut head);
@@ -247,4 +256,5 @@ fn main() {
     );
     report_pages(b"longer pages written ....................... ", true, true);
     report_tens(b"values of ten bytes ........................ ");
+    report_targets(b"one total, several formats ................. ");
 }

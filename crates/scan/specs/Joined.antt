@@ -3,6 +3,7 @@ use mathlib.Core.Path.{_≡_}
 use mathlib.Core.Bool.{Bool, true, false, Bool·beq, not, cond, _&&_, _||_}
 use mathlib.Core.List.{List, [], _∷_, _++_, map}
 use Prim.Native.Nat.{ℕ, max, _<_}
+use lib.Dec.{eqb}
 use Rattle.totals_spec.specs.Basics.{any}
 use Rattle.totals_spec.specs.Format as spec
 use Rattle.totals_spec.specs.Settings as env
@@ -154,6 +155,15 @@ TakesPair f c x s r = (l : List (ℕ × ℕ)) (apart : ℕ) → ScannedPairs f c
 -- a NaN decides, unless an infinity stands before it
 abbrev pub nanDecides : Bool → Scan → Bool
 nanDecides first s = s .nan .some && not (first && not (s .signaling) && s .«positive_infinity»)
+
+-- whether a scan leaves terms to add: there is one, and nothing that is not finite
+abbrev pub termsIn : Scan → Bool
+termsIn s = not (s .nan .some) && (not (s .invalid) && (not (s .«positive_infinity») && (not (s .«negative_infinity») && not (eqb (s .top) 0))))
+
+-- and whether what it decides leaves them
+abbrev pub leavesTerms : Early → Bool
+leavesTerms (Given v i) = false
+leavesTerms Terms = true
 
 -- no pass is run: v is the result, with flag 1 where i says so
 pub record Told (f : spec.Format) (c : env.Settings) (sub products first sig : Bool) (ops : List dec.Unpacked) (l : List terms.Item) (v : dec.Unpacked)

@@ -20,7 +20,7 @@ ghost use mathlib.Core.Bool.{true, false, _||_};
 ghost use Rattle.totals_spec.specs.Settings as env;
 ghost use Rattle.totals_spec.specs.Bounds.{FormatBounds};
 ghost use Rattle.format.specs.Joined.{formatOf, settingsOf, unpackedOf};
-ghost use Rattle.scan.specs.Joined.{withTop, withItem, Offered, Reads, Fresh, Takes, TakesPair, nanDecides, Decides};
+ghost use Rattle.scan.specs.Joined.{withTop, withItem, Offered, Reads, Fresh, Takes, TakesPair, nanDecides, Decides, termsIn, leavesTerms};
 
 pub struct Scan {
     pub subnormal: bool,
@@ -238,7 +238,7 @@ fn nan_decides(infinity_first: bool, s: Scan) -> bool
 
 // What a scan decides: a NaN, an invalid product, infinities, or zeros alone.
 pub fn decided(c: Settings, infinity_first: bool, s: Scan) -> Early
-    ensures { λ r. ⌜ Decides r (settingsOf c) «infinity_first» s ⌝ }
+    ensures { λ r. ⌜ Decides r (settingsOf c) «infinity_first» s × (leavesTerms r ≡ termsIn s) ⌝ }
 {
     if nan_decides(infinity_first, s) {
         let n = s.nan;

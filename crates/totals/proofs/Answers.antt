@@ -8,6 +8,7 @@ use native.Mathlib.Omega.{arith}
 use lib.Dec.{leb, ltb, eqb, leb→le, eqb→eq}
 use lib.ListN.{length}
 use borrow.Author.Tests.{ne-eqb}
+use Rattle.totals_spec.specs.Basics.{any}
 use Rattle.totals_spec.specs.Format.{Format, validFormat}
 use Rattle.totals_spec.specs.Settings.{Settings, validSettings, summandOf}
 use Rattle.totals_spec.specs.Bounds.{FormatBounds}
@@ -26,25 +27,25 @@ use Rattle.totals.proofs.Search.{says-at, says-nothing}
 
 -- ---- a row of tests, none of which has number 0 or 7, before another one
 
-record Tests (r : ℕ → ℕ) : Type 0 where
+pub record Tests (r : ℕ → ℕ) : Type 0 where
   pub passes : r 0 ≡ 0 → (t : ℕ) → r t ≡ t
   pub stops : r 0 ≢ 0 → (t : ℕ) → r t ≡ r 0
   pub no-seven : r 0 ≢ 7
 
-no-test : Tests (λ t. t)
+pub no-test : Tests (λ t. t)
 no-test = record { passes = λ e t. refl; stops = λ h t. absurd (h refl); no-seven = λ e. omega (arith, e) }
 
-test : (b : Bool) (n : ℕ) (r : ℕ → ℕ) → n ≢ 0 → n ≢ 7 → Tests r → Tests (λ t. refuseIf b n (r t))
+pub test : (b : Bool) (n : ℕ) (r : ℕ → ℕ) → n ≢ 0 → n ≢ 7 → Tests r → Tests (λ t. refuseIf b n (r t))
 test true n r h k s = record { passes = λ e t. absurd (h e); stops = λ q t. refl; no-seven = k }
 test false n r h k s = s
 
 module _ (r : ℕ → ℕ) (s : Tests r) (at : ℕ) (a : Answer) where
-  stopped : (k : ℕ) → k ≡ r 0 → k ≢ 0 → (t : ℕ) → refused k 0 ≡ answered (r t) at a
+  pub stopped : (k : ℕ) → k ≡ r 0 → k ≢ 0 → (t : ℕ) → refused k 0 ≡ answered (r t) at a
   stopped k q g t =
       let h = subst (λ (x : ℕ). x ≢ 0) q g in
       ap (λ (x : ℕ). refused x 0) q ∙ rw (s .stops h t, ne-eqb (r 0) 0 h, ne-eqb (r 0) 7 (s .no-seven))
 
-  seventh : r 0 ≡ 0 → refused 7 at ≡ answered (r 7) at a
+  pub seventh : r 0 ≡ 0 → refused 7 at ≡ answered (r 7) at a
   seventh e = rw (s .passes e 7)
 
 -- the width of a valid format, as the search needs it
@@ -64,6 +65,16 @@ sum-tests f c u n =
 pub sum-stopped : (f : Format) (c : Settings) (u n : ℕ) (l : List ℕ) → length l ≡ n → (k : ℕ) → k ≡ sumNumbers f c u n → k ≢ 0 → refused k 0 ≡ sumAnswer f c u l
 unfolding sumNumbers sumAnswer sumRefusal
 sum-stopped f c u n l long k q g = rw long (stopped _ (sum-tests f c u n) (firstIndex (stray f) l) (sumAccepted f c (summandOf u) l) k q g _)
+
+-- one that no earlier test refuses
+module _ (f : Format) (c : Settings) (l : List ℕ) {n : ℕ} (long : length l ≡ n) (e : sumNumbers f c 0 n ≡ 0) where
+  pub stray-number : sumRefusal f c 0 l ≡ refuseIf (any (stray f) l) 7 0
+  unfolding sumNumbers sumRefusal
+  stray-number = rw long (sum-tests f c 0 n .passes e (refuseIf (any (stray f) l) 7 0))
+
+  pub stray-told : any (stray f) l ≡ true → refused 7 (firstIndex (stray f) l) ≡ sumAnswer f c 0 l
+  unfolding sumNumbers sumAnswer sumRefusal
+  stray-told t = rw (long, t) (seventh _ (sum-tests f c 0 n) (firstIndex (stray f) l) (sumAccepted f c (summandOf 0) l) e)
 
 -- the summand 3 is the dot's
 module _ (f : Format) (c : Settings) (u n : ℕ) (e : sumNumbers f c u n ≡ 0) where

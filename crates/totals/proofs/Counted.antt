@@ -4,13 +4,13 @@ use mathlib.Core.Logic.{_≢_}
 use mathlib.Core.Bool.{Bool, true, false, _||_}
 use mathlib.Core.List.{List}
 use Prim.Native.Nat.{ℕ, _+_, _-_, _*_, _/_, _^_, _≤_, _<_}
+use native.Mathlib.Nat.{le-refl}
 use native.Mathlib.Omega.{arith}
 use lib.IntN.{ℤ, pos}
 use lib.ListN.{length}
 use lib.Ieee.{size}
 use lib.Ieee.Digits.{size-lt, size-reaches}
 use borrow.Author.Tests.{eq-eqb, ne-eqb, lt-ltb, le-ltb}
-use Rattle.limbs.specs.Value as words
 use Rattle.totals_spec.specs.Basics.{Signed, flag, any}
 use Rattle.totals_spec.specs.Format.{Format, validFormat, origin, fall}
 use Rattle.totals_spec.specs.Settings.{noSettings, value, tiesToAway}
@@ -30,12 +30,10 @@ use Rattle.totals_spec.proofs.Powers.{size-above}
 use Rattle.totals_spec.proofs.Nearest.{penny, figure-large, figure-cut, kept-small}
 use Rattle.exact.specs.declared.Unrounded.{Unrounded}
 use Rattle.exact.specs.declared.Cut.{Cut}
-use Rattle.exact.specs.Joined.{droppedOf, Stands, endOf}
+use Rattle.exact.specs.Joined.{droppedOf, significandOf, Stands, endOf}
 use Rattle.exact.proofs.Standing.{stands-size, someNumber, stands-some}
 use Rattle.window.specs.declared.ExactSum.{ExactSum}
-use Rattle.window.specs.declared.Outcome.the-variants.{Zero}
-use Rattle.window.specs.Joined.{outcomeOf, Ended, Leaves}
-use Rattle.window.proofs.Left.{leaves-low, leaves-high}
+use Rattle.window.specs.Joined.{outcomeOf, LeftOf}
 use Rattle.scan.specs.declared.Scan.{Scan}
 use Rattle.scan.specs.Joined.{Scanned}
 use Rattle.reduction.specs.Held.{Sums}
@@ -43,14 +41,11 @@ use Rattle.totals.specs.declared.pence.Pence.{Pence}
 use Rattle.totals.specs.Entered.{EntersFigure}
 use Rattle.totals.specs.PenceRecord.{penceRecord, listFigure, listPence, Countable}
 
--- what the end of a chain at 64 digits leaves
-pub leaves-countable : (e : ExactSum) (v : Unrounded) → Ended 64 e → (e .outcome ≡ Zero → ⊥) → Leaves e v → Countable v
-leaves-countable e v h n l = record {
-  some = l .some;
-  high = leaves-high 64 e v h n l;
-  low = leaves-low 64 e v h n l;
-  long = λ t. omega (arith, size-above (words.value (v .significand)) 65 (l .long 64 (h .ends) t));
-}
+-- what is left of a sum of which 64 digits are decided
+pub left-countable : (x : Signed) (v : Unrounded) → LeftOf 64 x v → 0 < significandOf v → Countable v
+left-countable x v l some =
+    let r = l .some some in
+    record { some = some; high = r .high; low = r .low; long = λ t. size-above (significandOf v) 64 (r .long t) }
 
 -- a number that a value stands for, with its sign
 abbrev standing : Unrounded → ℕ → Signed
@@ -62,7 +57,7 @@ CutAt v u r = (x : ℕ) → Stands v x → (r .kept ≡ x / 2 ^ u) × (droppedOf
 
 module _ (f : Format) (v : Unrounded) (h : Countable v) where
   ends : (x : ℕ) → Stands v x → size x ≡ endOf v
-  ends x st = stands-size (v .sticky) (words.value (v .significand)) (v .position) x st (h .some)
+  ends x st = stands-size (v .sticky) (significandOf v) (v .position) x st (h .some)
 
   end-lt : (x : ℕ) → Stands v x → x < 2 ^ endOf v
   end-lt x st = subst (λ (n : ℕ). x < 2 ^ n) (ends x st) (size-lt x)
@@ -82,8 +77,8 @@ module _ (f : Format) (v : Unrounded) (h : Countable v) where
     module _ (r : Cut) (u : ℕ) (e : u ≡ penny f) (c : CutAt v u r) where
       pub kept-fits : r .kept < 2 ^ 63
       kept-fits =
-          let st = stands-some (v .sticky) (words.value (v .significand)) (v .position) (omega (arith, h .high)) in
-          let x = someNumber (v .sticky) (words.value (v .significand)) (v .position) in
+          let st = stands-some (v .sticky) (significandOf v) (v .position) (omega (arith, h .high)) in
+          let x = someNumber (v .sticky) (significandOf v) (v .position) in
           rw (c x st .0, e) (kept-small (origin f false) (fall f false) x (endOf v) (end-lt x st) g)
 
       pub whole-is : (up : Bool) → up ≡ roundsUp tiesToAway (v .negative) (r .kept) (droppedOf (r .dropped)) → (n : ℕ) → n ≡ r .kept + flag 1 up
@@ -95,7 +90,7 @@ module _ (f : Format) (v : Unrounded) (h : Countable v) where
 
 module _ (f : Format) (l : List ℕ) {s : Scan} (g : Scanned f noSettings value l s) where
   met-is : {met : Bool} → met ≡ (s .nan .some || (s .«positive_infinity» || s .«negative_infinity»)) → any (notNumber f) l ≡ met
-  met-is e = odd-items f l ∙ sym (e ∙ rw (g .some, g .positive-infinity, g .negative-infinity))
+  met-is e = odd-items f noSettings l ∙ sym (e ∙ rw (g .some, g .positive-infinity, g .negative-infinity))
 
   module _ {met : Bool} (e : met ≡ (s .nan .some || (s .«positive_infinity» || s .«negative_infinity»))) where
     pub met-figure : met ≡ true → refusedPence 8 ≡ listFigure f l

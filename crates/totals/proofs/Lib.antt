@@ -5,9 +5,12 @@ pub mod Figures
 mod Counted
 mod Totalled
 mod Listed
+mod Keeping
+mod Targets
 mod Columns
 mod TableWritten
 mod PageWritten
+mod TargetWritten
 mod Tens
 mod RangeFigures
 mod RangeSettled

@@ -1,5 +1,5 @@
 -- Whole lists by the search for a stray bit: what that asks and tells, for pence and for totals.
-use mathlib.Core.Path.{_≡_, refl, sym, _∙_, subst}
+use mathlib.Core.Path.{_≡_, refl, sym, ap, _∙_, subst}
 use mathlib.Core.Bool.{Bool, true, false}
 use mathlib.Core.List.{List}
 use Prim.Native.Nat.{ℕ}
@@ -9,30 +9,29 @@ use lib.ListN.{length}
 use borrow.Author.Tests.{eqb-true, ne-eqb}
 use Rattle.totals_spec.specs.Format.{Format}
 use Rattle.totals_spec.specs.Settings.{Settings}
-use Rattle.totals_spec.specs.Totals.{refused}
+use Rattle.totals_spec.specs.Totals.{Answer, refused}
 use Rattle.totals_spec.specs.Pence.{refusedAt}
 use Rattle.values.specs.Walks.{wide}
 use Rattle.values.proofs.Walks.{narrow}
 use Rattle.totals.specs.declared.report.Report.{Report}
 use Rattle.totals.specs.declared.stray.Found.{Found}
 use Rattle.totals.specs.declared.stray.Found.the-variants.{At, Nothing}
-use Rattle.totals.specs.Stray.{FoundOn}
+use Rattle.totals.specs.Kept.{FoundBy}
 use Rattle.totals.specs.Walked.{numbersIn, answerTo}
 use Rattle.totals.specs.Reported.{answerIn, penceIn, TotalAsks, TotalTells, ListAsks, ListTells}
 use Rattle.totals.proofs.Answers.{summand-le, walk-format, strayed, unrefused, accepted-is}
 use Rattle.totals.proofs.Search.{says-at, says-nothing}
 
--- what a search has found, by the width of the format
-abbrev pub FoundBy : (wide dot : Bool) → Found → ℕ → List ℕ → List ℕ → Type 0
-FoundBy true b r n x y = r ≡ Nothing
-FoundBy false b r n x y = FoundOn b r n x y
-
 abbrev IsAt : Found → Type 0
 IsAt (At i) = Unit {0}
 IsAt Nothing = ⊥
 
-found-none : {A : Type 0} {i : ℕ} {r : Found} → r ≡ At i → r ≡ Nothing → A
+pub found-none : {A : Type 0} {i : ℕ} {r : Found} → r ≡ At i → r ≡ Nothing → A
 found-none e z = absurd (subst IsAt (sym e ∙ z) tt)
+
+-- the report of a stray bit is refused
+pub strayed-refused : (p : Report) (i : ℕ) → answerIn false p ≡ refused 7 i → p .refusal ≡ 0 → ⊥
+strayed-refused p i t e = let k : _≡_ {A = ℕ} 0 7 = sym e ∙ ap (λ (a : Answer). a .refusal) t in omega (arith, k)
 
 module _ (f : Format) (c : Settings) (u : ℕ) (x y : List ℕ) {n : ℕ} (left : n ≡ length x) (right : n ≡ length y) where
   -- pence are not of pairs

@@ -19,7 +19,7 @@ three-words : (old : List ℕ) (r f p : ℕ) → laid (laid (laid old 0 r) 8 f) 
 three-words old r f p = ap (λ (t : List ℕ). toBytes 8 r ++ (toBytes 8 f ++ (toBytes 8 p ++ t))) (drop-drop 8 8 (drop 8 old) ∙ drop-drop 16 8 old)
 
 -- the word of the flags and the side
-flags-side : (a : Answer) (rest : List ℕ) → a .flags < 256
+pub flags-side : (a : Answer) (rest : List ℕ) → a .flags < 256
     → toBytes 8 (a .flags + 65536 * a .side) ++ rest ≡ toBytes 2 (a .flags) ++ (toBytes 6 (a .side) ++ rest)
 flags-side a rest h =
     ap (λ (l : List ℕ). l ++ rest) (two-numbers 2 6 (a .flags) (a .side) (omega (arith, h))) ∙ append-assoc (toBytes 2 (a .flags)) (toBytes 6 (a .side)) rest

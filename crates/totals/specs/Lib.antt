@@ -4,5 +4,7 @@ pub mod Walked
 pub mod Entered
 pub mod PenceRecord
 pub mod Reported
+pub mod Kept
+pub mod Targets
 pub mod Tables
 pub mod Ranges

@@ -2,8 +2,8 @@
 use mathlib.Core.Path.{_≡_}
 use mathlib.Core.Bool.{true, cond}
 use mathlib.Core.List.{List}
-use Prim.Native.Nat.{ℕ, _^_, _≤_, _<_}
-use Rattle.limbs.specs.Value.{value, bitLength}
+use Prim.Native.Nat.{ℕ, _+_, _^_, _≤_, _<_}
+use Rattle.limbs.specs.Value.{bitLength}
 use Rattle.totals_spec.specs.Basics.{any}
 use Rattle.totals_spec.specs.Format.{Format}
 use Rattle.totals_spec.specs.Settings as env
@@ -11,6 +11,7 @@ use Rattle.totals_spec.specs.Terms.{exactSum}
 use Rattle.totals_spec.specs.Totals.{stray, firstIndex, sumTerms}
 use Rattle.totals_spec.specs.Pence as spec
 use Rattle.exact.specs.declared.Unrounded.{Unrounded}
+use Rattle.exact.specs.Joined.{significandOf}
 use Rattle.totals.specs.declared.pence.Pence.{Pence}
 
 abbrev pub penceRecord : Pence → spec.Pence
@@ -26,7 +27,7 @@ listPence f l = cond (any (stray f) l) (spec.refusedAt 7 (firstIndex (stray f) l
 
 -- a value of which whole pence can be counted: not 0, well above the unit, and a sticky bit below its first 64 digits
 pub record Countable (v : Unrounded) : Type 0 where
-  pub some : 0 < value (v .significand)
+  pub some : 0 < significandOf v
   pub high : 64 ≤ v .position
-  pub low : v .position < 2 ^ 62
-  pub long : v .sticky ≡ true → 64 < bitLength (value (v .significand))
+  pub low : v .position < 2 ^ 62 + 640
+  pub long : v .sticky ≡ true → 64 < bitLength (significandOf v)

@@ -21,11 +21,11 @@ use Rattle.exact.specs.declared.Unrounded.{Unrounded}
 use Rattle.scan.specs.declared.Scan.{Scan}
 use Rattle.scan.specs.declared.Early.{Early}
 use Rattle.scan.specs.declared.Early.the-variants.{Given, Terms}
-use Rattle.scan.specs.Joined.{Decides}
+use Rattle.scan.specs.Joined.{Decides, termsIn, leavesTerms}
 use Rattle.window.specs.declared.ExactSum.{ExactSum}
-use Rattle.window.specs.Joined.{outcomeOf, runOf, Ended}
+use Rattle.window.specs.Joined.{outcomeOf, runOf, Ended, LeftOf}
 use Rattle.reduction.specs.Answered as answered
-use Rattle.reduction.specs.Answered.{wordsAs, givenAs, LeftOf, Accepted}
+use Rattle.reduction.specs.Answered.{wordsAs, givenAs, Accepted}
 use Rattle.totals.specs.declared.report.Report.{Report}
 use Rattle.totals.specs.PenceRecord.{listFigure, listPence}
 use Rattle.totals.specs.Walked.{numbersIn, answerTo}
@@ -56,7 +56,7 @@ PenceDecides Terms s = (odd s ≡ false) × (s .top ≡ 0 → ⊥)
 
 abbrev pub DecidesBy : Bool → Early → env.Settings → Bool → Scan → Type 0
 DecidesBy true r c first s = PenceDecides r s
-DecidesBy false r c first s = Decides r c first s
+DecidesBy false r c first s = Decides r c first s × (leavesTerms r ≡ termsIn s)
 
 -- ---- the record of what it decides
 
@@ -74,8 +74,8 @@ EarlyTells false f sub v i r = answerIn (wide f) r ≡ givenAs (wide f) (totals.
 -- ---- and of a chain's end
 
 abbrev pub EndAsks : Bool → spec.Format → env.Settings → ExactSum → Unrounded → Type 0
-EndAsks true f c e v = RangeBounds f × Ended 64 e × LeftOf e v
-EndAsks false f c e v = Known (wide f) f × SettingsBounds f c × Ended (spec.digits f) e × LeftOf e v
+EndAsks true f c e v = RangeBounds f × LeftOf 64 (settled (outcomeOf e)) v
+EndAsks false f c e v = Known (wide f) f × SettingsBounds f c × Ended (spec.digits f) e × LeftOf (spec.digits f) (settled (outcomeOf e)) v
 
 abbrev pub EndTells : Bool → spec.Format → env.Settings → (products sub : Bool) → ExactSum → Report → Type 0
 EndTells true f c products sub e r = penceIn r ≡ wholeFigure f (settled (outcomeOf e))

@@ -4,6 +4,9 @@ use crate::extended;
 use crate::pages::span_refusal;
 use crate::pence::pence_of_sum;
 use crate::range::range_total;
+use crate::several::Printed;
+use crate::several::Target;
+use crate::several::in_three;
 use crate::sum_bytes;
 use crate::table::table;
 use format::Format;
@@ -13,14 +16,22 @@ use limbs::word::magnitude;
 use page::write;
 use reduction::total::Answer;
 use reduction::total::Wide;
+use reduction::total::refused;
 use values::put_word;
+use values::word_at;
 ghost use mathlib.Core.Path.{_≡_};
-ghost use mathlib.Core.Bool.{true};
+ghost use mathlib.Core.Bool.{true, _||_, cond};
+ghost use Prim.Native.Nat.{_+_, _*_, _≤_};
+ghost use lib.ListN.{length};
 ghost use Rattle.totals_spec.specs.Bytes as bytes;
+ghost use Rattle.totals_spec.specs.Bytes.{valuesIn};
 ghost use Rattle.totals_spec.specs.Extended as ten;
 ghost use Rattle.totals_spec.specs.Pages as pages;
+ghost use Rattle.further_spec.specs.Several as several;
+ghost use Rattle.totals_spec.specs.Totals as totals;
 ghost use Rattle.totals_spec.specs.Words as words;
 ghost use Rattle.format.specs.Joined.{formatOf, settingsOf};
+ghost use Rattle.page.specs.Paged.{laidOver};
 ghost use Rattle.reduction.specs.Answered.{answerOf, answerAs};
 ghost use Rattle.totals.specs.Ranges.{EntersRange};
 ghost use Rattle.totals.specs.Entered.{Enters, EntersFigure, EntersTable, Fits, FitsTens, formatFrom, formatWith, biasedFrom, settingsFrom};
@@ -585,6 +596,138 @@ pub extern "C" fn totals_range(
     let bounds = r.bounds;
     pair[0] = f64::to_bits(bounds.lower);
     pair[1] = f64::to_bits(bounds.upper);
+    0
+}
+
+// Eight bytes as a number with a sign.
+fn signed_word(x: u64) -> i64
+    ensures { λ r. ⌜ r ≡ several.signedWord x ⌝ }
+{
+    if x < 9223372036854775808 {
+        return x as i64;
+    }
+    -1 - ((u64::MAX - x) as i64)
+}
+
+// The format of the target whose first number is the j-th.
+fn format_at(targets: &[u8], j: usize) -> Format
+    requires { ⌜ 8 * (j + 13) ≤ length (now targets) ⌝ }
+    ensures { λ r. ⌜ formatOf r ≡ several.formatAt (valuesIn (now (targets .entry))) j ⌝ }
+{
+    let named = word_at(targets, j + 3) == 1;
+    let bias = signed_word(word_at(targets, j + 4));
+    format_with(
+        word_at(targets, j),
+        word_at(targets, j + 1),
+        word_at(targets, j + 2),
+        named,
+        bias,
+    )
+}
+
+// Its settings.
+fn settings_at(targets: &[u8], j: usize) -> Settings
+    requires { ⌜ 8 * (j + 13) ≤ length (now targets) ⌝ }
+    ensures { λ r. ⌜ settingsOf r ≡ several.settingsAt (valuesIn (now (targets .entry))) j ⌝ }
+{
+    settings(
+        word_at(targets, j + 5),
+        word_at(targets, j + 6),
+        word_at(targets, j + 7),
+        word_at(targets, j + 8),
+        word_at(targets, j + 9),
+        word_at(targets, j + 10),
+        word_at(targets, j + 11),
+        word_at(targets, j + 12),
+    )
+}
+
+fn target_at(targets: &[u8], j: usize) -> Target
+    requires { ⌜ 8 * (j + 13) ≤ length (now targets) ⌝ }
+    ensures { λ r. ⌜ (formatOf (r .format) ≡ several.formatAt (valuesIn (now (targets .entry))) j) × (settingsOf (r .settings) ≡ several.settingsAt (valuesIn (now (targets .entry))) j) ⌝ }
+{
+    let format = format_at(targets, j);
+    let settings = settings_at(targets, j);
+    Target { format, settings }
+}
+
+// The record of the target, where the list's format and its own are named as a whole.
+fn named_answer(bad: bool, targets: &[u8], j: usize, a: Answer) -> Answer
+    requires { ⌜ 8 * (j + 13) ≤ length (now targets) ⌝ }
+    ensures { λ r. ⌜ answerOf r ≡ cond (bad || several.misnamedAt (valuesIn (now (targets .entry))) j) (totals.refused 3 0) (answerOf a) ⌝ }
+{
+    if bad {
+        return refused(3, 0);
+    }
+    let named = word_at(targets, j + 3);
+    let bias = signed_word(word_at(targets, j + 4));
+    if misnamed(named, bias) {
+        return refused(3, 0);
+    }
+    a
+}
+
+// The records of the three targets.
+fn answers(bad: bool, f: Format, denormals_are_zero: u64, targets: &[u8], values: &[u8]) -> Printed
+    requires { ⌜ 312 ≤ length (now targets) ⌝ }
+    ensures { λ r. ⌜ (answerOf (r .first) ≡ several.answerAt bad (formatOf f) «denormals_are_zero» (valuesIn (now (values .entry))) (valuesIn (now (targets .entry))) 0) × (answerOf (r .second) ≡ several.answerAt bad (formatOf f) «denormals_are_zero» (valuesIn (now (values .entry))) (valuesIn (now (targets .entry))) 13) × (answerOf (r .third) ≡ several.answerAt bad (formatOf f) «denormals_are_zero» (valuesIn (now (values .entry))) (valuesIn (now (targets .entry))) 26) ⌝ }
+{
+    let a = target_at(targets, 0);
+    let b = target_at(targets, 13);
+    let c = target_at(targets, 26);
+    let r = in_three(f, denormals_are_zero, values, a, b, c);
+    let first = named_answer(bad, targets, 0, r.first);
+    let second = named_answer(bad, targets, 13, r.second);
+    let third = named_answer(bad, targets, 26, r.third);
+    Printed {
+        first,
+        second,
+        third,
+    }
+}
+
+// Lays a record into 32 bytes from a place on: its refusal and place, and what a byte entry writes.
+fn put_slot(answer: &mut [u8], at: usize, a: Answer)
+    requires { ⌜ (at + 32 ≤ length (now answer)) × Fits (answerOf a) (now answer) ⌝ }
+    ensures { λ _. ⌜ now (answer .exit) ≡ laidOver (now (answer .entry)) at (several.slotOf (answerOf a)) ⌝ }
+{
+    put_word(answer, at, a.refusal + 256 * a.place);
+    put_word(answer, at + 8, a.result);
+    put_word(answer, at + 16, a.flags + SIDE * a.side);
+    put_word(answer, at + 24, a.passes);
+}
+
+// The plain sum of a list in three targets: each has 32 bytes of the answer.
+#[no_mangle]
+pub extern "C" fn totals_sum_into(
+    kind: u64,
+    exponent_bits: u64,
+    width: u64,
+    bias_named: u64,
+    bias: i64,
+    denormals_are_zero: u64,
+    targets: &[u8],
+    values: &[u8],
+    answer: &mut [u8],
+) -> u64
+    ensures { λ r. ⌜ Enters (several.targetEntry kind «exponent_bits» width «bias_named» bias «denormals_are_zero» (now (targets .entry)) (now (values .entry)) (now (answer .entry))) r (now (answer .exit)) ⌝ }
+{
+    if targets.len() != 312 {
+        return 1;
+    }
+    let cut = values.len() % 8;
+    if cut != 0 {
+        return 1;
+    }
+    if answer.len() < 96 {
+        return 2;
+    }
+    let bad = misnamed(bias_named, bias);
+    let list = format_with(kind, exponent_bits, width, bias_named == 1, bias);
+    let r = answers(bad, list, denormals_are_zero, targets, values);
+    put_slot(answer, 0, r.first);
+    put_slot(answer, 32, r.second);
+    put_slot(answer, 64, r.third);
     0
 }
 

@@ -7,6 +7,7 @@ pub mod pence;
 pub mod range;
 pub mod refusal;
 mod report;
+pub mod several;
 mod stray;
 pub mod table;
 

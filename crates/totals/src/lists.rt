@@ -7,6 +7,7 @@ use crate::report::decided_by;
 use crate::report::digits_for;
 use crate::report::early;
 use crate::report::ended;
+use crate::report::met_special;
 use crate::report::pence_of;
 use crate::report::scanned;
 use crate::report::strayed;
@@ -15,6 +16,8 @@ use crate::report::wide_of;
 use crate::stray::Found;
 use crate::stray::walk_stray;
 use binary::extended::extended;
+use exact::Unrounded;
+use exact::nothing;
 use format::Format;
 use format::env::Settings;
 use reduction::total::Answer;
@@ -22,6 +25,7 @@ use reduction::total::Wide;
 use reduction::total::left;
 use reduction::walk::exact;
 use scan::Early;
+use scan::Scan;
 use scan::walk::scan;
 use values::HUNDREDFOLD;
 use values::Source;
@@ -45,7 +49,54 @@ ghost use Rattle.reduction.specs.Answered as answered;
 ghost use Rattle.reduction.specs.Answered.{answerOf, answerAs, tensRefusal};
 ghost use Rattle.totals.specs.PenceRecord.{penceRecord, listPence};
 ghost use Rattle.totals.specs.Walked.{numbersIn, answerTo};
+ghost use Rattle.totals.specs.Kept.{walkedOf, Keeps, ListKept};
 ghost use Rattle.totals.specs.Reported.{PenceAsks, TotalAsks, TotalTells, ListAsks, ListTells};
+
+// What a walk gives: its report and, for further roundings of a plain sum, what the scan saw and what the chain of passes leaves.
+pub struct Walked {
+    pub report: Report,
+    pub rest: Unrounded,
+    pub top: u64,
+    pub special: bool,
+    pub subnormal: bool,
+    pub positive_zero: bool,
+    pub negative_zero: bool,
+}
+
+fn keep(s: Scan, report: Report, rest: Unrounded) -> Walked
+    ensures { λ r. ⌜ r ≡ walkedOf s report rest ⌝ }
+{
+    Walked {
+        report,
+        rest,
+        top: s.top,
+        special: met_special(s),
+        subnormal: s.subnormal,
+        positive_zero: s.positive_zero,
+        negative_zero: s.negative_zero,
+    }
+}
+
+// A report alone.
+pub fn no_walk(report: Report) -> Walked
+    ensures { λ r. ⌜ r .report ≡ report ⌝ }
+{
+    Walked {
+        report,
+        rest: nothing(),
+        top: 0,
+        special: false,
+        subnormal: false,
+        positive_zero: false,
+        negative_zero: false,
+    }
+}
+
+fn report_of(w: Walked) -> Report
+    ensures { λ r. ⌜ r ≡ w .report ⌝ }
+{
+    w.report
+}
 
 // Of the lists of a walk, which have no stray bit: a scan, and a chain of passes where that decides nothing.
 fn total(
@@ -56,11 +107,11 @@ fn total(
     left_bytes: &[u8],
     right_words: &[u64],
     right_bytes: &[u8],
-) -> Report
+) -> Walked
     requires { ⌜ Known (wide (formatOf f)) (formatOf f) × TensThere (wide (formatOf f)) (k .source) (now «left_bytes») (now «right_bytes») ⌝ }
     requires { ⌜ Within (k .source) (now «left_words») (now «left_bytes») × Within (k .source) (now «right_words») (now «right_bytes») × Orderly k ⌝ }
     requires { ⌜ TotalAsks (isHundred k) (wide (formatOf f)) (isDot k) (formatOf f) (settingsOf c) (k .summand) (readAs (wide (formatOf f)) (k .source) (now «left_words») (now «left_bytes»)) (readAs (wide (formatOf f)) (k .source) (now «right_words») (now «right_bytes»)) ⌝ }
-    ensures { λ r. ⌜ TotalTells (isHundred k) (wide (formatOf f)) (isDot k) (formatOf f) (settingsOf c) (k .summand) (readAs (wide (formatOf f)) (k .source) (now («left_words» .entry)) (now («left_bytes» .entry))) (readAs (wide (formatOf f)) (k .source) (now («right_words» .entry)) (now («right_bytes» .entry))) r ⌝ }
+    ensures { λ r. ⌜ TotalTells (isHundred k) (wide (formatOf f)) (isDot k) (formatOf f) (settingsOf c) (k .summand) (readAs (wide (formatOf f)) (k .source) (now («left_words» .entry)) (now («left_bytes» .entry))) (readAs (wide (formatOf f)) (k .source) (now («right_words» .entry)) (now («right_bytes» .entry))) (r .report) × (k .summand ≡ 0 → wide (formatOf f) ≡ false → Keeps (formatOf f) (settingsOf c) (readAs (wide (formatOf f)) (k .source) (now («left_words» .entry)) (now («left_bytes» .entry))) r) ⌝ }
 {
     let s = scan(
         f,
@@ -72,7 +123,10 @@ fn total(
         right_bytes,
     );
     match decided_by(c, k.summand, s) {
-        Early::Given(v, invalid) => early(f, k.summand, s.subnormal, v, invalid),
+        Early::Given(v, invalid) => {
+            let report = early(f, k.summand, s.subnormal, v, invalid);
+            keep(s, report, nothing())
+        }
         Early::Terms => {
             let p = digits_for(f, k.summand);
             let e = exact(
@@ -87,7 +141,8 @@ fn total(
                 top_for(k.summand, s.top),
             );
             let rest = left(p, e);
-            ended(f, c, k.summand, s.subnormal, e, rest)
+            let report = ended(f, c, k.summand, s.subnormal, e, rest);
+            keep(s, report, rest)
         }
     }
 }
@@ -106,11 +161,11 @@ fn listed(
     left_bytes: &[u8],
     right_words: &[u64],
     right_bytes: &[u8],
-) -> Report
+) -> Walked
     requires { ⌜ Known (wide (formatOf f)) (formatOf f) × TensThere (wide (formatOf f)) (sourceOf layout start step count) (now «left_bytes») (now «right_bytes») ⌝ }
     requires { ⌜ Within (sourceOf layout start step count) (now «left_words») (now «left_bytes») × Within (sourceOf layout start step count) (now «right_words») (now «right_bytes») × Orderly (walkOf u (sourceOf layout start step count)) ⌝ }
     requires { ⌜ ListAsks (eqb u 4) (wide (formatOf f)) (eqb u 3) (formatOf f) (settingsOf c) u count (readAs (wide (formatOf f)) (sourceOf layout start step count) (now «left_words») (now «left_bytes»)) (readAs (wide (formatOf f)) (sourceOf layout start step count) (now «right_words») (now «right_bytes»)) ⌝ }
-    ensures { λ r. ⌜ ListTells (eqb u 4) (wide (formatOf f)) (eqb u 3) (formatOf f) (settingsOf c) u (readAs (wide (formatOf f)) (sourceOf layout start step count) (now («left_words» .entry)) (now («left_bytes» .entry))) (readAs (wide (formatOf f)) (sourceOf layout start step count) (now («right_words» .entry)) (now («right_bytes» .entry))) r ⌝ }
+    ensures { λ r. ⌜ ListTells (eqb u 4) (wide (formatOf f)) (eqb u 3) (formatOf f) (settingsOf c) u (readAs (wide (formatOf f)) (sourceOf layout start step count) (now («left_words» .entry)) (now («left_bytes» .entry))) (readAs (wide (formatOf f)) (sourceOf layout start step count) (now («right_words» .entry)) (now («right_bytes» .entry))) (r .report) × (u ≡ 0 → wide (formatOf f) ≡ false → r .report .refusal ≡ 0 → Keeps (formatOf f) (settingsOf c) (readAs (wide (formatOf f)) (sourceOf layout start step count) (now («left_words» .entry)) (now («left_bytes» .entry))) r) ⌝ }
 {
     let k = Walk {
         summand: u,
@@ -122,7 +177,7 @@ fn listed(
         },
     };
     match walk_stray(f.width, k, left_words, left_bytes, right_words, right_bytes) {
-        Found::At(i) => strayed(i),
+        Found::At(i) => no_walk(strayed(i)),
         Found::Nothing => total(f, c, k, left_words, left_bytes, right_words, right_bytes),
     }
 }
@@ -133,7 +188,7 @@ pub fn words(f: Format, c: Settings, u: u64, left: &[u64], right: &[u64]) -> Ans
     requires { ⌜ numbersIn (eqb u 3) (formatOf f) (settingsOf c) u (length (now left)) ≡ 0 ⌝ }
     ensures { λ r. ⌜ answerOf r ≡ answerTo (eqb u 3) (formatOf f) (settingsOf c) u (now (left .entry)) (now (right .entry)) ⌝ }
 {
-    answer_of(listed(f, c, u, 0, 0, 1, left.len(), left, b"", right, b""))
+    answer_of(report_of(listed(f, c, u, 0, 0, 1, left.len(), left, b"", right, b"")))
 }
 
 pub fn bytes(f: Format, c: Settings, u: u64, left: &[u8], right: &[u8]) -> Answer
@@ -142,7 +197,7 @@ pub fn bytes(f: Format, c: Settings, u: u64, left: &[u8], right: &[u8]) -> Answe
     ensures { λ r. ⌜ answerOf r ≡ answerTo (eqb u 3) (formatOf f) (settingsOf c) u (valuesIn (now (left .entry))) (valuesIn (now (right .entry))) ⌝ }
 {
     let none = [0u64; 1];
-    answer_of(listed(f, c, u, 1, 0, 1, left.len() / 8, &none, left, &none, right))
+    answer_of(report_of(listed(f, c, u, 1, 0, 1, left.len() / 8, &none, left, &none, right)))
 }
 
 // A total of values of ten bytes, none of which is unsupported.
@@ -153,7 +208,7 @@ pub fn tens(c: Settings, u: u64, left: &[u8], right: &[u8]) -> Wide
 {
     let none = [0u64; 1];
     let f = extended();
-    wide_of(listed(f, c, u, 1, 0, 1, left.len() / 10, &none, left, &none, right))
+    wide_of(report_of(listed(f, c, u, 1, 0, 1, left.len() / 10, &none, left, &none, right)))
 }
 
 // The pence of a list of words.
@@ -161,7 +216,7 @@ pub fn pence(f: Format, c: Settings, values: &[u64]) -> Pence
     requires { ⌜ PenceAsks (formatOf f) (settingsOf c) (length (now values)) ⌝ }
     ensures { λ r. ⌜ penceRecord r ≡ listPence (formatOf f) (now (values .entry)) ⌝ }
 {
-    pence_of(listed(
+    pence_of(report_of(listed(
         f,
         c,
         HUNDREDFOLD,
@@ -173,7 +228,7 @@ pub fn pence(f: Format, c: Settings, values: &[u64]) -> Pence
         b"",
         values,
         b"",
-    ))
+    )))
 }
 
 // The plain sum of a column: of every step-th word from `first` on, `count` of them.
@@ -189,5 +244,26 @@ pub fn column(
     requires { ⌜ numbersIn false (formatOf f) (settingsOf c) 0 count ≡ 0 ⌝ }
     ensures { λ r. ⌜ answerOf r ≡ totals.sumAnswer (formatOf f) (settingsOf c) 0 (columnOf count step (now (cells .entry)) first) ⌝ }
 {
-    answer_of(listed(f, c, 0, 0, first, step, count, cells, b"", cells, b""))
+    answer_of(report_of(listed(f, c, 0, 0, first, step, count, cells, b"", cells, b"")))
+}
+
+// The walk of a plain sum of values in bytes, for further roundings.
+pub fn sum_walk(f: Format, c: Settings, values: &[u8]) -> Walked
+    requires { ⌜ numbersIn false (formatOf f) (settingsOf c) 0 (length (now values) / 8) ≡ 0 ⌝ }
+    ensures { λ r. ⌜ ListKept (formatOf f) (settingsOf c) (valuesIn (now (values .entry))) r ⌝ }
+{
+    let none = [0u64; 1];
+    listed(
+        f,
+        c,
+        0,
+        1,
+        0,
+        1,
+        values.len() / 8,
+        &none,
+        values,
+        &none,
+        values,
+    )
 }

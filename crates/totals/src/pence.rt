@@ -4,7 +4,6 @@ use crate::lists;
 use crate::stray::greatest;
 use binary::decode;
 use exact::Unrounded;
-use exact::length;
 use exact::rounding::rounds_up;
 use format::Format;
 use format::depth;
@@ -19,22 +18,19 @@ use limbs::pair;
 use limbs::word::scaled;
 use limbs::word::widening_mul;
 use values::LIMIT;
-use window::ExactSum;
-use window::Outcome;
 ghost use mathlib.Core.Path.{_≡_};
 ghost use mathlib.Core.Bool.{cond};
 ghost use Prim.Native.Nat.{ℕ, _+_, _*_, _/_, _^_, _<_, _≤_, min};
 ghost use lib.IntN.{pos, negℤ};
 ghost use Rattle.totals_spec.specs.Bounds.{RangeBounds};
 ghost use Rattle.totals_spec.specs.Settings.{noSettings};
-ghost use Rattle.totals_spec.specs.Settled.{settled};
+ghost use Rattle.totals_spec.specs.Basics.{Signed};
 ghost use Rattle.totals_spec.specs.Pence as spec;
 ghost use Rattle.totals_spec.specs.Hundredfold.{wholeFigure};
 ghost use Rattle.format.specs.Joined.{formatOf, settingsOf, unpackedOf};
-ghost use Rattle.exact.specs.Joined.{Stands};
+ghost use Rattle.exact.specs.Joined.{significandOf, Stands};
 ghost use Rattle.arithmetic.specs.Joined.{Bounded};
-ghost use Rattle.window.specs.Joined.{outcomeOf, Ended};
-ghost use Rattle.reduction.specs.Answered.{LeftOf};
+ghost use Rattle.window.specs.Joined.{LeftOf};
 ghost use Rattle.totals.specs.PenceRecord.{penceRecord, Countable};
 
 // The record of a pence figure.
@@ -154,8 +150,7 @@ fn nearest(f: Format, v: Unrounded) -> Pence
 {
     let one = origin(f, false);
     let down = fall(f, false);
-    let s = v.significand;
-    let end = v.position + length(s);
+    let end = v.position + v.length();
     if end + down > one + 63 {
         return refused(8, 0);
     }
@@ -165,16 +160,15 @@ fn nearest(f: Format, v: Unrounded) -> Pence
     in_range(v.negative, whole.kept + flag(1, up))
 }
 
-// The figure of the end of a chain over hundredfold terms, which leaves v.
-pub fn whole_pence(f: Format, e: ExactSum, v: Unrounded) -> Pence
-    requires { ⌜ RangeBounds (formatOf f) × Ended 64 e × LeftOf e v ⌝ }
-    ensures { λ r. ⌜ penceRecord r ≡ wholeFigure (formatOf f) (settled (outcomeOf e)) ⌝ }
+// The figure of a sum of hundredfold terms, of which v is left.
+pub fn whole_pence(f: Format, v: Unrounded) -> Pence
+    requires { ⌜ RangeBounds (formatOf f) × (0 < significandOf v → Countable v) ⌝ }
+    ensures { λ r. ⌜ ((x : Signed) → LeftOf 64 x v → penceRecord r ≡ wholeFigure (formatOf f) x) ⌝ }
 {
-    let o = e.outcome;
-    let Outcome::Zero = o else {
-        return nearest(f, v);
-    };
-    in_range(false, 0)
+    if v.is_nothing() {
+        return in_range(false, 0);
+    }
+    nearest(f, v)
 }
 
 // Every setting 0: a list's pence take none.

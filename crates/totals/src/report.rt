@@ -167,7 +167,7 @@ pub fn scanned(k: Walk) -> Walk
 }
 
 // Whether a scan met a NaN or an infinity.
-fn met_special(s: Scan) -> bool
+pub fn met_special(s: Scan) -> bool
     ensures { λ r. ⌜ r ≡ odd s ⌝ }
 {
     let n = s.nan;
@@ -253,7 +253,7 @@ pub fn ended(f: Format, c: Settings, u: u64, subnormal: bool, e: ExactSum, v: Un
     ensures { λ r. ⌜ EndTells (eqb u 4) (formatOf f) (settingsOf c) (productsIn u) subnormal e r ⌝ }
 {
     if u == HUNDREDFOLD {
-        return of_pence(whole_pence(f, e, v));
+        return of_pence(whole_pence(f, v));
     }
     of_total(finish(f, c, products(u), subnormal, e, v))
 }

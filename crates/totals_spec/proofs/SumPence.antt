@@ -1,7 +1,7 @@
 -- The pence of a list (document 02, A.2): refused records, the place of refusal 7, the order, and lists of one element.
 use mathlib.Core.Path.{_≡_, refl, ap, ap₂, _∙_, subst}
 use mathlib.Core.Logic.{_≢_}
-use mathlib.Core.Bool.{Bool, true, false, not, _||_, cond}
+use mathlib.Core.Bool.{Bool, true, false, not, _&&_, _||_, cond}
 use mathlib.Core.List.{List, [], _∷_, map}
 use Prim.Native.Nat.{ℕ, suc, _+_, _*_, _/_, _^_, _≤_, _<_}
 use native.Mathlib.Nat.{mul-pos, add-comm}
@@ -10,10 +10,10 @@ use lib.Dec.{T, ltb, eqb, nltb→le, eqb→eq, eqb-refl}
 use lib.ListN.{length}
 use lib.IntN.{ℤ, pos, negℤ}
 use lib.Pow.{pow-add, pow-pos}
-use Rattle.totals_spec.specs.Basics.{Signed, difference, any, keep}
+use Rattle.totals_spec.specs.Basics.{Signed, difference, isSet, any, keep}
 use Rattle.totals_spec.specs.Format.{Format, validFormat, room, depth, lift, origin, fall}
-use Rattle.totals_spec.specs.Settings.{noSettings, value}
-use Rattle.totals_spec.specs.Decode.{Unpacked, zeroOf, finite, infinity, nan, decode, isNumber, operand}
+use Rattle.totals_spec.specs.Settings.{Settings, noSettings, value}
+use Rattle.totals_spec.specs.Decode.{Unpacked, zeroOf, finite, infinity, nan, signBit, fieldOf, decode, isNumber, isFinite, isSubnormal, operand}
 use Rattle.totals_spec.specs.Terms.{Item, Term, single, item, itemOf, isNanItem, isInfinite, termOf, plusSum, minusSum, exactSum}
 use Rattle.totals_spec.specs.Totals.{stray, limit, firstIndex, sumTerms}
 use Rattle.totals_spec.specs.Pence.{Pence, refusedPence, refusedAt, penceOf, inRange, figureOf, penceAnswer, notNumber, sumFigure, sumPence}
@@ -213,21 +213,29 @@ none-figure f ts e = rw e (ap (inRange false) (no-pence (origin f false) (fall f
 abbrev pub oddItems : List Item → Bool
 oddItems is = any isNanItem is || (any (isInfinite false) is || any (isInfinite true) is)
 
-pub odd-items : (f : Format) (l : List ℕ) → any (notNumber f) l ≡ oddItems (map (item f noSettings value) l)
-unfolding item operand
-odd-items f [] = refl
-odd-items f (b ∷ l) =
-    let is = map (item f noSettings value) l in
-    let i = itemOf value (decode f b) in
-    ap₂ _||_ (each (decode f b)) (odd-items f l)
+pub odd-items : (f : Format) (c : Settings) (l : List ℕ) → any (notNumber f) l ≡ oddItems (map (item f c value) l)
+unfolding item operand isSubnormal
+odd-items f c [] = refl
+odd-items f c (b ∷ l) =
+    let is = map (item f c value) l in
+    let i = item f c value b in
+    ap₂ _||_ (each (decode f b) (isSet (c .denormalsAreZero)) (eqb (fieldOf f b) 0) (signBit f b)) (odd-items f c l)
     ∙ joined (isNanItem i) (isInfinite false i) (isInfinite true i) (any isNanItem is) (any (isInfinite false) is) (any (isInfinite true) is)
   where
-    each : (x : Unpacked) → let i = itemOf value x in not (isNumber x) ≡ (isNanItem i || (isInfinite false i || isInfinite true i))
-    each (zeroOf s) = refl
-    each (finite s k m) = refl
-    each (infinity true) = refl
-    each (infinity false) = refl
-    each (nan s g m) = refl
+    -- with denormals-are-zero a zero stands for a finite number alone
+    each : (x : Unpacked) (z low s : Bool) → let i = itemOf value (cond (z && (isFinite x && low)) (zeroOf s) x) in
+        not (isNumber x) ≡ (isNanItem i || (isInfinite false i || isInfinite true i))
+    each (zeroOf s) true low t = refl
+    each (zeroOf s) false low t = refl
+    each (finite s k m) true true t = refl
+    each (finite s k m) true false t = refl
+    each (finite s k m) false low t = refl
+    each (infinity true) true low t = refl
+    each (infinity true) false low t = refl
+    each (infinity false) true low t = refl
+    each (infinity false) false low t = refl
+    each (nan s g m) true low t = refl
+    each (nan s g m) false low t = refl
 
     joined : (a b c x y z : Bool) → ((a || (b || c)) || (x || (y || z))) ≡ ((a || x) || ((b || y) || (c || z)))
     joined true b c x y z = refl

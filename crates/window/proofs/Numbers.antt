@@ -153,11 +153,14 @@ module _ (d r : ℕ) (o : Order) (eo : o ≡ compared d (2 ^ 65)) where
 -- ---- a quarter of a unit off a boundary m × 2^e
 
 module _ (m : ℕ) (pos : 0 < m) (small : m ≤ 2 ^ 65) where
+  under : 4 * m < 2 ^ 68
+  under = omega arith
+
   fourfold-fits : m * 2 ^ 2 < 2 ^ 768
-  fourfold-fits = lt-of-lt-of-le under (pow-mono {i = 68} {j = 768} (lit≤ tt))
-    where
-      under : m * 2 ^ 2 < 2 ^ 68
-      under = omega arith
+  fourfold-fits = lt-of-lt-of-le (omega (arith, under)) (pow-mono {i = 68} {j = 768} (lit≤ tt))
+
+  pub fourfold-small : (x : ℕ) → x ≤ 4 * m → x < 2 ^ 128
+  fourfold-small x h = lt-of-le-of-lt h (lt-of-lt-of-le under (pow-mono {i = 68} {j = 128} (lit≤ tt)))
 
   pub fourfold : (x : ℕ) → x ≡ m * 2 ^ 2 % 2 ^ 768 → x ≡ 4 * m
   fourfold x e = e ∙ mod-eq-of-lt fourfold-fits ∙ mul-comm m 4

@@ -12,7 +12,7 @@ use Rattle.totals_spec.specs.Terms as terms
 use Rattle.totals_spec.specs.Chain as chain
 use Rattle.totals_spec.specs.Settled as settled
 use Rattle.exact.specs.declared.Unrounded.{Unrounded}
-use Rattle.exact.specs.Joined.{Stands}
+use Rattle.exact.specs.Joined.{significandOf, Stands}
 use Rattle.arithmetic.specs.declared.Term.{Term}
 use Rattle.arithmetic.specs.Joined.{magnitude}
 use Rattle.window.specs.declared.Part.{Part}
@@ -177,6 +177,15 @@ pub record Ended (p : ℕ) (e : ExactSum) : Type 0 where
   pub ends : EndsWith (e .outcome) p (value (e .chain .whole)) (e .chain .place)
   pub edge : e .chain .edge < 2 ^ 62
 
+-- an outcome between two neighbouring multiples of the unit
+abbrev pub isInexact : Outcome → Bool
+isInexact out.Zero = false
+isInexact out.Exact = false
+isInexact out.Inexact = true
+isInexact out.Below = false
+isInexact out.On = false
+isInexact out.Above = false
+
 -- an outcome that is rounded: not zero, and a boundary that leaves room for two bits more
 abbrev pub Roundable : Outcome → ℕ → Type 0
 Roundable out.Zero m = ⊥
@@ -186,11 +195,31 @@ Roundable out.Below m = (0 < m) × (m ≤ 2 ^ 65)
 Roundable out.On m = (0 < m) × (m ≤ 2 ^ 65)
 Roundable out.Above m = (0 < m) × (m ≤ 2 ^ 65)
 
+-- a little more than m quarters of a unit of 2^e
+pub record Quarters (negative : Bool) (e m : ℕ) (v : Unrounded) : Type 0 where
+  pub sign : v .negative ≡ negative
+  pub sticky : v .sticky ≡ true
+  pub position : v .position ≡ e - 2
+  pub is : significandOf v ≡ m
+
 -- the value that a chain's end leaves to round, with what `round` of the crate exact asks of it
 pub record Leaves (e : ExactSum) (v : Unrounded) : Type 0 where
   pub stands : Stands v (settled.settled (outcomeOf e) .mag)
   pub negative : v .negative ≡ settled.settled (outcomeOf e) .neg
-  pub some : 0 < value (v .significand)
+  pub some : 0 < significandOf v
   pub high : e .chain .place ≤ v .position + 2
-  pub low : v .position ≤ e .chain .place
-  pub long : (p : ℕ) → EndsWith (e .outcome) p (value (e .chain .whole)) (e .chain .place) → v .sticky ≡ true → 2 ^ suc p ≤ value (v .significand)
+  pub low : v .position ≤ e .chain .place + 640
+  pub long : (p : ℕ) → p ≤ 64 → EndsWith (e .outcome) p (value (e .chain .whole)) (e .chain .place) → v .sticky ≡ true → 2 ^ p ≤ significandOf v
+
+-- what is left to round of a signed sum x, by which its first p digits are decided
+pub record Remains (p : ℕ) (x : words.Signed) (v : Unrounded) : Type 0 where
+  pub stands : Stands v (x .mag)
+  pub negative : v .negative ≡ x .neg
+  pub high : 64 ≤ v .position
+  pub low : v .position < 2 ^ 62 + 640
+  pub long : v .sticky ≡ true → 2 ^ p ≤ significandOf v
+
+-- nothing is left of terms that cancel
+pub record LeftOf (p : ℕ) (x : words.Signed) (v : Unrounded) : Type 0 where
+  pub none : significandOf v ≡ 0 → x ≡ record { neg = false; mag = 0 }
+  pub some : 0 < significandOf v → Remains p x v

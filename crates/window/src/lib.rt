@@ -1,6 +1,7 @@
 // The exact sum of terms, found in a window of 768 bits that moves down: what one pass sees, and what follows from it.
 use arithmetic::Term;
 use exact::Unrounded;
+use exact::narrowed;
 use limbs::pair;
 use limbs::word::larger;
 use limbs_window as window;
@@ -12,7 +13,7 @@ ghost use Rattle.limbs.specs.Value.{value, bitLength};
 ghost use Rattle.totals_spec.specs.Basics.{flag};
 ghost use Rattle.totals_spec.specs.Chain as spec;
 ghost use Rattle.arithmetic.specs.Joined.{magnitude};
-ghost use Rattle.window.specs.Joined.{PartAt, started, boundOf, sidedOf, exactOf, signedOf, nearBy, counted, Ready, Ends, Sides, Goes, Bounds, Follows, Steps, Roundable, Leaves};
+ghost use Rattle.window.specs.Joined.{PartAt, started, boundOf, sidedOf, exactOf, signedOf, nearBy, counted, Ready, Ends, Sides, Goes, Bounds, Follows, Steps, Deep, isInexact, Roundable, Quarters, Leaves};
 
 // The part of a term at or above an edge, to be added `up` bits above it, whether there is some, and the lost bit plus one.
 pub struct Part {
@@ -347,46 +348,48 @@ pub struct ExactSum {
     pub outcome: Outcome,
 }
 
+// Whether an outcome is a number between S and S + 1 units.
+fn is_inexact(o: Outcome) -> bool
+    ensures { λ r. ⌜ r ≡ isInexact o ⌝ }
+{
+    match o {
+        Outcome::Zero => false,
+        Outcome::Exact => false,
+        Outcome::Inexact => true,
+        Outcome::Below => false,
+        Outcome::On => false,
+        Outcome::Above => false,
+    }
+}
+
 // The value to round at the end of a chain whose sum is not zero: S, or a value just above or below the boundary, which lies between the same
 // two boundaries as the sum.
 pub fn near_boundary(e: ExactSum) -> Unrounded
-    requires { ⌜ (3 ≤ e .chain .place) × Roundable (e .outcome) (value (e .chain .whole)) ⌝ }
+    requires { ⌜ Deep (e .chain .place) × Roundable (e .outcome) (value (e .chain .whole)) ⌝ }
     ensures { λ r. ⌜ Leaves e r ⌝ }
 {
     let o = e.outcome;
     let c = e.chain;
     let w = c.whole;
-    match o {
-        Outcome::Zero => at_place(false, c, w),
-        Outcome::Exact => at_place(false, c, w),
-        Outcome::Inexact => at_place(true, c, w),
-        Outcome::On => at_place(false, c, w),
-        Outcome::Above => quarter_off(c, window::shl(w, 2)),
-        Outcome::Below => quarter_off(c, window::sub(window::shl(w, 2), window::power(0))),
+    if let Outcome::Above = o {
+        return quarter_off(c, window::shl(w, 2));
     }
+    if let Outcome::Below = o {
+        return quarter_off(c, window::sub(window::shl(w, 2), window::power(0)));
+    }
+    narrowed(c.negative, is_inexact(o), c.place, w)
 }
 
-// The chain's number itself, or a little more.
-fn at_place(sticky: bool, c: Chain, w: [u64; 12]) -> Unrounded
-    ensures { λ r. ⌜ (r .negative ≡ c .negative) × (r .sticky ≡ sticky) × (r .position ≡ c .place) × (r .significand ≡ w) ⌝ }
-{
-    Unrounded {
-        negative: c.negative,
-        sticky,
-        position: c.place,
-        significand: w,
-    }
-}
-
-// A little more than w quarters of the boundary's unit.
+// A little more than w quarters of the boundary's unit. A boundary has few enough bits that two words hold them all.
 fn quarter_off(c: Chain, w: [u64; 12]) -> Unrounded
-    requires { ⌜ 2 ≤ c .place ⌝ }
-    ensures { λ r. ⌜ (r .negative ≡ c .negative) × (r .sticky ≡ true) × (r .position ≡ c .place - 2) × (r .significand ≡ w) ⌝ }
+    requires { ⌜ (2 ≤ c .place) × (value w < 2 ^ 128) ⌝ }
+    ensures { λ r. ⌜ Quarters (c .negative) (c .place) (value w) r ⌝ }
 {
     Unrounded {
         negative: c.negative,
         sticky: true,
         position: c.place - 2,
-        significand: w,
+        low: w[0],
+        high: w[1],
     }
 }

@@ -19,7 +19,7 @@ env s = settingsOf (s .args .c)
 
 -- once the highest bit is known
 abbrev entry : tie.After-length → tie.Start
-entry t = t .before .before
+entry t = t .before
 
 ends : (t : tie.After-length) → let s = entry t in EndsAt (form s) (env s) (s .args .g) (s .args .v) (s .args .v .position + t .length .result)
 ends t = record { rounds = entry t .pre; is = omega arith; top = omega arith }

@@ -1,23 +1,26 @@
 -- `exact::Unrounded::cut` meets its contract.
 use mathlib.Core.Path.{_≡_, sym, ap, _∙_}
-use Prim.Native.Nat.{ℕ, _-_, _*_, _^_}
+use Prim.Native.Nat.{ℕ, _+_, _-_, _*_, _/_, _%_, _^_}
 use native.Mathlib.Omega.{arith}
-use lib.ListN.{getD}
 use borrow.Author.Needs.{needs}
-use Rattle.limbs.specs.Value.{value}
-use Rattle.exact.proofs.Standing.{CutUp, cut-up, cut-down, first-word, one-word, stands-kept, stands-dropped}
+use Rattle.exact.specs.Joined.{significandOf}
+use Rattle.exact.proofs.Standing.{CutUp, cut-up, cut-down, two-word-digits, stands-kept, stands-dropped}
 use Rattle.exact.proofs.Unrounded.cut.Statement.{statement}
 use Rattle.exact.proofs.Unrounded.cut.Tie as tie
 
 -- where the cut is at or below the position
 abbrev entry : tie.Then1 → tie.Start
-entry t = t .before .before .before
+entry t = t .before .before
 
-up : (t : tie.Then1) → let s = entry t in let v = s .args .self in CutUp (v .sticky) (value (v .significand)) (v .position) (s .args .lowest)
+up : (t : tie.Then1) → let s = entry t in let v = s .args .self in CutUp (v .sticky) (significandOf v) (v .position) (s .args .lowest)
 up t = let s = entry t in cut-up _ _ _ _ (s .pre .1) (t .if1 .taken) (s .pre .0 .0) (s .pre .0 .1)
 
-word : (t : tie.Then1) → let l = entry t .args .self .significand in getD l 0 0 ≡ value l
-word t = first-word _ (up t .few)
+word : (t : tie.Then1) → let v = entry t .args .self in v .low ≡ significandOf v
+word t = omega (arith, up t .few)
+
+-- above the position: the digits from the last dropped one up
+abbrev below : tie.After-shr → tie.Else1
+below t = t .before .before
 
 scaled-requires : tie.Need-scaled-requires
 scaled-requires c κs = (up (c .before) .near, rw (word (c .before)) (up (c .before) .fits))
@@ -34,33 +37,34 @@ returns c =
 returns-2 : tie.Need-returns-2
 returns-2 c =
     let n = c .before in
-    let k = n .before .before .before in
-    let e = k .before in
-    let left = e .if1 .left in
-    let s = e .before .before .before in
+    let r = n .before .before in
+    let a = r .before in
+    let k = a .before in
+    let e = below k in
+    let s = e .before .before in
     let v = s .args .self in
-    let m = value (v .significand) in
+    let m = significandOf v in
     let u = s .args .lowest in
-    let a = v .position in
-    let w = c .shr-at .ensures ∙ one-word _ (cut-down m a (u - a) u (omega (arith, left)) (s .pre .0 .1)) in
+    let i = u - v .position - 1 in
+    let at : v .position + (i + 1) ≡ u = omega (arith, e .if1 .left) in
+    let one = k .shr .result in
+    let word = cut-down m (v .position) (i + 1) u at (s .pre .0 .1) in
+    let first : one .low % 2 ≡ m / 2 ^ i % 2 = omega (arith, k .shr .ensures) in
     λ x st. (
-      w ∙ sym (stands-kept (v .sticky) m a x st (u - a) u (omega (arith, left))),
-      n .new .ensures
-          ∙ rw (n .before .before .bit .ensures, n .before .some-below .ensures)
-          (sym (stands-dropped (v .sticky) m a x st (u - a - 1) u (omega (arith, left)))),
+      c .funnel .ensures ∙ two-word-digits m i (one .low) (one .high) (k .shr .ensures) word ∙ sym (stands-kept (v .sticky) m (v .position) x st (i + 1) u at),
+      n .new .ensures ∙ rw (r .either .ensures, a .any-below .ensures, first) (sym (stands-dropped (v .sticky) m (v .position) x st i u (omega (arith, at)))),
     )
 
 pub cut-spec : {M : Type 1} → statement M
 cut-spec =
     tie.close
     (tie.spec
-    (λ c. search needs)
     scaled-requires
     returns
     (λ c. search needs)
     (λ c. search needs)
     (λ c κs. search needs)
-    (λ c. search needs)
+    (λ c κs. search needs)
     (λ c κs. search needs)
     (λ c κs. search needs)
     (λ c κs. search needs)

@@ -1,20 +1,20 @@
 -- `reduction::total::round_sum` meets its contract.
-use mathlib.Core.Path.{_≡_, ap}
-use Prim.Native.Nat.{_^_}
-use native.Mathlib.Nat.{zero-mul}
+use mathlib.Core.Path.{_≡_, sym, ap, _∙_}
+use mathlib.Core.Bool.{true, false}
+use Prim.Native.Nat.{ℕ, _^_, _<_}
+use native.Mathlib.Nat.{zero-mul, pos-of-ne-zero}
 use native.Mathlib.Omega.{arith}
+use borrow.Author.Needs.{needs}
+use borrow.Author.Tests.{eqb-true, eqb-false}
 use Rattle.totals_spec.specs.Basics.{raised}
 use Rattle.totals_spec.specs.Format.{Format}
 use Rattle.totals_spec.specs.Settings.{Settings}
 use Rattle.totals_spec.specs.Decode.{zeroOf}
-use Rattle.totals_spec.specs.Settled.{settled}
 use Rattle.totals_spec.specs.Totals.{towardsNegative, sumRounded}
 use Rattle.format.specs.Joined.{formatOf, settingsOf}
-use Rattle.window.specs.declared.Outcome.{Outcome}
-use Rattle.window.specs.declared.Outcome.the-variants.{Zero}
-use Rattle.window.specs.Joined.{outcomeBy}
-use Rattle.window.proofs.Left.{not-zero, leaves-low, leaves-rounds, leaves-sum}
-use borrow.Author.Needs.{needs}
+use Rattle.exact.specs.Joined.{significandOf}
+use Rattle.window.specs.Joined.{Remains}
+use Rattle.window.proofs.Left.{left-sum, left-rounds}
 use Rattle.reduction.proofs.total.round_sum.Statement.{statement}
 use Rattle.reduction.proofs.total.round_sum.Tie as tie
 
@@ -24,41 +24,43 @@ form s = formatOf (s .args .f)
 abbrev env : tie.Start → Settings
 env s = settingsOf (s .args .c)
 
--- where the sum is not 0
-some : (m : tie.At-match-keys2) → m .before .args .e .outcome ≡ Zero → ⊥
-some m = not-zero _ (m .match .keys2)
+-- where nothing is left
+returns : tie.Need-returns
+unfolding sumRounded raised
+returns c p x l =
+    let t = c .before in
+    let s = t .before .before .args in
+    let z = l .none (eqb-true _ 0 (sym (t .before .is-nothing .ensures) ∙ t .if1 .taken)) in
+    rw (z, zero-mul (2 ^ s .up))
+    (record { equal = λ i. record { value = zeroOf (c .zero-sum-is-negative .ensures i); flags = 0 }; encodes = tt; flags = omega arith })
+
+-- where something is
+abbrev entry : tie.Else1 → tie.Start
+entry e = e .before .before
+
+some : (e : tie.Else1) → 0 < significandOf (entry e .args .v)
+some e = pos-of-ne-zero (eqb-false _ 0 (sym (e .before .is-nothing .ensures) ∙ e .if1 .left))
 
 add-w : tie.Need-add-w
-add-w c =
-    let m = c .before in
-    let s = m .before in
-    omega (arith, leaves-low _ (s .args .e) (s .args .v) (s .pre .ended) (some m) (s .pre .left (some m)), s .pre .few)
+add-w c = let e = c .before in let s = entry e in omega (arith, s .pre .left .some (some e) .low, s .pre .few)
 
 round-requires : tie.Need-round-requires
 round-requires c κs =
-    let m = c .before in
-    let s = m .before in
+    let e = c .before in
+    let s = entry e in
     let h = s .pre in
-    leaves-rounds (form s) (env s) _ _ (s .args .e) (s .args .v) _ (h .format) (h .settings) (h .enough) (h .grid) (h .few) (h .ended)
-    (some m) (h .left (some m))
+    left-rounds (h .decided) (h .sum) (s .args .v) (some e) (h .left .some (some e)) (form s) (env s) _ _ (h .format) (h .settings) (h .enough) (h .grid) (h .few)
 
-returns : tie.Need-returns
-returns c =
-    let m = c .before .before in
-    let s = m .before in
+returns-2 : tie.Need-returns-2
+returns-2 c p x l =
+    let e = c .before .before in
+    let s = entry e in
     let o = c .round .ensures in
     record {
-      equal = leaves-sum (form s) (env s) _ (towardsNegative (env s)) (s .args .e) (s .args .v) _ _ (s .pre .left (some m)) o;
+      equal = left-sum p x (s .args .v) (some e) (l .some (some e)) (form s) (env s) _ _ (towardsNegative (env s)) _ o;
       encodes = o .encodes;
       flags = o .flags;
     }
 
-returns-2 : tie.Need-returns-2
-unfolding settled sumRounded raised
-returns-2 c =
-    let s = c .before .before .before .args in
-    rw (ap (λ (o : Outcome). settled (outcomeBy o (s .e .chain))) (c .before .enum-told .given .1), zero-mul (2 ^ s .up))
-    (record { equal = λ i. record { value = zeroOf (c .zero-sum-is-negative .ensures i); flags = 0 }; encodes = tt; flags = omega arith })
-
 pub round-sum-spec : {M : Type 1} → statement M
-round-sum-spec = tie.close (tie.spec (λ c. search needs) add-w round-requires returns (λ c κs. search needs) returns-2)
+round-sum-spec = tie.close (tie.spec (λ c κs. search needs) (λ c κs. search needs) returns add-w round-requires returns-2)

@@ -1,5 +1,6 @@
 -- `totals::lists::bytes` meets its contract.
-use mathlib.Core.Path.{sym, _∙_}
+use mathlib.Core.Path.{sym, _∙_, ap}
+use mathlib.Core.Bool.{false}
 use mathlib.Core.List.{List}
 use Prim.Native.Nat.{ℕ, _/_}
 use native.Mathlib.Omega.{arith}
@@ -15,6 +16,7 @@ use Rattle.values.proofs.Sources.{Gives, whole-gives, whole-straight}
 use Rattle.values.proofs.Walks.{narrow, narrow-known, narrow-tens}
 use Rattle.totals.proofs.Answers.{walk-format}
 use Rattle.totals.proofs.Listed.{total-asked, total-told}
+use Rattle.totals.specs.Reported.{answerIn}
 use Rattle.totals.proofs.lists.bytes.Statement.{statement}
 use Rattle.totals.proofs.lists.bytes.Tie as tie
 
@@ -45,11 +47,12 @@ listed-requires c κs =
 
 returns : tie.Need-returns
 returns c =
-    let l = c .before in
+    let r = c .before in
+    let l = r .before in
     let s = entry (l .before) in
-    c .answer-of .ensures
+    c .answer-of .ensures ∙ ap (answerIn false) (r .report-of .ensures)
     ∙ total-told (formatOf (s .args .f)) (settingsOf (s .args .c)) (s .args .u) (length (s .args .left .now) / 8) (s .pre .1) _ _ _
-    (rw (narrow (formatOf (s .args .f)) (bounds s), gives-left s _ .are, gives-right s _ .are) at (l .listed .ensures))
+    (rw (narrow (formatOf (s .args .f)) (bounds s), gives-left s _ .are, gives-right s _ .are) at (l .listed .ensures .0))
 
 pub bytes-spec : {M : Type 1} → statement M
-bytes-spec = tie.close (tie.spec (λ c. search needs) (λ c. search needs) listed-requires (λ c κs. search needs) returns)
+bytes-spec = tie.close (tie.spec (λ c. search needs) (λ c. search needs) listed-requires (λ c κs. search needs) (λ c κs. search needs) returns)

@@ -1,5 +1,5 @@
 -- `totals::lists::column` meets its contract.
-use mathlib.Core.Path.{_≡_, _∙_}
+use mathlib.Core.Path.{_≡_, _∙_, ap}
 use mathlib.Core.Bool.{false}
 use mathlib.Core.List.{List}
 use Prim.Native.Nat.{ℕ}
@@ -15,6 +15,7 @@ use Rattle.values.proofs.Walks.{narrow, narrow-known, narrow-tens}
 use Rattle.totals.proofs.Answers.{walk-format}
 use Rattle.totals.proofs.Columns.{column-strided, column-there, column-room}
 use Rattle.totals.proofs.Listed.{total-asked}
+use Rattle.totals.specs.Reported.{answerIn}
 use Rattle.totals.proofs.lists.column.Statement.{statement}
 use Rattle.totals.proofs.lists.column.Tie as tie
 
@@ -51,9 +52,10 @@ listed-requires c κs =
 
 returns : tie.Need-returns
 returns c =
-    let l = c .before in
+    let r = c .before in
+    let l = r .before in
     let s = entry (l .before) in
-    c .answer-of .ensures ∙ rw (narrow (formatOf (s .args .f)) (bounds s), are s _) at (l .listed .ensures)
+    c .answer-of .ensures ∙ ap (answerIn false) (r .report-of .ensures) ∙ rw (narrow (formatOf (s .args .f)) (bounds s), are s _) at (l .listed .ensures .0)
 
 pub column-spec : {M : Type 1} → statement M
-column-spec = tie.close (tie.spec (λ c. search needs) (λ c. search needs) listed-requires (λ c κs. search needs) returns)
+column-spec = tie.close (tie.spec (λ c. search needs) (λ c. search needs) listed-requires (λ c κs. search needs) (λ c κs. search needs) returns)

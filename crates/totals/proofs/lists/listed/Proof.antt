@@ -15,7 +15,8 @@ use Rattle.values.specs.declared.Source.{Source}
 use Rattle.values.specs.Sources.{sourceOf}
 use Rattle.values.specs.Walks.{wide, readAs}
 use Rattle.values.proofs.Walks.{known-range, read-length}
-use Rattle.totals.proofs.Listed.{FoundBy, list-strayed, list-asks, list-told}
+use Rattle.totals.proofs.Listed.{strayed-refused, list-strayed, list-asks, list-told}
+use Rattle.totals.specs.Kept.{FoundBy}
 use Rattle.totals.proofs.lists.listed.Statement.{statement}
 use Rattle.totals.proofs.lists.listed.Tie as tie
 
@@ -80,19 +81,26 @@ total-requires c κs =
 
 returns : tie.Need-returns
 returns c =
-    let i = c .before .before in
+    let r = c .before in
+    let i = r .before .before in
     let t = i .before .before in
     let s = begun t in
-    list-strayed (form s) (env s) (u s) (left s) (right s) (many-left s) (many-right s) (eqb (u s) 4) (wide (form s)) refl (s .pre .1 .1) _ _ (found t)
-    (i .i .given .1) _ (c .strayed .ensures)
+    let told = r .strayed .ensures in
+    rw (c .no-walk .ensures) (
+      list-strayed (form s) (env s) (u s) (left s) (right s) (many-left s) (many-right s) (eqb (u s) 4) (wide (form s)) refl (s .pre .1 .1) _ _ (found t)
+          (i .i .given .1) _ told,
+      λ z w n. absurd (strayed-refused (r .strayed .result) _ (told .0) n),
+    )
 
 returns-2 : tie.Need-returns-2
 returns-2 c =
     let e = c .before in
     let t = e .before .before in
-    let s = begun t in
-    list-told (form s) (env s) (u s) (left s) (right s) (many-left s) (many-right s) (eqb (u s) 4) (wide (form s)) refl (s .pre .1 .1) _ (found t)
-    (e .enum-told .given .1) _ (c .total .ensures)
+    let s = begun t in (
+      list-told (form s) (env s) (u s) (left s) (right s) (many-left s) (many-right s) (eqb (u s) 4) (wide (form s)) refl (s .pre .1 .1) _ (found t)
+          (e .enum-told .given .1) _ (c .total .ensures .0),
+      λ z w n. c .total .ensures .1 z w,
+    )
 
 pub listed-spec : {M : Type 1} → statement M
 listed-spec =
@@ -100,6 +108,7 @@ listed-spec =
     (tie.spec
     walk-stray-requires
     (λ c. search needs)
+    (λ c κs. search needs)
     (λ c κs. search needs)
     (λ c. search needs)
     total-requires

@@ -1,5 +1,5 @@
 -- `totals::lists::pence` meets its contract.
-use mathlib.Core.Path.{refl, _∙_}
+use mathlib.Core.Path.{refl, _∙_, ap}
 use mathlib.Core.List.{List}
 use Prim.Native.Nat.{ℕ}
 use native.Mathlib.Omega.{arith}
@@ -9,6 +9,7 @@ use Rattle.format.specs.Joined.{formatOf}
 use Rattle.values.specs.Sources.{sourceOf}
 use Rattle.values.proofs.Sources.{Gives, whole-gives, whole-straight}
 use Rattle.values.proofs.Walks.{narrow, narrow-known, narrow-tens}
+use Rattle.totals.specs.Reported.{penceIn}
 use Rattle.totals.proofs.lists.pence.Statement.{statement}
 use Rattle.totals.proofs.lists.pence.Tie as tie
 
@@ -28,9 +29,10 @@ listed-requires c κs =
 
 returns : tie.Need-returns
 returns c =
-    let l = c .before in
+    let r = c .before in
+    let l = r .before in
     let s = entry (l .before) in
-    c .pence-of .ensures ∙ rw (narrow (formatOf (s .args .f)) (s .pre .0), gives s _ .are) at (l .listed .ensures)
+    c .pence-of .ensures ∙ ap penceIn (r .report-of .ensures) ∙ rw (narrow (formatOf (s .args .f)) (s .pre .0), gives s _ .are) at (l .listed .ensures .0)
 
 pub pence-spec : {M : Type 1} → statement M
-pence-spec = tie.close (tie.spec (λ c. search needs) (λ c. search needs) listed-requires (λ c κs. search needs) returns)
+pence-spec = tie.close (tie.spec (λ c. search needs) (λ c. search needs) listed-requires (λ c κs. search needs) (λ c κs. search needs) returns)

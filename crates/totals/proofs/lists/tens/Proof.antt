@@ -1,5 +1,5 @@
 -- `totals::lists::tens` meets its contract.
-use mathlib.Core.Path.{refl, sym, _∙_}
+use mathlib.Core.Path.{refl, sym, _∙_, ap}
 use mathlib.Core.Bool.{true}
 use Prim.Native.Nat.{_/_}
 use native.Mathlib.Omega.{arith}
@@ -9,6 +9,7 @@ use Rattle.format.specs.Joined.{formatOf, settingsOf}
 use Rattle.values.proofs.Sources.{whole-straight}
 use Rattle.totals.proofs.Totalled.{heads-alike}
 use Rattle.totals.proofs.Tens.{tens-there, tens-within, tens-asked, tens-told}
+use Rattle.totals.specs.Reported.{answerIn}
 use Rattle.totals.proofs.lists.tens.Statement.{statement}
 use Rattle.totals.proofs.lists.tens.Tie as tie
 
@@ -39,16 +40,18 @@ listed-requires c κs =
 
 returns : tie.Need-returns
 returns c =
-    let l = c .before in
+    let r = c .before in
+    let l = r .before in
     let x = begun (l .before) in
     let s = entry x in
     let a = s .args in
     let (same, head) = c .wide-of .ensures in
-    sym (heads-alike true (l .listed .result) (c .wide-of .result) (sym same) (sym head))
+    let whole = sym (heads-alike true (r .report-of .result) (c .wide-of .result) (sym same) (sym head)) in
+    whole ∙ ap (answerIn true) (r .report-of .ensures)
     ∙ tens-told (formatOf (x .extended .result)) (x .extended .ensures) (settingsOf (a .c)) (a .u) (a .left .now) (a .right .now) (s .pre .0) _ (s .pre .1 .1) _
-    (l .listed .ensures)
+    (l .listed .ensures .0)
 
 pub tens-spec : {M : Type 1} → statement M
 tens-spec =
     tie.close
-    (tie.spec (λ c κs. search needs) (λ c. search needs) (λ c. search needs) listed-requires (λ c κs. search needs) returns)
+    (tie.spec (λ c κs. search needs) (λ c. search needs) (λ c. search needs) listed-requires (λ c κs. search needs) (λ c κs. search needs) returns)

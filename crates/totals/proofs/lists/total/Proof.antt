@@ -1,8 +1,9 @@
 -- `totals::lists::total` meets its contract.
-use mathlib.Core.Path.{refl}
+use mathlib.Core.Path.{_≡_, refl, sym, _∙_}
 use mathlib.Core.Bool.{Bool, cond}
 use mathlib.Core.List.{List}
-use Prim.Native.Nat.{ℕ}
+use Prim.Native.Nat.{ℕ, _<_}
+use native.Mathlib.Omega.{arith}
 use borrow.Author.Needs.{needs}
 use Rattle.totals_spec.specs.Format as spec
 use Rattle.totals_spec.specs.Settings.{Settings}
@@ -11,8 +12,10 @@ use Rattle.format.specs.Joined.{formatOf, settingsOf}
 use Rattle.values.specs.Walks.{wide, readAs, isDot, isHundred, addedIn}
 use Rattle.values.proofs.Walks.{known-range, read-length}
 use Rattle.reduction.specs.Held.{Sums}
-use Rattle.totals.proofs.Totalled.{Seen, scanned-orderly, asks-few, digits-most, top-room, early-asks, early-told, exact-asks}
+use Rattle.totals.proofs.Totalled.{given-terms, scanned-orderly, asks-few, digits-most, top-room, early-asks, early-told, exact-asks}
 use Rattle.totals.proofs.Totalled.{pence-narrow, end-asks, end-told}
+use Rattle.totals.specs.Kept.{Seen}
+use Rattle.totals.proofs.Keeping.{keeps, chain-ends}
 use Rattle.totals.proofs.lists.total.Statement.{statement}
 use Rattle.totals.proofs.lists.total.Tie as tie
 
@@ -39,7 +42,7 @@ entry t = let k = t .before .before in k .before .before .before
 abbrev hundred : tie.Start → Bool
 hundred s = isHundred (s .args .k)
 
-seen : (t : tie.After-scan) → let s = entry (t .before) in Seen (form s) (env s) (u s) (left s) (right s) (hundred s) (t .scan .result)
+seen : (t : tie.After-scan) → let s = entry (t .before) in Seen (hundred s) (form s) (env s) (u s) (left s) (right s) (t .scan .result)
 seen t = rw (t .before .scanned .ensures .0, t .before .scanned .ensures .1) at (t .scan .ensures)
 
 abbrev begun : tie.After-decided-by → tie.Start
@@ -66,11 +69,17 @@ early-requires c κs =
 
 returns : tie.Need-returns
 returns c =
-    let v = c .before .before in
+    let n = c .before in
+    let a = n .before in
+    let v = a .before .before in
     let d = v .before .before in
     let s = begun d in
-    early-told (form s) (env s) (u s) (left s) (right s) _ _ _ _ (v .v .given .1) (hundred s) (seen (d .before)) (s .pre .1 .1) (d .decided-by .ensures) _
-    (c .early .ensures)
+    let is = v .v .given .1 in
+    rw (c .keep .ensures) (
+      early-told (form s) (env s) (u s) (left s) (right s) _ _ _ _ is (hundred s) (seen (d .before)) (s .pre .1 .1) (d .decided-by .ensures) _
+          (a .early .ensures),
+      λ z w. keeps (form s) (env s) (u s) (left s) (right s) z w _ (seen (d .before)) _ _ _ (d .decided-by .ensures) (λ e. given-terms (sym is ∙ e)),
+    )
 
 -- where there are terms
 abbrev told : tie.After-enum-told → tie.After-decided-by
@@ -127,16 +136,35 @@ ended-requires : tie.Need-ended-requires
 ended-requires c κs =
     let x = c .before in
     let s = begun (told (x .before .before .before)) in
-    end-asks (form s) (env s) (u s) (left s) (right s) (s .pre .0 .0) (hundred s) (s .pre .1 .1) (ends x) (c .left .ensures)
+    end-asks (form s) (env s) (u s) (left s) (right s) (s .pre .0 .0) (hundred s) (s .pre .1 .1) (ends x)
+    (rw (x .before .before .digits-for .ensures) at (c .left .ensures))
+
+-- there is a term
+some : (e : tie.After-enum-told) → (u (begun (told e)) ≡ 0) → (told e .before .scan .result .top ≡ 0 → ⊥)
+some e z n =
+    let d = told e in
+    let s = begun d in
+    let t = exact-asks (form s) (env s) (u s) (left s) (right s) _ _ (e .enum-told .given .1) (hundred s) refl (seen (d .before)) (s .pre .1 .1)
+    (d .decided-by .ensures) .1 in
+    let k : 0 < d .before .scan .result .top = rw z at t in
+    omega (arith, k, n)
 
 returns-2 : tie.Need-returns-2
 returns-2 c =
-    let x = c .before .before in
-    let e = x .before .before .before in
+    let r = c .before in
+    let l = r .before in
+    let x = l .before in
+    let p = x .before .before in
+    let e = p .before in
     let d = told e in
     let s = begun d in
-    end-told (form s) (env s) (u s) (left s) (right s) _ _ (e .enum-told .given .1) (hundred s) refl (seen (d .before)) (s .pre .1 .1)
-    (d .decided-by .ensures) _ (ends x) _ (c .ended .ensures)
+    rw (c .keep2 .ensures) (
+      end-told (form s) (env s) (u s) (left s) (right s) _ _ (e .enum-told .given .1) (hundred s) refl (seen (d .before)) (s .pre .1 .1)
+          (d .decided-by .ensures) _ (ends x) _ (r .ended .ensures),
+      λ z w. keeps (form s) (env s) (u s) (left s) (right s) z w _ (seen (d .before)) _ _ _ (d .decided-by .ensures)
+          (λ _. chain-ends (form s) (env s) (u s) (left s) (right s) z w _ (seen (d .before)) _ _ _ _ (rw z at (p .digits-for .ensures)) (x .exact .ensures)
+          (l .left .ensures) (r .ended .ensures) (some e z)),
+    )
 
 pub total-spec : {M : Type 1} → statement M
 total-spec =
@@ -147,11 +175,14 @@ total-spec =
     (λ c κs. search needs)
     (λ c. search needs)
     early-requires
+    (λ c κs. search needs)
+    (λ c κs. search needs)
     (λ c. search needs)
     digits-for-requires
     top-for-requires
     exact-requires
     left-requires
     ended-requires
+    (λ c κs. search needs)
     returns
     returns-2)

@@ -20,17 +20,17 @@ abbrev counted : tie.After-struct-known → tie.After-length
 counted k = k .before
 
 abbrev entry : tie.After-struct-known → tie.Start
-entry k = let d = counted k .before .before in d .before .before
+entry k = let d = counted k .before in d .before .before
 
 -- where the whole pence fit a word
 fits : (e : tie.Else1) → let s = entry (e .before) in endOf (s .args .v) + fall (form s) false ≤ origin (form s) false + 63
 fits e =
     let k = counted (e .before) in
-    let d = k .before .before in
+    let d = k .before in
     omega (arith, e .if1 .left, k .length .ensures .0, d .fall .ensures .0, d .before .origin .ensures .0)
 
-place : (e : tie.Else1) → let d = counted (e .before) .before .before in d .before .origin .result - d .fall .result ≡ penny (form (entry (e .before)))
-place e = let d = counted (e .before) .before .before in ap₂ _-_ (d .before .origin .ensures .0) (d .fall .ensures .0)
+place : (e : tie.Else1) → let d = counted (e .before) .before in d .before .origin .result - d .fall .result ≡ penny (form (entry (e .before)))
+place e = let d = counted (e .before) .before in ap₂ _-_ (d .before .origin .ensures .0) (d .fall .ensures .0)
 
 -- what is cut there
 small : (c : tie.After-cut) → c .cut .result .kept < 2 ^ 63
@@ -43,7 +43,7 @@ returns : tie.Need-returns
 returns c x st =
     let t = c .before in
     let k = counted (t .before) in
-    let d = k .before .before in
+    let d = k .before in
     let s = entry (t .before) in
     c .refused .ensures
     ∙ too-large (form s) (s .args .v) (s .pre .1) (omega (arith, t .if1 .taken, k .length .ensures .0, d .fall .ensures .0, d .before .origin .ensures .0)) x st
