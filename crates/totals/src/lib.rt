@@ -1,10 +1,8 @@
 // Exact totals of lists of binary floating-point numbers, rounded once. Every call answers: what cannot be totalled is refused, with a number.
 pub mod entry;
-pub mod estimate;
 mod extended;
 mod lists;
 pub mod pages;
-pub mod part;
 pub mod pence;
 pub mod range;
 pub mod refusal;

@@ -18,8 +18,7 @@ returns c =
 returns-2 : tie.Need-returns-2
 returns-2 c =
     let v = c.before.before.before.args.self in
-    same-zero v.high (2 ^ 64) (pow_pos 64)
-    ∙ ap (λ (n : ℕ). eqb n 0) (sym (add-zero (v.high * 2 ^ 64)) ∙ ap (◌+◌ (v.high * 2 ^ 64)) (sym c.before.if1.false))
+    same-zero v.high (2 ^ 64) (pow_pos 64) ∙ ap (λ (n : ℕ). eqb n 0) (sym (add-zero (v.high * 2 ^ 64)) ∙ ap (◌+◌ (v.high * 2 ^ 64)) (sym c.before.if1.false))
 
 pub is-nothing-spec : {M : Type 1} → statement M
 is-nothing-spec = tie.close (tie.spec returns returns-2)

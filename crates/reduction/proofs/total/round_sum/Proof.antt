@@ -49,8 +49,7 @@ round-requires c κs =
     let e = c.before in
     let s = entry e in
     let h = s.pre in
-    left-rounds h.decided h.sum s.args.v (some e) (h.left.some (some e)) (form s) (env s) _ _ h.format
-    h.settings h.enough h.grid h.few
+    left-rounds h.decided h.sum s.args.v (some e) (h.left.some (some e)) (form s) (env s) _ _ h.format h.settings h.enough h.grid h.few
 
 returns-2 : tie.Need-returns-2
 returns-2 c p x l =

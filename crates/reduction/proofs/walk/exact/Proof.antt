@@ -1,7 +1,6 @@
 -- `reduction::walk::exact` meets its contract. The invariant: the chain so far is that of the definitions.
 use mathlib.Core.Path.{sym, ◌∙◌}
 use mathlib.Core.List.{List}
-use Prim.Native.Nat.{◌<◌}
 use borrow.Author.Rules.{rules}
 use Rattle.totals_spec.specs.Settings.{summand_of}
 use Rattle.totals_spec.specs.Terms as terms
@@ -9,17 +8,16 @@ use Rattle.format.specs.Joined.{format_of, settings_of}
 use Rattle.values.specs.Walks.{wide, read_as, is_dot, is_hundred, added_in}
 use Rattle.values.proofs.Walks.{read_length}
 use Rattle.window.proofs.Walked.{Walked}
-use Rattle.reduction.proofs.Loop.{Base, loop-start, loop-holds-at, loop-ready, loop-room, loop-next, loop-done}
+use Rattle.reduction.proofs.Loop.{Base, loop-start, loop-holds-at, loop-ready, loop-next, loop-done}
 use Rattle.reduction.proofs.Items.{added-base}
 use Rattle.reduction.proofs.walk.exact.Statement.{statement}
 use Rattle.reduction.proofs.walk.exact.Tie as tie
 
 abbrev invariant-loop : tie.invariant-loop
-invariant-loop f c k lw lb rw' rb p top allowance at₀ at =
-    Walked p (terms.terms (added_in (format_of f) (settings_of c) k lw lb rw' rb)) at × (at.passes < allowance)
+invariant-loop f c k lw lb rw' rb p top at₀ at = Walked p (terms.terms (added_in (format_of f) (settings_of c) k lw lb rw' rb)) at
 
 abbrev decreases-loop : tie.decreases-loop
-decreases-loop f c k lw lb rw' rb p top allowance at₀ at = at.edge
+decreases-loop f c k lw lb rw' rb p top at₀ at = at.edge
 
 -- at the entry: the terms, and what the loop may count on
 abbrev Entry : Type 0
@@ -61,38 +59,29 @@ start-requires c κs =
     rw s.requires.1.1.0 (loop-start (base s))
 
 loop-holds : tie.Need-loop-init invariant-loop decreases-loop
-loop-holds c =
-    let s = entry c in
-    (loop-holds-at (base s) _ s.pre.1.1.0 c.start.ensures, rw c.start.ensures s.pre.1.1.2)
+loop-holds c = let s = entry c in loop-holds-at (base s) _ s.pre.1.1.0 c.start.ensures
 
 advance-requires : tie.Need-advance-requires invariant-loop decreases-loop
-advance-requires c κs =
-    let i = c.before.loop.invariant in
-    let r = loop-ready (turn c) _ _ i.0 c.pass.ensures in
-    ((r.0, r.1, i.1), loop-room (turn c) _ _ i.0 c.pass.ensures _ i.1)
+advance-requires c κs = loop-ready (turn c) _ _ c.before.loop.invariant c.pass.ensures
 
 loop-less : tie.Need-loop-smaller invariant-loop decreases-loop
 loop-less c =
     let s = c.before.before.before in
     let t = s.before in
-    let i = t.before.loop.invariant in
-    (loop-next (turn t) _ _ i.0 t.pass.ensures _ i.1 _ s.advance.ensures c.enum_told.given.1).0.falls
+    (loop-next (turn t) _ _ t.before.loop.invariant t.pass.ensures _ s.advance.ensures c.enum_told.given.1).falls
 
 loop-again : tie.Need-loop-preserved invariant-loop decreases-loop
 loop-again c =
     let s = c.before.before.before in
     let t = s.before in
-    let i = t.before.loop.invariant in
-    let n = loop-next (turn t) _ _ i.0 t.pass.ensures _ i.1 _ s.advance.ensures c.enum_told.given.1 in
-    (n.0.walked, n.1)
+    (loop-next (turn t) _ _ t.before.loop.invariant t.pass.ensures _ s.advance.ensures c.enum_told.given.1).walked
 
 returns : tie.Need-returns invariant-loop decreases-loop
 returns c =
     let v = c.before in
     let s = v.before.before.before in
     let t = s.before in
-    let i = t.before.loop.invariant in
-    loop-done (turn t) _ _ i.0 t.pass.ensures _ i.1 _ _ s.advance.ensures v.v.given.1
+    loop-done (turn t) _ _ t.before.loop.invariant t.pass.ensures _ _ s.advance.ensures v.v.given.1
 
 pub exact-spec : {M : Type 1} → statement M
 exact-spec =

@@ -31,8 +31,7 @@ returns-2 : tie.Need-returns-2
 returns-2 c x l =
     let e = c.before in
     let r = l.some (some e) in
-    c.nearest.ensures x.mag r.stands
-    ∙ ap (λ (n : Bool). whole_figure (format_of e.before.before.args.f) (record { neg = n; mag = x.mag })) r.negative
+    c.nearest.ensures x.mag r.stands ∙ ap (λ (n : Bool). whole_figure (format_of e.before.before.args.f) (record { neg = n; mag = x.mag })) r.negative
 
 pub whole-pence-spec : {M : Type 1} → statement M
 whole-pence-spec = tie.close (tie.spec (λ c κs. search rules) (λ c κs. search rules) returns nearest-requires returns-2)
