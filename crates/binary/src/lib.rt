@@ -1,4 +1,5 @@
 // Encodings: decode, operand, encode; and the choice among NaNs.
+#![tactic(auto)]
 pub mod extended;
 pub mod nan;
 

@@ -1,10 +1,11 @@
 // Runs the codec and the rounding over the vectors of standard input, and prints how many of the answers agree. vectors.py makes the vectors, from
 // the text of document 01 alone, and says how a row is laid out.
+#![tactic(auto)]
 mod rows;
 
 ghost use Rattle.std.specs.Prelude.{◌*◌, ◌<◌, ◌≤◌};
 
-use hex::number;
+use hexadecimal::number;
 use rows::{decode_row, format_row, nan_row, round_row, settings_row};
 
 // Reads the next row of a part, and tells how many of its answers agree.

@@ -13,7 +13,7 @@ use exact::{Unrounded, narrowed, round};
 use format::env::{Settings, flag, valid_settings, zero_sum_is_negative, zero_sum_sign};
 use format::unpacked::Unpacked;
 use format::{Format, Named, bias, depth, digits, exponent_range, grid, origin, valid_format};
-use hex::number;
+use hexadecimal::number;
 
 fn agrees(a: u64, b: u64) -> u64
     ensures { result ≤ 1 }

@@ -1,6 +1,6 @@
 -- The fields of a row, at the places that cases.py has: numbers in hex digits, and a sign before one of them.
 use Rattle.std.specs.Prelude.{Bool, cond, List, ℕ, ◌+◌, ◌%◌, ◌^◌, eqb, ℤ, pos, neg_ℤ, length, get_or}
-use Rattle.hex.specs.Digits.{number_at}
+use Rattle.hexadecimal.specs.Digits.{number_at}
 use Rattle.format.specs.declared.Format.{Format}
 use Rattle.format.specs.declared.Named.{Named}
 use Rattle.format.specs.declared.Named.TheVariants.{Nothing, Bias}

@@ -2,7 +2,7 @@
 ghost use Rattle.std.specs.Prelude.{◌<◌, ◌≤◌};
 
 use crate::row::{BIASED_PENCE, PENCE, format_at, signed_at};
-use hex::number;
+use hexadecimal::number;
 use totals::pence::pence_of;
 
 // Whether figure, refusal and place are those of the row: 1, or 0.

@@ -3,7 +3,7 @@ ghost use Rattle.std.specs.Prelude.{◌<◌, ◌≤◌};
 
 use crate::row::{BIASED, ROW, count_at, format_at, signed_at, words_at};
 use format::{Format, Named};
-use hex::number;
+use hexadecimal::number;
 use totals::entry::totals_pence;
 use totals::pence::{Pence, pence_of_sum};
 

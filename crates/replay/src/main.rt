@@ -3,6 +3,7 @@
 // through its entry; pages are written through theirs, values of ten bytes are added through the byte entries, and one total in several formats comes
 // through its own.
 // cases.py makes the list, and says how it is laid out; README.md says where the answers come from.
+#![tactic(auto)]
 mod counts;
 mod figures;
 mod lists;
@@ -18,7 +19,7 @@ ghost use Rattle.std.specs.Prelude.{◌≡◌, ◌+◌, ◌<◌, ◌≤◌};
 
 use counts::counts;
 use figures::figures;
-use hex::number;
+use hexadecimal::number;
 use lists::{lists, misnamed};
 use pages::pages;
 use ranges::ranges;

@@ -3,7 +3,7 @@ ghost use Rattle.std.specs.Prelude.{◌≡◌, ◌<◌, ◌≤◌, length};
 
 use crate::row::{answer_at, count_at, returned_at, settings_at, summand_at};
 use crate::ways::{same, same_bytes, written_at};
-use hex::number;
+use hexadecimal::number;
 use limbs::word::smaller;
 use reduction::total::Answer;
 use totals::entry::{totals_page_sum, totals_page_write};

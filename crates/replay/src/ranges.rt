@@ -3,7 +3,7 @@ ghost use Rattle.std.specs.Prelude.{◌≡◌, ◌<◌, ◌≤◌, length};
 
 use crate::row::{LONG, count_at, words_at};
 use crate::tables::same_words;
-use hex::number;
+use hexadecimal::number;
 use totals::entry::totals_range;
 use totals::range::{Range, range_total};
 

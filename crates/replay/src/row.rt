@@ -4,7 +4,7 @@ ghost use Rattle.replay.specs.Row.{word_at, is_dot, named_in, format_in, setting
 
 use format::env::Settings;
 use format::{Format, Named};
-use hex::number;
+use hexadecimal::number;
 use reduction::total::Answer;
 use values::put_word;
 

@@ -7,7 +7,7 @@ use crate::row::{
 use crate::ways::{same, same_bytes, written_at};
 use format::env::Settings;
 use format::{Format, Named};
-use hex::number;
+use hexadecimal::number;
 use reduction::total::Answer;
 use totals::entry::totals_table;
 use totals::table::table;

@@ -4,7 +4,7 @@ ghost use Rattle.std.specs.Prelude.{◌≡◌, ◌<◌, ◌≤◌, length};
 use crate::pages::at_most;
 use crate::row::signed_at;
 use crate::ways::same_bytes;
-use hex::number;
+use hexadecimal::number;
 use totals::entry::totals_sum_into;
 use values::put_word;
 

@@ -5,7 +5,7 @@ use crate::pages::at_most;
 use crate::row::{format_at, is_dot, returned_at, settings_at, signed_at, summand_at};
 use crate::ways::{enter_dot, enter_sum, same_bytes};
 use format::{Format, Named};
-use hex::number;
+use hexadecimal::number;
 
 // The length of a row.
 const ROW: usize = 496;

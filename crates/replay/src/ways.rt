@@ -10,7 +10,7 @@ use crate::row::{
 };
 use format::env::Settings;
 use format::{Format, Named};
-use hex::number;
+use hexadecimal::number;
 use reduction::total::Answer;
 use totals::entry::{totals_dot, totals_dot_biased, totals_sum, totals_sum_biased};
 use totals::{dot, dot_bytes, sum, sum_bytes};

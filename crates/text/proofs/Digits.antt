@@ -10,8 +10,8 @@ use lib.Dec.{lit<}
 use lib.ListN.{length, take, drop, get_or}
 use lib.Seq.{drop-cons}
 use Rattle.totals_spec.specs.Program.{hex_digit, more_hex, hex_from}
-use Rattle.hex.specs.Digits.{digit_of}
-use Rattle.hex.proofs.Ranges.{no_digit, a-digit, digit-small}
+use Rattle.hexadecimal.specs.Digits.{digit_of}
+use Rattle.hexadecimal.proofs.Ranges.{no_digit, a-digit, digit-small}
 use Rattle.text.proofs.FirstLine.{hex-none}
 
 -- the 16 digits at a place, as a number

@@ -5,7 +5,7 @@ ghost use Rattle.std.proofs.Math.Option.{some};
 ghost use Rattle.totals_spec.specs.Program.{lines, hex_from, line_value, read_from};
 ghost use Rattle.text.specs.Reading.{line_of, first_line, lines_of, values_from, laid};
 
-use hex::digit;
+use hexadecimal::digit;
 
 // A line's value, or a bad line.
 #[derive(Drop)]

@@ -1,4 +1,5 @@
 // Sums the binary64 numbers on standard input, one to a line in 16 lower-case hex digits, and writes result, flags, passes and pence.
+#![tactic(auto)]
 use libc::{STDIN_FILENO, STDOUT_FILENO};
 use text::answer_text;
 

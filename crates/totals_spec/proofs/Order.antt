@@ -235,6 +235,8 @@ pair-sound x y t =
 
 and-join : (a b : Bool) → T a → T b → T (a && b)
 and-join true true t s = tt
+and-join false b t s = elim t [ ]
+and-join true false t s = elim s [ ]
 
 pub pair-alike : (x : ℕ × ℕ) → T (same_pair x x)
 pair-alike x = and-join (eqb x.0 x.0) (eqb x.1 x.1) (eqb_refl x.0) (eqb_refl x.1)

@@ -130,6 +130,7 @@ page-found page = (
   where
     holds : (b : Bool) → T b → b ≡ true
     holds true t = refl
+    holds false t = elim t [ ]
 
 module _ (page : List ℕ) (start end : ℕ) where
   abbrev outside : Bool

@@ -44,6 +44,8 @@ pub same-eq : (l m : List ℕ) → T (same_list l m) → l ≡ m
 same-eq [] [] h = refl
 same-eq (x ∷ l) (y ∷ m) h =
     ap₂ ◌∷◌ (eqb→eq x y (and_left (eqb x y) (same_list l m) h)) (same-eq l m (and_right (eqb x y) (same_list l m) h))
+same-eq [] (y ∷ m) h = elim h [ ]
+same-eq (x ∷ l) [] h = elim h [ ]
 
 -- ---- values and their bytes
 
@@ -124,6 +126,7 @@ page-length l =
 
 -- the summary of the group g, among those of k
 summary-at : (k g : ℕ) (l : List ℕ) (r : List ℕ) → g < k → take 12 (drop (12 * g) (summaries_from k l ++ r)) ≡ summary (take group_size (drop (group_size * g) l))
+summary-at zero g l r h = elim h [ ]
 summary-at (suc k) zero l r h =
     let s = summary (take group_size l) in
     rw (append_assoc s (summaries_from k (drop group_size l)) r) (take_at s _ 12 (summary-length (take group_size l)))

@@ -99,6 +99,7 @@ module _ {A : Type 0} (same : A → A → Bool) (sound : (x y : A) → T (same x
     where
       go : (b : Bool) → T b → 0 < flag 1 b + count same x l
       go true t = omega arith
+      go false t = elim t [ ]
 
   pub perm-of-counts : (l₁ l₂ : List A) → AsOften same l₁ l₂ → Permᴰ l₁ l₂
   perm-of-counts [] [] h = Permᴰ.nil

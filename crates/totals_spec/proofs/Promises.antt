@@ -526,8 +526,8 @@ sum-edges f c u l = edges-true _ (good-terms f c (summand_of u) l)
 pub dot-edges : Dot-edges
 dot-edges f c xs ys = edges-true _ (good-pairs f c (pairs xs ys))
 
-pub low_bit : Low-bit
-low_bit m h = (ap (λ (x : ℕ). x % 2 ^ low_bit m) (sym (low-divides m)) ∙ mul-mod_left _ (2 ^ low_bit m), low-set m h)
+pub low_bit_lem : Low-bit
+low_bit_lem m h = (ap (λ (x : ℕ). x % 2 ^ low_bit m) (sym (low-divides m)) ∙ mul-mod_left _ (2 ^ low_bit m), low-set m h)
 
 pub size-is-length : Size-is-length
 size-is-length = ((λ m h. (omega (arith, size-one-less m h), omega (arith, size-lt m))), size_none)

@@ -12,9 +12,13 @@ use Rattle.totals_spec.specs.Bounds.{Offered, FormatBounds, RangeBounds, Setting
 
 pub and_left : (a b : Bool) → T (a && b) → T a
 and_left true true t = tt
+and_left mathlib.Core.Bool.false b t = elim t [ ]
+and_left true mathlib.Core.Bool.false t = elim t [ ]
 
 pub and_right : (a b : Bool) → T (a && b) → T b
 and_right true true t = tt
+and_right mathlib.Core.Bool.false b t = elim t [ ]
+and_right true mathlib.Core.Bool.false t = elim t [ ]
 
 offered-le : (n : Option ℤ) → T (offered n) → Offered n
 offered-le none t = tt

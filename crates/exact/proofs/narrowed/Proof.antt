@@ -17,7 +17,7 @@ abbrev window : tie.Start → List ℕ
 window s = s.args.t4
 
 its-words : (s : tie.Start) → Words 12 (window s)
-its-words s = words 12 (window s) _ s.well-formed.1.1.1.0
+its-words s = words 12 (window s) _ s.well_formed.1.1.1.0
 
 -- its length
 abbrev length : tie.After-bit-length → ℕ

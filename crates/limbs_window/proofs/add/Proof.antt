@@ -17,7 +17,7 @@ abbrev decreases-loop : tie.decreases-loop
 decreases-loop b r₀ carry₀ i₀ r carry i = 12 - i
 
 loop-holds : tie.Need-loop-init invariant-loop decreases-loop
-loop-holds c = (search rules, search rules, words 12 _ _ c.well-formed.0, omega (arith, low-zero c.args.t2))
+loop-holds c = (search rules, search rules, words 12 _ _ c.well_formed.0, omega (arith, low-zero c.args.t2))
 
 loop-again : tie.Need-loop-preserved invariant-loop decreases-loop
 loop-again c =
@@ -31,7 +31,7 @@ returns c =
     let s = c.before.before in
     let i : p.i ≡ 12 = omega arith in
     added p.carry _ _ p.invariant.2 refl
-    ((rw i at p.invariant.3) ∙ ap (λ (x : ℕ). value s.args.a + x) (whole (words 12 _ _ s.well-formed.1.0)))
+    ((rw i at p.invariant.3) ∙ ap (λ (x : ℕ). value s.args.a + x) (whole (words 12 _ _ s.well_formed.1.0)))
 
 pub add_spec : {M : Type 1} → statement M
 add_spec =

@@ -27,7 +27,7 @@ abbrev window : tie.At-loop invariant-loop decreases-loop → List ℕ
 window h = (entry h).args.t1
 
 its-words : (h : tie.At-loop invariant-loop decreases-loop) → Words 12 (window h)
-its-words h = words 12 (window h) _ (entry h).well-formed.0
+its-words h = words 12 (window h) _ (entry h).well_formed.0
 
 loop-holds : tie.Need-loop-init invariant-loop decreases-loop
 loop-holds c = gather_none _ _ _

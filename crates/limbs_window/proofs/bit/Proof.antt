@@ -14,7 +14,7 @@ returns c =
     let p = c.before.split in
     ap (λ (x : ℕ). eqb x 1)
     (ap (λ (x : ℕ). x / 2 ^ p.result.bit % 2) c.word_at.ensures
-    ∙ bit-digit s.args.a (words 12 s.args.a _ s.well-formed.0).fit p.ensures)
+    ∙ bit-digit s.args.a (words 12 s.args.a _ s.well_formed.0).fit p.ensures)
 
 pub bit-spec : {M : Type 1} → statement M
 bit-spec = tie.close (tie.spec (λ c κs. search rules) (λ c κs. search rules) (λ c. search rules) returns)

@@ -18,7 +18,7 @@ abbrev decreases-loop : tie.decreases-loop
 decreases-loop a i₀ i = i
 
 loop-holds : tie.Need-loop-init invariant-loop decreases-loop
-loop-holds c = (search rules, whole (words 12 c.args.t1 _ c.well-formed.0))
+loop-holds c = (search rules, whole (words 12 c.args.t1 _ c.well_formed.0))
 
 returns : tie.Need-returns invariant-loop decreases-loop
 returns c =
@@ -26,7 +26,7 @@ returns c =
     let p = t.before.loop in
     let s = t.before.before in
     ap (λ (x : ℕ). (p.i - 1) * 64 + x) c.bit_length.ensures
-    ∙ found s.args.t1 p.i t.loop-test.true (words 12 s.args.t1 _ s.well-formed.0).fit p.invariant.1 c.before.if1.true
+    ∙ found s.args.t1 p.i t.loop-test.true (words 12 s.args.t1 _ s.well_formed.0).fit p.invariant.1 c.before.if1.true
 
 loop-again : tie.Need-loop-preserved invariant-loop decreases-loop
 loop-again c =

@@ -32,7 +32,7 @@ same : (m n : ℕ) → m ≡ n → compared m n ≡ Equal
 same m n e = ap₂ order_of (le-ltb m n (le_of_eq (sym e))) (le-ltb n m (le_of_eq e))
 
 loop-holds : tie.Need-loop-init invariant-loop decreases-loop
-loop-holds c = (search rules, ends (words 12 c.args.t1 _ c.well-formed.0) (words 12 c.args.t2 _ c.well-formed.1.0))
+loop-holds c = (search rules, ends (words 12 c.args.t1 _ c.well_formed.0) (words 12 c.args.t2 _ c.well_formed.1.0))
 
 returns : tie.Need-returns invariant-loop decreases-loop
 returns c =
@@ -41,7 +41,7 @@ returns c =
     let s = h.before in
     let a = s.args.t1 in
     let b = s.args.t2 in
-    sym (less (value a) (value b) (less-down a b h.loop.i t.loop-test.true (words 12 a _ s.well-formed.0).fit h.loop.invariant.1 c.if1.true))
+    sym (less (value a) (value b) (less-down a b h.loop.i t.loop-test.true (words 12 a _ s.well_formed.0).fit h.loop.invariant.1 c.if1.true))
 
 returns-2 : tie.Need-returns-2 invariant-loop decreases-loop
 returns-2 c =
@@ -51,7 +51,7 @@ returns-2 c =
     let a = s.args.t1 in
     let b = s.args.t2 in
     sym (greater (value a) (value b)
-    (less-down b a h.loop.i t.loop-test.true (words 12 b _ s.well-formed.1.0).fit (sym h.loop.invariant.1) c.if2.true))
+    (less-down b a h.loop.i t.loop-test.true (words 12 b _ s.well_formed.1.0).fit (sym h.loop.invariant.1) c.if2.true))
 
 loop-again : tie.Need-loop-preserved invariant-loop decreases-loop
 loop-again c =

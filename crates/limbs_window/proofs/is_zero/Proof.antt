@@ -32,7 +32,7 @@ returns-2 c =
     let h = c.before in
     let s = h.before in
     let e : h.loop.k ≡ 12 = omega arith in
-    sym (eq-eqb (value s.args.t1) 0 (sym (whole (words 12 _ _ s.well-formed.0)) ∙ rw e at h.loop.invariant.1))
+    sym (eq-eqb (value s.args.t1) 0 (sym (whole (words 12 _ _ s.well_formed.0)) ∙ rw e at h.loop.invariant.1))
 
 pub is-zero-spec : {M : Type 1} → statement M
 is-zero-spec =

@@ -13,7 +13,7 @@ returns c =
     let s = c.before.before in
     let a = s.args.t1 in
     c.low_bits.ensures
-    ∙ ap₂ (λ (x y : ℕ). x % 2 ^ y) (word-digit a (words 12 a _ s.well-formed.0).fit s.args.i) c.before.minus.ensures
+    ∙ ap₂ (λ (x y : ℕ). x % 2 ^ y) (word-digit a (words 12 a _ s.well_formed.0).fit s.args.i) c.before.minus.ensures
     ∙ low_digit (value a) s.args.i s.args.count
 
 pub low-at-spec : {M : Type 1} → statement M

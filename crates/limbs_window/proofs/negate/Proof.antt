@@ -13,7 +13,7 @@ unfolding value
 returns c =
     let s = c.before in
     c.sub.ensures
-    ∙ ap (λ (x : ℕ). x % 2 ^ 768) (zero-add _ ∙ ap (λ (x : ℕ). 2 ^ 768 - x) (mod-eq_of_lt (value-lt (words 12 s.args.a _ s.well-formed.0))))
+    ∙ ap (λ (x : ℕ). x % 2 ^ 768) (zero-add _ ∙ ap (λ (x : ℕ). 2 ^ 768 - x) (mod-eq_of_lt (value-lt (words 12 s.args.a _ s.well_formed.0))))
 
 pub negate-spec : {M : Type 1} → statement M
 negate-spec = tie.close (tie.spec (λ c κs. search rules) returns)

@@ -22,7 +22,7 @@ returns-2 c =
     let p = e.before.before.split in
     c.funnel.ensures
     ∙ ap₂ (λ (x y : ℕ). (x + y * 2 ^ 64) / 2 ^ (64 - p.result.bit) % 2 ^ 64) w.before.word_below.ensures w.word-below2.ensures
-    ∙ shl-digit s.args.a (words 12 s.args.a _ s.well-formed.0).fit s.args.i p.ensures e.if1.false
+    ∙ shl-digit s.args.a (words 12 s.args.a _ s.well_formed.0).fit s.args.i p.ensures e.if1.false
 
 pub shl-at-spec : {M : Type 1} → statement M
 shl-at-spec =

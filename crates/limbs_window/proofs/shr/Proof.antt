@@ -26,7 +26,7 @@ returns : tie.Need-returns invariant-loop decreases-loop
 returns c =
     let s = c.before.before in
     fill_done c.before.loop.invariant c.loop-test.false
-    ∙ mod-eq_of_lt (lt_of_le_of_lt (shr_le (value s.args.a) s.args.count) (value-lt (words 12 s.args.a _ s.well-formed.0)))
+    ∙ mod-eq_of_lt (lt_of_le_of_lt (shr_le (value s.args.a) s.args.count) (value-lt (words 12 s.args.a _ s.well_formed.0)))
 
 pub shr_spec : {M : Type 1} → statement M
 shr_spec =

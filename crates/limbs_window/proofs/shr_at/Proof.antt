@@ -14,7 +14,7 @@ returns c =
     let s = w.before.before.before in
     c.funnel.ensures
     ∙ ap₂ (λ (x y : ℕ). (x + y * 2 ^ 64) / 2 ^ p.result.bit % 2 ^ 64) w.word_at.ensures c.before.word-at2.ensures
-    ∙ shr-digit s.args.a (words 12 s.args.a _ s.well-formed.0).fit s.args.i p.ensures
+    ∙ shr-digit s.args.a (words 12 s.args.a _ s.well_formed.0).fit s.args.i p.ensures
 
 pub shr-at-spec : {M : Type 1} → statement M
 shr-at-spec =

@@ -17,7 +17,7 @@ abbrev decreases-loop : tie.decreases-loop
 decreases-loop b r₀ borrow₀ i₀ r borrow i = 12 - i
 
 loop-holds : tie.Need-loop-init invariant-loop decreases-loop
-loop-holds c = (search rules, search rules, words 12 _ _ c.well-formed.0, omega (arith, low-zero c.args.t2))
+loop-holds c = (search rules, search rules, words 12 _ _ c.well_formed.0, omega (arith, low-zero c.args.t2))
 
 loop-again : tie.Need-loop-preserved invariant-loop decreases-loop
 loop-again c =
@@ -30,7 +30,7 @@ returns c =
     let p = c.before.loop in
     let i : p.i ≡ 12 = omega arith in
     taken p.borrow _ _ _ p.invariant.2 refl
-    (ap (λ (x : ℕ). value p.r + x) (sym (whole (words 12 _ _ c.before.before.well-formed.1.0))) ∙ (rw i at p.invariant.3))
+    (ap (λ (x : ℕ). value p.r + x) (sym (whole (words 12 _ _ c.before.before.well_formed.1.0))) ∙ (rw i at p.invariant.3))
 
 pub sub_spec : {M : Type 1} → statement M
 sub_spec =

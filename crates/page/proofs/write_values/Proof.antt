@@ -30,7 +30,7 @@ loop-holds : tie.Need-loop-init invariant-loop decreases-loop
 loop-holds c = (search rules, refl, record { front = refl; beyond = refl; long = refl })
 
 mul-put-word : tie.Need-overflow-mul-put-word invariant-loop decreases-loop
-mul-put-word c = let t = c.before in omega (arith, there t, (start t).well-formed)
+mul-put-word c = let t = c.before in omega (arith, there t, (start t).well_formed)
 
 shared-slice-read-put-word : tie.Need-shared-slice-read-put-word invariant-loop decreases-loop
 shared-slice-read-put-word c = search rules
@@ -42,7 +42,7 @@ add_at : tie.Need-overflow-add-at invariant-loop decreases-loop
 add_at c =
     let p = c.before.before in
     let t = p.before.before.before in
-    omega (arith, there t, t.before.loop.invariant.1, (start t).well-formed)
+    omega (arith, there t, t.before.loop.invariant.1, (start t).well_formed)
 
 add-i : tie.Need-overflow-add-i invariant-loop decreases-loop
 add-i c = search rules

@@ -12,7 +12,7 @@ returns : tie.Need-returns
 returns c =
     let s = c.before.before.before in
     rw (c.before.if1.true, c.increment.ensures, c.before.before.shr.ensures)
-    (one_more (value s.args.magnitude) s.args.rest s.requires (value-lt (words 12 s.args.magnitude _ s.well-formed.0)))
+    (one_more (value s.args.magnitude) s.args.rest s.requires (value-lt (words 12 s.args.magnitude _ s.well_formed.0)))
 
 returns-2 : tie.Need-returns-2
 returns-2 c = rw c.if1.false (c.before.shr.ensures ∙ sym (add-zero _))

@@ -10,7 +10,7 @@ returns : tie.Need-returns
 returns c =
     let s = c.before in
     let w = s.args.t2 in
-    record { sign = refl; sticky = refl; position = refl; is = two-words w (words 12 w _ s.well-formed.1.0).fit s.requires.1 }
+    record { sign = refl; sticky = refl; position = refl; is = two-words w (words 12 w _ s.well_formed.1.0).fit s.requires.1 }
 
 pub quarter-off-spec : {M : Type 1} → statement M
 quarter-off-spec = tie.close (tie.spec (λ c. search rules) (λ c. search rules) (λ c. search rules) returns)

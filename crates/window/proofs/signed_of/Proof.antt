@@ -10,7 +10,7 @@ use Rattle.window.proofs.signed_of.Statement.{statement}
 use Rattle.window.proofs.signed_of.Tie as tie
 
 small : (s : tie.Start) → value s.args.total < 2 ^ 768
-small s = value-lt (words 12 s.args.total _ s.well-formed.0)
+small s = value-lt (words 12 s.args.total _ s.well_formed.0)
 
 returns : tie.Need-returns
 returns c =

@@ -10,7 +10,7 @@ returns : tie.Need-returns
 returns c =
     let s = c.before in
     let n = c.bit_length.ensures in
-    (n, rw n (size-le (value s.args.magnitude) 768 (value-lt (words 12 s.args.magnitude _ s.well-formed.0))))
+    (n, rw n (size-le (value s.args.magnitude) 768 (value-lt (words 12 s.args.magnitude _ s.well_formed.0))))
 
 pub width_spec : {M : Type 1} → statement M
 width_spec = tie.close (tie.spec (λ c κs. search rules) returns)

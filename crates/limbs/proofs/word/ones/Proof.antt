@@ -3,8 +3,8 @@ use Rattle.std.proofs.Common.{rules}
 use Rattle.limbs.proofs.word.ones.Statement.{statement}
 use Rattle.limbs.proofs.word.ones.Tie as tie
 
-returns : tie.Need-returns
-returns c = rw c.if1.true
+returns : tie.Need-returns-then-n-eq64
+returns c = rw c.if-n-eq64.true
 
-pub ones-spec : {M : Type 1} → statement M
-ones-spec = tie.close (tie.spec (λ c κs. search rules) (λ c. search rules) returns (λ c. search rules))
+pub ones_spec : {M : Type 1} → statement M
+ones_spec = tie.close (tie.spec (λ c κs. search rules) (λ c. search rules) returns (λ c. search rules))

@@ -10,5 +10,5 @@ one_shl k h = ap (λ (x : ℕ). x % 2 ^ 64) (one-mul (2 ^ k)) ∙ mod-eq_of_lt (
 returns : tie.Need-returns
 returns c = (one_shl c.args.n c.requires, rw (one_shl c.args.n c.requires) (pow_pos c.args.n))
 
-pub power-spec : {M : Type 1} → statement M
-power-spec = tie.close (tie.spec (λ c. search rules) returns)
+pub power_spec : {M : Type 1} → statement M
+power_spec = tie.close (tie.spec (λ c. search rules) returns)

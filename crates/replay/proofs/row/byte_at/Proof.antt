@@ -3,7 +3,7 @@ use mathlib.Core.Path.{sym}
 use native.Mathlib.Omega.{arith}
 use lib.ListN.{get_or-eq_default}
 use borrow.Author.Rules.{rules}
-use Rattle.hex.proofs.Lenient.{same_byte}
+use Rattle.hexadecimal.proofs.Lenient.{same_byte}
 use Rattle.replay.proofs.row.byte_at.Statement.{statement}
 use Rattle.replay.proofs.row.byte_at.Tie as tie
 

@@ -4,7 +4,7 @@ use Prim.Native.Nat.{◌+◌, ◌-◌, ◌≤◌}
 use native.Mathlib.Omega.{arith}
 use lib.ListN.{get_or}
 use borrow.Author.Rules.{rules}
-use Rattle.hex.proofs.Ranges.{digit-small}
+use Rattle.hexadecimal.proofs.Ranges.{digit-small}
 use Rattle.text.specs.Reading.{line_of}
 use Rattle.text.proofs.Digits.{SoFar, so-far-start, so-far-bad, so-far-next, so-far-end, room}
 use Rattle.text.proofs.read.digits_at.Statement.{statement}

@@ -7,7 +7,7 @@ use native.Mathlib.Omega.{arith}
 use lib.Dec.{leb}
 use borrow.Author.Tests.{leb-true, le-leb, lt-leb}
 use Rattle.totals_spec.specs.Program.{hex_digit}
-use Rattle.hex.specs.Digits.{digit_or, digit_of}
+use Rattle.hexadecimal.specs.Digits.{digit_or, digit_of}
 
 -- ---- the five ranges of bytes
 

@@ -1,43 +1,43 @@
--- `hex::digit_at` meets its contract.
+-- `hexadecimal::digit_at` meets its contract.
 use mathlib.Core.Path.{sym, ◌∙◌}
 use Prim.Native.Nat.{◌+◌}
 use native.Mathlib.Omega.{arith}
 use borrow.Author.Rules.{rules}
-use Rattle.hex.proofs.Lenient.{past_end, no-digit-at, a-digit-at}
-use Rattle.hex.proofs.digit_at.Statement.{statement}
-use Rattle.hex.proofs.digit_at.Tie as tie
+use Rattle.hexadecimal.proofs.Lenient.{past_end, no-digit-at, a-digit-at}
+use Rattle.hexadecimal.proofs.digit_at.Statement.{statement}
+use Rattle.hexadecimal.proofs.digit_at.Tie as tie
 
 -- inside the list, and once the byte is read
-abbrev entry : tie.Else2 → tie.Start
+abbrev entry : tie.Else-i-s → tie.Start
 entry t = t.before.before.before
 
-abbrev start : tie.After-digit → tie.Start
+abbrev start : tie.After-digit-d → tie.Start
 start t = entry t.before.before
 
-returns : tie.Need-returns
+returns : tie.Need-returns-then-at-s
 returns c =
     let a = c.before.before.args in
     sym (past_end a.s.now (a.at + a.i) (omega arith))
 
-returns-2 : tie.Need-returns-2
+returns-2 : tie.Need-returns-then-i-s
 returns-2 c =
     let a = c.before.before.before.args in
     sym (past_end a.s.now (a.at + a.i) (omega arith))
 
-returns-3 : tie.Need-returns-3
+returns-3 : tie.Need-returns-then-d-eq16
 returns-3 c =
     let t = c.before in
     let a = (start t).args in
-    sym (no-digit-at a.s.now (a.at + a.i) (omega arith) (sym t.digit.ensures ∙ c.if3.true))
+    sym (no-digit-at a.s.now (a.at + a.i) (omega arith) (sym t.digit-d.ensures ∙ c.if-d-eq16.true))
 
-returns-4 : tie.Need-returns-4
+returns-4 : tie.Need-returns
 returns-4 c =
     let t = c.before in
     let a = (start t).args in
-    t.digit.ensures ∙ sym (a-digit-at a.s.now (a.at + a.i) (omega arith) (λ e. c.if3.false (t.digit.ensures ∙ e)))
+    t.digit-d.ensures ∙ sym (a-digit-at a.s.now (a.at + a.i) (omega arith) (λ e. c.if-d-eq16.false (t.digit-d.ensures ∙ e)))
 
-pub digit-at-spec : {M : Type 1} → statement M
-digit-at-spec =
+pub digit_at_spec : {M : Type 1} → statement M
+digit_at_spec =
     tie.close
     (tie.spec
     returns

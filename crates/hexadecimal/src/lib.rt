@@ -1,6 +1,8 @@
 // Lower-case hex digits: the value of one, and the number of several.
+#![tactic(auto)]
+
 ghost use Rattle.std.specs.Prelude.{◌≡◌, ◌+◌, ◌%◌, ◌^◌};
-ghost use Rattle.hex.specs.Digits.{digit_of, digit_at, number_at};
+ghost use Rattle.hexadecimal.specs.Digits.{digit_of, digit_at, number_at};
 
 // A digit's value, or 16 for any other byte.
 pub fn digit(b: u8) -> u64

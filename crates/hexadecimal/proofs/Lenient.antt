@@ -7,8 +7,8 @@ use native.Mathlib.Omega.{arith}
 use lib.ListN.{length, get_or, get_or-eq_default}
 use lib.Seq.{drop-cons}
 use Rattle.totals_spec.specs.Program.{hex_digit}
-use Rattle.hex.specs.Digits.{digit_or, digit_of, digit_at, number_at}
-use Rattle.hex.proofs.Ranges.{no_digit, a-digit, lenient-small}
+use Rattle.hexadecimal.specs.Digits.{digit_or, digit_of, digit_at, number_at}
+use Rattle.hexadecimal.proofs.Ranges.{no_digit, a-digit, lenient-small}
 
 pub past_end : (s : List ℕ) (i : ℕ) → length s ≤ i → digit_at s i ≡ 0
 past_end s i h = ap (λ (b : ℕ). digit_or 0 (hex_digit b)) (get_or-eq_default s 48 h)
