@@ -30,7 +30,7 @@ const FIELD_TOP: u64 = TOP - 1;
 const FIELDS_TOP: u64 = TOP - 2;
 
 // (high * 2^64 + low) * 2^shift units; low, high and shift are 0 for what is no term.
-#[derive(Drop)]
+#[derive(Clone, Copy)]
 pub struct Term {
     pub negative: bool,
     pub low: u64,
@@ -39,7 +39,7 @@ pub struct Term {
 }
 
 // What an element or a pair is, with the position that counts for T where it is a term.
-#[derive(Drop)]
+#[derive(Clone, Copy)]
 pub enum Item {
     Nan,
     // an infinity times a zero

@@ -166,7 +166,7 @@ fn is_subnormal(f: Format, b: u64, v: Unpacked) -> bool
 }
 
 // What an encoding stands for as an operand, and whether it is subnormal, which denormals-are-zero does not hide.
-#[derive(Drop)]
+#[derive(Clone, Copy)]
 pub struct Read {
     pub value: Unpacked,
     pub subnormal: bool,

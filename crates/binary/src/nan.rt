@@ -10,7 +10,7 @@ use format::env::Settings;
 use format::unpacked::Unpacked;
 
 // The NaN chosen so far, if there is one.
-#[derive(Drop)]
+#[derive(Clone, Copy)]
 pub struct Nan {
     pub some: bool,
     pub negative: bool,

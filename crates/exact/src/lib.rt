@@ -23,7 +23,7 @@ use limbs::word::{either, funnel, ones, power, scaled};
 
 // A magnitude to round: the significand high * 2^64 + low, times 2^position units, or with a sticky bit any number between that and significand + 1
 // of these.
-#[derive(Drop)]
+#[derive(Clone, Copy)]
 pub struct Unrounded {
     pub negative: bool,
     pub sticky: bool,
@@ -33,14 +33,14 @@ pub struct Unrounded {
 }
 
 // A magnitude cut at a position: the digits at and above it, and what is dropped.
-#[derive(Drop)]
+#[derive(Clone, Copy)]
 pub struct Cut {
     pub kept: u64,
     pub dropped: Dropped,
 }
 
 // Rounded digits: kept * 2^lowest, whether the magnitude went up, and whether it changed.
-#[derive(Drop)]
+#[derive(Clone, Copy)]
 pub struct Digits {
     pub kept: u64,
     pub lowest: u64,
@@ -48,7 +48,7 @@ pub struct Digits {
     pub inexact: bool,
 }
 
-#[derive(Drop)]
+#[derive(Clone, Copy)]
 pub struct Rounded {
     pub value: Unpacked,
     pub flags: u64,

@@ -8,7 +8,7 @@ ghost use Rattle.exact.specs.Joined.{dropped_of, dropped_by, nearest_up, underfl
 use format::env::{INEXACT, TINY, UNDERFLOW};
 
 // The dropped part of a magnitude, against half a unit of the last kept digit.
-#[derive(Drop)]
+#[derive(Clone, Copy)]
 pub enum Dropped {
     Nothing,
     BelowHalf,
@@ -92,7 +92,7 @@ pub fn overflows_to_infinity(rounding: u64, negative: bool) -> bool
 const TINY_INEXACT: u64 = UNDERFLOW + INEXACT + TINY;
 
 // The flags of a result by whether it is tiny and inexact. Flushed: a zero takes its place.
-#[derive(Drop)]
+#[derive(Clone, Copy)]
 pub enum Underflow {
     Flushed(u64),
     Kept(u64),

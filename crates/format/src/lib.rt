@@ -15,7 +15,7 @@ use limbs::word::{magnitude, power};
 pub const ROOM: u64 = 1024;
 
 // The bias that a format names, or none: then it has its kind's own.
-#[derive(Drop)]
+#[derive(Clone, Copy)]
 pub enum Named {
     Nothing,
     Bias(i64),
@@ -25,7 +25,7 @@ pub enum Named {
 const FARTHEST: u64 = 268435456;
 
 // The kind (0 Ieee, 1 NoInf, 2 Fnuz, 3 Finite), the width of the exponent field, the whole width, and the bias where one is named.
-#[derive(Drop)]
+#[derive(Clone, Copy)]
 pub struct Format {
     pub kind: u64,
     pub exponent_bits: u64,

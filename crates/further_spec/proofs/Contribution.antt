@@ -148,6 +148,7 @@ module _ (f : Format) (c : Settings) (l : List ℕ) (wanted : ℕ) (e : contribu
       rw (valid, allowed, le-ltb limit (length (l ++ (b ∷ []))) room, with-one (stray f) b acc.unstray (lt-leb (2 ^ f.W) b h.0))
     where
       is_true : (t : Bool) → T t → t ≡ true
+      is_true false h = elim h [ ]
       is_true true h = refl
 
       valid : valid_format f ≡ true
@@ -163,6 +164,7 @@ module _ (f : Format) (c : Settings) (l : List ℕ) (wanted : ℕ) (e : contribu
   longer-finite b h = all-finite f (l ++ (b ∷ [])) (with-one (not_number f) b acc.finite (number (is_number (decode f b)) h.1))
     where
       number : (t : Bool) → T t → not t ≡ false
+      number false h = elim h [ ]
       number true h = refl
 
   result-whole : (b : ℕ) → FiniteIn f b → is_nan (decode f (sum_answer f c 0 (l ++ (b ∷ []))).result) ≡ false

@@ -9,7 +9,7 @@ use limbs_window::{add, shl, sub};
 
 // A term's part within the window, in words from the word `at` on: what lies past the window's end is left off, and where all of it does, it is not
 // inside.
-#[derive(Drop)]
+#[derive(Clone, Copy)]
 pub struct Laid {
     pub at: usize,
     pub v0: u64,
@@ -19,7 +19,7 @@ pub struct Laid {
 }
 
 // The words to add for a term from the word `at` on, and the carry into them: for a term that is taken off, the complement of its words, and 1.
-#[derive(Drop)]
+#[derive(Clone, Copy)]
 pub struct Placed {
     pub at: usize,
     pub w0: u64,

@@ -188,7 +188,7 @@ pub fn power(position: usize) -> [u64; 12]
     shl([1, 0, 0, 0, 0, 0, 0, 0, 0, 0, 0, 0], position)
 }
 
-#[derive(Drop)]
+#[derive(Clone, Copy)]
 pub enum Order {
     Less,
     Equal,

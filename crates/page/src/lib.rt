@@ -98,7 +98,7 @@ fn position(at: u64) -> u64
 }
 
 // Some values: where the highest bit lies, 0 where no value has one, and what is among them.
-#[derive(Drop)]
+#[derive(Clone, Copy)]
 struct Seen {
     top: u64,
     nan: bool,
@@ -155,7 +155,7 @@ fn seen_in(values: &[u8]) -> Seen
 }
 
 // A summary: the word of the highest and the lowest set bit, and the class.
-#[derive(Drop)]
+#[derive(Clone, Copy)]
 struct Summary {
     extent: u64,
     class: u64,
@@ -231,7 +231,7 @@ fn trailer_length(n: usize) -> usize
 }
 
 // The number of values that a page or its trailer tells.
-#[derive(Drop)]
+#[derive(Clone, Copy)]
 pub enum Opened {
     Count(usize),
     Nothing,

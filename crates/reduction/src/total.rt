@@ -40,7 +40,7 @@ pub const ABOVE: u64 = 2;
 pub const NO_COMPARISON: u64 = 3;
 
 // The record of a total.
-#[derive(Drop)]
+#[derive(Clone, Copy)]
 pub struct Answer {
     pub result: u64,
     pub flags: u64,
@@ -53,7 +53,7 @@ pub struct Answer {
 }
 
 // The record of a total of any kind: the result of kind 4 has a second word, its head.
-#[derive(Drop)]
+#[derive(Clone, Copy)]
 pub struct Wide {
     pub head: u64,
     pub answer: Answer,

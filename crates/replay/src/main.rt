@@ -30,7 +30,7 @@ use tens::tens;
 use ways::{by_bytes, by_entry, by_words};
 
 // How many rows were read, and how many of them agree, each way.
-#[derive(Drop)]
+#[derive(Clone, Copy)]
 struct Agreed {
     rows: u64,
     words: u64,

@@ -20,7 +20,7 @@ const COLUMNS: usize = 300;
 const TOTALS: usize = 317;
 
 // How many rows and columns a table is said to have.
-#[derive(Drop)]
+#[derive(Clone, Copy)]
 struct Sides {
     rows: usize,
     columns: usize,

@@ -17,7 +17,7 @@ use format::env::{Settings, zero_sum_sign};
 use format::unpacked::Unpacked;
 use limbs::word::either;
 
-#[derive(Drop)]
+#[derive(Clone, Copy)]
 pub struct Scan {
     pub subnormal: bool,
     pub signaling: bool,
@@ -34,7 +34,7 @@ pub struct Scan {
 }
 
 // A NaN among the operands, and the rule by which one of them is chosen.
-#[derive(Drop)]
+#[derive(Clone, Copy)]
 struct OfferedNan {
     rule: u64,
     negative: bool,
@@ -43,7 +43,7 @@ struct OfferedNan {
 }
 
 // What a scan alone decides.
-#[derive(Drop)]
+#[derive(Clone, Copy)]
 pub enum Early {
     // a value without a pass, and whether flag 1 is set
     Given(Unpacked, bool),

@@ -8,7 +8,7 @@ ghost use Rattle.text.specs.Reading.{line_of, first_line, lines_of, values_from,
 use hexadecimal::digit;
 
 // A line's value, or a bad line.
-#[derive(Drop)]
+#[derive(Clone, Copy)]
 enum Line {
     Value(u64),
     Bad,
@@ -50,7 +50,7 @@ fn line_at(input: &[u8], at: usize) -> Line
 }
 
 // The number of lines, or the first bad one.
-#[derive(Drop)]
+#[derive(Clone, Copy)]
 pub enum Lines {
     Count(usize),
     Bad(usize),

@@ -6,7 +6,7 @@ ghost use Rattle.text.specs.FourLines.{pence_from, four_lines};
 
 use limbs::word::magnitude;
 
-#[derive(Drop)]
+#[derive(Clone, Copy)]
 pub struct Text {
     pub length: usize,
     pub bytes: [u8; 64],

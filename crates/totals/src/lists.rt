@@ -35,7 +35,7 @@ use scan::{Early, Scan};
 use values::{HUNDREDFOLD, Source, Walk};
 
 // What a walk gives: its report and, for further roundings of a plain sum, what the scan saw and what the chain of passes leaves.
-#[derive(Drop)]
+#[derive(Clone, Copy)]
 pub struct Walked {
     pub report: Report,
     pub rest: Unrounded,

@@ -16,7 +16,7 @@ use format::{Format, Named};
 use values::LIMIT;
 
 // An amount known exactly, between two figures, or missing.
-#[derive(Drop)]
+#[derive(Clone, Copy)]
 pub enum Amount {
     Known(f64),
     Between(f64, f64),
@@ -24,13 +24,13 @@ pub enum Amount {
 }
 
 // The lower and the upper total.
-#[derive(Drop)]
+#[derive(Clone, Copy)]
 pub struct Bounds {
     pub lower: f64,
     pub upper: f64,
 }
 
-#[derive(Drop)]
+#[derive(Clone, Copy)]
 pub struct Range {
     pub bounds: Bounds,
     pub refusal: u64,

@@ -23,7 +23,7 @@ use window::ExactSum;
 
 // The fields of a total's record, and the figure; what is not asked for is 0. Both come out of one walk, so that its loops are compiled once, for whole
 // lists: of a walk that is called from two places every call would hand its records over in memory, which for a list of one element is two thirds more.
-#[derive(Drop)]
+#[derive(Clone, Copy)]
 pub struct Report {
     pub result: u64,
     pub head: u64,

@@ -17,14 +17,14 @@ use reduction::total::{Answer, print, print_zero, refused};
 use values::LIMIT;
 
 // A format to round into, with settings of its own.
-#[derive(Drop)]
+#[derive(Clone, Copy)]
 pub struct Target {
     pub format: Format,
     pub settings: Settings,
 }
 
 // The records of three targets.
-#[derive(Drop)]
+#[derive(Clone, Copy)]
 pub struct Printed {
     pub first: Answer,
     pub second: Answer,

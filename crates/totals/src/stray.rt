@@ -8,7 +8,7 @@ ghost use Rattle.totals.specs.declared.stray.Found.TheVariants.{Nothing};
 use values::{Source, Walk, element};
 
 // Where such an element stands.
-#[derive(Drop)]
+#[derive(Clone, Copy)]
 pub enum Found {
     At(usize),
     Nothing,

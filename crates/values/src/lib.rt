@@ -40,7 +40,7 @@ pub fn word_at(values: &[u8], i: usize) -> u64
 }
 
 // A value of ten bytes (kind 4): its sign and exponent field, and its significand.
-#[derive(Drop)]
+#[derive(Clone, Copy)]
 pub struct Ten {
     pub head: u64,
     pub significand: u64,
@@ -77,7 +77,7 @@ pub const LIMIT: usize = 268435456;
 
 // Where the elements of a list stand: `count` of them, every `step`-th value from the value `start` on, among words (layout 0) or among values in
 // bytes.
-#[derive(Drop)]
+#[derive(Clone, Copy)]
 pub struct Source {
     pub layout: u64,
     pub start: usize,
@@ -88,7 +88,7 @@ pub struct Source {
 // What a total walks over: the values (summand 0), the magnitudes (1) or the squares (2) of the elements of one list, or the products (3) of those of
 // two, which stand alike; or, for pence, the values a hundred times each (4). The last three are taken from a source that is read straight on, value
 // after value.
-#[derive(Drop)]
+#[derive(Clone, Copy)]
 pub struct Walk {
     pub summand: u64,
     pub source: Source,

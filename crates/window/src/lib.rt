@@ -15,7 +15,7 @@ use limbs_window as window;
 use limbs_window::Order;
 
 // The part of a term at or above an edge, to be added `up` bits above it, whether there is some, and the lost bit plus one.
-#[derive(Drop)]
+#[derive(Clone, Copy)]
 pub struct Part {
     pub low: u64,
     pub high: u64,
@@ -63,14 +63,14 @@ pub fn window_part(t: Term, w: u64) -> Part
 }
 
 // One pass over the terms: their parts' sum modulo 2^768, and the lost bit plus one.
-#[derive(Drop)]
+#[derive(Clone, Copy)]
 pub struct Pass {
     pub lost: u64,
     pub total: [u64; 12],
 }
 
 // S of a pass: sign and magnitude.
-#[derive(Drop)]
+#[derive(Clone, Copy)]
 pub struct Signed {
     pub negative: bool,
     pub magnitude: [u64; 12],
@@ -102,7 +102,7 @@ fn width(magnitude: [u64; 12]) -> u64
 // A chain of passes from inside: how many were counted, the next edge (the Rust's `low`), and, where `near` says that one is set, the boundary
 // beside which the sum lies (the Rust's `offset`): `whole` units of 2^`place`, with the sign. Once the chain is done, the edge is the last one,
 // and `whole` at `place` with the sign is the sum S, or the boundary.
-#[derive(Drop)]
+#[derive(Clone, Copy)]
 pub struct Chain {
     pub near: bool,
     pub negative: bool,
@@ -113,7 +113,7 @@ pub struct Chain {
 }
 
 // What the sum is: zero, S units, between S and S + 1 units, or below, on or above the boundary (in magnitude).
-#[derive(Drop)]
+#[derive(Clone, Copy)]
 pub enum Outcome {
     Zero,
     Exact,
@@ -124,14 +124,14 @@ pub enum Outcome {
 }
 
 // Whether a chain is done, and how its sum came out, or goes on.
-#[derive(Drop)]
+#[derive(Clone, Copy)]
 pub enum Verdict {
     Done(Outcome),
     Next,
 }
 
 // A chain after a pass. The chain stands first, and so in ExactSum: behind a field of a byte or two it would be copied from an odd address, which is slow.
-#[derive(Drop)]
+#[derive(Clone, Copy)]
 pub struct Step {
     pub chain: Chain,
     pub verdict: Verdict,
@@ -229,7 +229,7 @@ fn go_on(c: Chain, n: u64, lost: u64) -> Step
 }
 
 // Where the last `rest` bits of a magnitude stand: within the margin of 2^65 above or below a multiple of 2^rest, or between.
-#[derive(Drop)]
+#[derive(Clone, Copy)]
 pub enum Nearness {
     Low,
     High,
@@ -350,7 +350,7 @@ pub fn advance(p: u64, c: Chain, seen: Pass) -> Step
 }
 
 // The end of a chain.
-#[derive(Drop)]
+#[derive(Clone, Copy)]
 pub struct ExactSum {
     pub chain: Chain,
     pub outcome: Outcome,

@@ -37,7 +37,7 @@ returns c =
 product-requires : tie.Need-product-requires
 product-requires c κs =
     let s = entry c in
-    let b : Bounded (number c) = operand-bounded _ s.pre _ s.args.b _ (is-number c) in
+    let b : Bounded (number c) = operand-bounded _ s.requires _ s.args.b _ (is-number c) in
     (b.0, omega arith, b.1, omega arith)
 
 returns-2 : tie.Need-returns-2

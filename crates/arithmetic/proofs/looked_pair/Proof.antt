@@ -64,8 +64,8 @@ product-requires : tie.Need-product-requires
 product-requires c κs =
     let s = entry₂ c in
     let k = (looked₂ c).before in
-    let a : Bounded (number k) = operand-bounded _ s.pre _ s.args.x _ (is-number k) in
-    let b : Bounded (number₂ c) = operand-bounded _ s.pre _ s.args.y _ (is-number₂ c) in
+    let a : Bounded (number k) = operand-bounded _ s.requires _ s.args.x _ (is-number k) in
+    let b : Bounded (number₂ c) = operand-bounded _ s.requires _ s.args.y _ (is-number₂ c) in
     (a.0, b.0, a.1, b.1)
 
 returns-3 : tie.Need-returns-3

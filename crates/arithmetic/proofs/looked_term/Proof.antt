@@ -35,7 +35,7 @@ returns c =
     (none-stands (env.summand_of o.before.args.u) (operand_of o.before) _ other (no-magnitude _ n.0 n.1) n.2, λ _. n.1)
 
 summand-term-requires : tie.Need-summand-term-requires
-summand-term-requires c κs = let s = entry c in let b : Bounded (number c) = operand-bounded _ s.pre _ s.args.b _ (is-number c) in b
+summand-term-requires c κs = let s = entry c in let b : Bounded (number c) = operand-bounded _ s.requires _ s.args.b _ (is-number c) in b
 
 returns-2 : tie.Need-returns-2
 unfolding terms.item

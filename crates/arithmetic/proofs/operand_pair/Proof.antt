@@ -31,8 +31,8 @@ product-requires c κs =
     let w = c.before in
     let k = w.before.before in
     let s = entry k in
-    let a = subst (λ x. Bounded (unpacked_of x)) k.before.v.given.1 s.pre.0 in
-    let b = subst (λ x. Bounded (unpacked_of x)) w.w.given.1 s.pre.1 in
+    let a = subst (λ x. Bounded (unpacked_of x)) k.before.v.given.1 s.requires.0 in
+    let b = subst (λ x. Bounded (unpacked_of x)) w.w.given.1 s.requires.1 in
     (a.0, b.0, a.1, b.1)
 
 returns-3 : tie.Need-returns-3

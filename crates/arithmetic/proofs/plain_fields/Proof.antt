@@ -20,7 +20,7 @@ add-result : tie.Need-overflow-add-result
 add-result c =
     let s = (tested c).before in
     let f = format_of s.args.f in
-    omega (arith, field-small f s.args.x s.pre, field-small f s.args.y s.pre, c.before.field_of.ensures, c.field-of2.ensures)
+    omega (arith, field-small f s.args.x s.requires, field-small f s.args.y s.requires, c.before.field_of.ensures, c.field-of2.ensures)
 
 returns-2 : tie.Need-returns-2
 returns-2 c =

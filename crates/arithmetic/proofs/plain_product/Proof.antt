@@ -40,8 +40,8 @@ product-requires c κs =
     let s = entry c in
     let f = format_of s.args.f in
     let a = c.before.before in (
-      omega (arith, field-small f s.args.x s.pre.0, a.before.field_of.ensures),
-      omega (arith, field-small f s.args.y s.pre.0, c.before.field-of2.ensures),
+      omega (arith, field-small f s.args.x s.requires.0, a.before.field_of.ensures),
+      omega (arith, field-small f s.args.y s.requires.0, c.before.field-of2.ensures),
       rw a.plain-significand.ensures (significand-pos f s.args.x),
       rw c.plain-significand2.ensures (significand-pos f s.args.y),
     )

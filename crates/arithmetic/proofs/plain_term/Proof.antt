@@ -24,7 +24,7 @@ number k = cc (k.before.before.sign_of.ensures, k.before.field_of.ensures, k.pla
 summand-term-requires : tie.Need-summand-term-requires
 summand-term-requires c κs =
     let s = entry c in (
-      omega (arith, field-small (format_of s.args.f) s.args.b s.pre.0, c.before.field_of.ensures),
+      omega (arith, field-small (format_of s.args.f) s.args.b s.requires.0, c.before.field_of.ensures),
       rw c.plain-significand.ensures (significand-pos (format_of s.args.f) s.args.b),
     )
 

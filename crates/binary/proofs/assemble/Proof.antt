@@ -27,7 +27,7 @@ add-result : tie.Need-overflow-add-result
 add-result c =
     let t = placed c in
     let s = t.before.before in
-    let n = sign_le (s.args.f.width - 1) (omega (arith, s.pre.0.w_le)) in
+    let n = sign_le (s.args.f.width - 1) (omega (arith, s.requires.0.w_le)) in
     record { fits = omega (arith, room s, scaled-is t, n, c.power.ensures.0) }
 
 returns : tie.Need-returns

@@ -20,13 +20,13 @@ assemble-requires c κs = ((entry c.before).requires.0, (pow_pos _, rw (leading-
 add-assemble : tie.Need-overflow-add-assemble
 add-assemble c =
     let s = entry c.before in
-    record { fits = omega (arith, s.pre.1.0, sign_le s.args.f.exponent_bits (omega (arith, s.pre.0.e-le))) }
+    record { fits = omega (arith, s.requires.1.0, sign_le s.args.f.exponent_bits (omega (arith, s.requires.0.e-le))) }
 
 assemble-requires-2 : tie.Need-assemble-requires-2
 assemble-requires-2 c κs =
     let t = c.before in
     let s = entry t in
-    (s.pre.0, (s.pre.1.0, fraction-lt _ _ s.args.significand _ (omega (arith, s.pre.0.w-ge)) s.pre.1.1 (leading-is t) c.if1.false))
+    (s.requires.0, (s.requires.1.0, fraction-lt _ _ s.args.significand _ (omega (arith, s.requires.0.w-ge)) s.requires.1.1 (leading-is t) c.if1.false))
 
 returns : tie.Need-returns
 unfolding encode

@@ -35,7 +35,7 @@ abbrev last : tie.After-struct-known3 → tie.After-struct-known2
 last t = t.before.before
 
 assemble-requires : tie.Need-assemble-requires
-assemble-requires c κs = let s = ieee c.before in (s.pre.0, (c.before.field-max.ensures.1, payload_lt _ _ s.pre.1))
+assemble-requires c κs = let s = ieee c.before in (s.requires.0, (c.before.field-max.ensures.1, payload_lt _ _ s.requires.1))
 
 returns : tie.Need-returns
 returns c =
@@ -47,12 +47,12 @@ returns c =
 add-assemble : tie.Need-overflow-add-assemble
 add-assemble c =
     let s = ieee (top c) in
-    record { fits = omega (arith, first-is c, sign_le (fraction_bits (form s) - 1) (omega (arith, s.pre.0.w_le)), s.pre.1) }
+    record { fits = omega (arith, first-is c, sign_le (fraction_bits (form s) - 1) (omega (arith, s.requires.0.w_le)), s.requires.1) }
 
 assemble-requires-2 : tie.Need-assemble-requires-2
 assemble-requires-2 c κs =
     let s = ieee (top c) in
-    (s.pre.0, ((top c).field-max.ensures.1, rw (first-is c) (quiet-lt _ _ (omega (arith, s.pre.0.w-ge)) s.pre.1)))
+    (s.requires.0, ((top c).field-max.ensures.1, rw (first-is c) (quiet-lt _ _ (omega (arith, s.requires.0.w-ge)) s.requires.1)))
 
 returns-2 : tie.Need-returns-2
 returns-2 c =
@@ -65,7 +65,7 @@ returns-2 c =
 assemble-requires-3 : tie.Need-assemble-requires-3
 assemble-requires-3 c κs =
     let s = other (no-inf c).before in
-    (s.pre.0, (c.before.before.field-max2.ensures.1, omega (arith, ones_is c, pow_pos (fraction_bits (form s)))))
+    (s.requires.0, (c.before.before.field-max2.ensures.1, omega (arith, ones_is c, pow_pos (fraction_bits (form s)))))
 
 returns-3 : tie.Need-returns-3
 returns-3 c =

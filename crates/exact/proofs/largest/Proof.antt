@@ -43,7 +43,7 @@ plain t short =
     let range = t.before.exponent-range.ensures.0 in
     let all = all-is (filled t) in (
       cc (range, all, largest-plain (form s) s.args.q s.args.negative short),
-      (omega (arith, range, range-fits (form s) s.pre.0), omega (arith, all, ones_lt s.args.q (digits (form s)) s.pre.1 s.pre.2)),
+      (omega (arith, range, range-fits (form s) s.requires.0), omega (arith, all, ones_lt s.args.q (digits (form s)) s.requires.1 s.requires.2)),
     )
 
 scaled-requires : tie.Need-scaled-requires
@@ -58,7 +58,7 @@ sub-t11 : tie.Need-overflow-sub-t11
 sub-t11 c =
     let t = filled c.before.before in
     let s = entry t in
-    omega (arith, all-is t, ones_pos s.args.q (digits (form s)) s.pre.1 s.pre.2)
+    omega (arith, all-is t, ones_pos s.args.q (digits (form s)) s.requires.1 s.requires.2)
 
 returns : tie.Need-returns
 returns c =
@@ -70,7 +70,7 @@ returns c =
     let all = all-is t in
     let full = c.if2.true ∙ (sized t).digits.ensures in (
       rw (range, all, ones-full q (digits (form s)) full) (sym (largest-noinf (form s) q s.args.negative c.before.if1.true full)),
-      (rw range (range-fits (form s) s.pre.0), omega (arith, all, ones_lt q (digits (form s)) s.pre.1 s.pre.2)),
+      (rw range (range-fits (form s) s.requires.0), omega (arith, all, ones_lt q (digits (form s)) s.requires.1 s.requires.2)),
     )
 
 returns-2 : tie.Need-returns-2

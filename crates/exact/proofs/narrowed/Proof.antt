@@ -14,7 +14,7 @@ use Rattle.exact.proofs.narrowed.Statement.{statement}
 use Rattle.exact.proofs.narrowed.Tie as tie
 
 abbrev window : tie.Start → List ℕ
-window s = s.args.t4
+window s = s.args.w
 
 its-words : (s : tie.Start) → Words 12 (window s)
 its-words s = words 12 (window s) _ s.well_formed.1.1.1.0

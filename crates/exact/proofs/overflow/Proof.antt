@@ -80,7 +80,7 @@ returns-5 c =
     let t = beyond c.before in
     let s = entry t in
     let no = c.before.before.if3.false in (
-      overflow-nan (form s) (env s) s.args.q s.args.negative (goes t) (asked t).if1.left no c.if4.false s.pre.0.kind-le,
+      overflow-nan (form s) (env s) s.args.q s.args.negative (goes t) (asked t).if1.left no c.if4.false s.requires.0.kind-le,
       pow_pos _,
       search rules,
     )

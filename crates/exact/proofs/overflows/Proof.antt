@@ -50,14 +50,14 @@ returns-2 : tie.Need-returns-2
 returns-2 c =
     let t = c.before.before in
     let s = entry t in
-    sym (over-kind (form s) s.args.q s.args.g s.args.kept s.args.lowest s.pre.1.0 (some s) s.pre.1.2
+    sym (over-kind (form s) s.args.q s.args.g s.args.kept s.args.lowest s.requires.1.0 (some s) s.requires.1.2
     (within t) (noinf-other _ c.if2.true))
 
 returns-3 : tie.Need-returns-3
 returns-3 c =
     let t = c.before.before in
     let s = entry (inside t) in
-    sym (over-digits (form s) s.args.q s.args.g s.args.kept s.args.lowest s.pre.1.0 (some s) s.pre.1.2
+    sym (over-digits (form s) s.args.q s.args.g s.args.kept s.args.lowest s.requires.1.0 (some s) s.requires.1.2
     (within (inside t)) (no-inf t) (λ e. c.if3.true (e ∙ sym c.before.digits.ensures)))
 
 returns-4 : tie.Need-returns-4
@@ -65,7 +65,7 @@ returns-4 c =
     let t = c.before in
     let i = inside (kind t) in
     let s = entry i in
-    sym (over-lower (form s) s.args.q s.args.g s.args.kept s.args.lowest s.pre.1.0 (some s) s.pre.1.2
+    sym (over-lower (form s) s.args.q s.args.g s.args.kept s.args.lowest s.requires.1.0 (some s) s.requires.1.2
     (omega (arith, i.if1.left, c.if4.true, i.before.emax.ensures)) (no-inf (kind t)) (full t))
 
 returns-5 : tie.Need-returns-5
@@ -74,7 +74,7 @@ returns-5 c =
     let i = inside (kind t) in
     let s = entry i in
     rw c.ones.ensures
-    (over-at (form s) s.args.q s.args.g s.args.kept s.args.lowest s.pre.1.0 (some s) s.pre.1.2
+    (over-at (form s) s.args.q s.args.g s.args.kept s.args.lowest s.requires.1.0 (some s) s.requires.1.2
     (omega (arith, c.before.if4.false, i.before.emax.ensures)) (no-inf (kind t)) (full t))
 
 pub overflows-spec : {M : Type 1} → statement M

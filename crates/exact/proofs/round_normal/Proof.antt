@@ -17,26 +17,26 @@ returns : tie.Need-returns
 returns c =
     let t = c.before.before in
     let s = entry t in
-    let b = s.pre.0 in
+    let b = s.requires.0 in
     let r = c.overflow.ensures in
-    let over = goes_over b.ends b.keeps b.first s.pre.1 (sym t.overflows.ensures ∙ c.before.if1.true) in
+    let over = goes_over b.ends b.keeps b.first s.requires.1 (sym t.overflows.ensures ∙ c.before.if1.true) in
     record { equal = λ x st. r.0 ∙ over x st; encodes = r.1; flags = r.2 }
 
 scaled-requires : tie.Need-scaled-requires
 scaled-requires c κs =
     let s = entry (tested c) in
-    let b = s.pre.0 in
-    rw (tested c).before.digits.ensures (stays-word b.ends b.keeps b.first s.pre.1)
+    let b = s.requires.0 in
+    rw (tested c).before.digits.ensures (stays-word b.ends b.keeps b.first s.requires.1)
 
 returns-2 : tie.Need-returns-2
 returns-2 c =
     let k = c.before.before.before in
     let t = tested k in
     let s = entry t in
-    let b = s.pre.0 in
+    let b = s.requires.0 in
     let o = sym t.overflows.ensures ∙ k.before.if1.false in
-    let same = stays b.ends b.keeps b.first s.pre.1 o in
-    let can = stays-encodes b.ends b.keeps b.first s.pre.1 o in
+    let same = stays b.ends b.keeps b.first s.requires.1 o in
+    let can = stays-encodes b.ends b.keeps b.first s.requires.1 o in
     let number = c.before.before.scaled.ensures in
     let lost = c.before.flag.ensures in
     let up = c.flag2.ensures in

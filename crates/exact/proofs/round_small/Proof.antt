@@ -82,8 +82,8 @@ cut-requires c κs =
     let s = entry c in
     let b = begun s in
     rw (sized c).digits.ensures (
-      (b.ends.rounds.some, small_word b.ends b.keeps s.pre.1),
-      small-sticky b.ends b.keeps s.pre.1,
+      (b.ends.rounds.some, small_word b.ends b.keeps s.requires.1),
+      small-sticky b.ends b.keeps s.requires.1,
     )
 
 add_kept : tie.Need-overflow-add-kept
@@ -91,7 +91,7 @@ add_kept c =
     let t = rounded (judged (kept c)) in
     let s = entry (tried t) in
     let b = begun s in
-    record { fits = omega (arith, small-sum b.ends b.keeps s.pre.1 (cut-is t.before) t.rounds-up.ensures, c.before.flag.ensures.0) }
+    record { fits = omega (arith, small-sum b.ends b.keeps s.requires.1 (cut-is t.before) t.rounds-up.ensures, c.before.flag.ensures.0) }
 
 add-raised : tie.Need-overflow-add-raised
 add-raised c = record { fits = omega (arith, (kept-is (kept c.before)).small, c.flag2.ensures.1) }
@@ -102,7 +102,7 @@ small-number-requires c κs =
     let s = entry (tried t) in
     let b = begun s in
     rw (c.before.before.flag.ensures.0, (sized (tried t)).digits.ensures)
-    (small-fits b.ends b.keeps s.pre.1 (cut-is t.before) t.rounds-up.ensures)
+    (small-fits b.ends b.keeps s.requires.1 (cut-is t.before) t.rounds-up.ensures)
 
 returns : tie.Need-returns
 returns c =
@@ -111,7 +111,7 @@ returns c =
     let s = entry (tried t) in
     let b = begun s in
     let k = flushed-is c.before in
-    let same = flushed b.ends b.keeps s.pre.1 (cut-is t.before) t.rounds-up.ensures b.first (tiny-is (tried t)) k.0 in
+    let same = flushed b.ends b.keeps s.requires.1 (cut-is t.before) t.rounds-up.ensures b.first (tiny-is (tried t)) k.0 in
     record { equal = λ x st. rw k.1 (same x st); encodes = tt; flags = omega (arith, k.1) }
 
 returns-2 : tie.Need-returns-2
@@ -122,8 +122,8 @@ returns-2 c =
     let s = entry (tried t) in
     let b = begun s in
     let k = kept-is (kept l) in
-    let same = unflushed b.ends b.keeps s.pre.1 (cut-is t.before) t.rounds-up.ensures b.first (tiny-is (tried t)) k.off in
-    let can = small-encodes b.ends b.keeps s.pre.1 (cut-is t.before) t.rounds-up.ensures in
+    let same = unflushed b.ends b.keeps s.requires.1 (cut-is t.before) t.rounds-up.ensures b.first (tiny-is (tried t)) k.off in
+    let can = small-encodes b.ends b.keeps s.requires.1 (cut-is t.before) t.rounds-up.ensures in
     let number = c.small-number.ensures in
     let up = l.before.flag.ensures.0 in
     let raised = c.before.flag2.ensures in

@@ -12,27 +12,27 @@ use Rattle.format.proofs.bias.Statement.{statement}
 use Rattle.format.proofs.bias.Tie as tie
 
 -- where a bias is named
-abbrev named : tie.After-known-told → ℤ
-named k = k.before.n.given.0.0
+abbrev named : tie.In-Bias → ℤ
+named k = k.in-Bias.b
 
-returns : tie.Need-returns
+returns : tie.Need-returns-in-Nothing
 unfolding bias
-returns c = (rw c.before.enum_told.given.1 c.own-bias.ensures.0, omega (arith, c.own-bias.ensures.1))
+returns c = (rw c.in-Nothing.is c.own_bias.ensures.0, omega (arith, c.own_bias.ensures.1))
 
-returns-2 : tie.Need-returns-2
+returns-2 : tie.Need-returns-then-b-lt0
 unfolding bias
 returns-2 c =
     let k = c.before in
-    (rw k.before.n.given.1 (no-bias (named k) k.known-told.given.0.1 _ c.if1.true), omega arith)
+    (rw k.in-Bias.is (no-bias (named k) k.in-Bias.known_told-1-own.given.0.1 _ c.if-b-lt0.true), omega arith)
 
-returns-3 : tie.Need-returns-3
+returns-3 : tie.Need-returns-else-b-lt0
 unfolding bias
 returns-3 c =
     let k = c.before.before in
-    let n = k.before.n.given.1 in
-    let near = subst (λ (x : Named). Offered (named_of x)) n k.before.before.before.requires.named-le in
-    rw n (bias-named (named k) k.known-told.given.0.1 _ c.magnitude.ensures _ c.before.if1.false near)
+    let n = k.in-Bias.is in
+    let near = subst (λ (x : Named). Offered (named_of x)) n k.requires.named-le in
+    rw n (bias-named (named k) k.in-Bias.known_told-1-own.given.0.1 _ c.magnitude.ensures _ c.if-b-lt0.false near)
 
-pub bias-spec : {M : Type 1} → statement M
-bias-spec =
+pub bias_spec : {M : Type 1} → statement M
+bias_spec =
     tie.close (tie.spec (λ c. search rules) (λ c κs. search rules) (λ c. search rules) (λ c κs. search rules) returns returns-2 returns-3)

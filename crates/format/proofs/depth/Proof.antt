@@ -9,8 +9,8 @@ returns : tie.Need-returns
 unfolding depth
 returns c = (omega arith, omega arith)
 
-pub depth-spec : {M : Type 1} → statement M
-depth-spec =
+pub depth_spec : {M : Type 1} → statement M
+depth_spec =
     tie.close
     (tie.spec
     (λ c κs. search rules)

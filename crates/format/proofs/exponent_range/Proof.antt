@@ -8,26 +8,26 @@ use Rattle.format.proofs.exponent_range.Statement.{statement}
 use Rattle.format.proofs.exponent_range.Tie as tie
 
 -- once the number of exponent fields is known
-bounded : (t : tie.After-power) → (4 ≤ t.power.result) × (t.power.result ≤ 268435456)
-bounded t = let b = t.before.requires in whole_le _ _ t.power.ensures.0 b.e-ge b.e-le
+bounded : (t : tie.After-power-whole) → (4 ≤ t.power-whole.result) × (t.power-whole.result ≤ 268435456)
+bounded t = let b = t.requires in whole_le _ _ t.power-whole.ensures.0 b.e-ge b.e-le
 
-sub-result : tie.Need-overflow-sub-result
+sub-result : tie.Need-overflow_sub-result
 sub-result c = omega (arith, (bounded c.before.before).0)
 
-sub-result-2 : tie.Need-overflow-sub-result-2
+sub-result-2 : tie.Need-overflow_sub-result-else-f-eq0
 sub-result-2 c = omega (arith, (bounded c.before.before).0)
 
-returns : tie.Need-returns
+returns : tie.Need-returns-then-f-eq0
 unfolding exponent_range
-returns c = let b = bounded c.before.before in (rw c.if1.true (omega arith), omega arith)
+returns c = let b = bounded c.before.before in (rw c.if-f-eq0.true (omega arith), omega arith)
 
-returns-2 : tie.Need-returns-2
+returns-2 : tie.Need-returns-else-f-eq0
 unfolding exponent_range
 returns-2 c =
     let p = c.before.before in
-    let f = p.before.args.f in
+    let f = p.args.f in
     let b = bounded p in
-    (rw (range_other f.kind f.exponent_bits c.if1.false) (omega arith), omega arith)
+    (rw (range_other f.kind f.exponent_bits c.if-f-eq0.false) (omega arith), omega arith)
 
-pub exponent-range-spec : {M : Type 1} → statement M
-exponent-range-spec = tie.close (tie.spec (λ c κs. search rules) sub-result sub-result-2 returns returns-2)
+pub exponent_range_spec : {M : Type 1} → statement M
+exponent_range_spec = tie.close (tie.spec (λ c κs. search rules) sub-result sub-result-2 returns returns-2)

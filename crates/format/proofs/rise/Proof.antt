@@ -5,13 +5,13 @@ use Rattle.totals_spec.specs.Format.{rise}
 use Rattle.format.proofs.rise.Statement.{statement}
 use Rattle.format.proofs.rise.Tie as tie
 
-returns : tie.Need-returns
+returns : tie.Need-returns-then-products
 unfolding rise
-returns c = (rw c.before.if1.true (omega arith), omega arith)
+returns c = (rw c.if-products.true (omega arith), omega arith)
 
-returns-2 : tie.Need-returns-2
+returns-2 : tie.Need-returns-else-products
 unfolding rise
-returns-2 c = (rw c.if1.false, omega arith)
+returns-2 c = (rw c.if-products.false, omega arith)
 
-pub rise-spec : {M : Type 1} → statement M
-rise-spec = tie.close (tie.spec (λ c κs. search rules) returns returns-2)
+pub rise_spec : {M : Type 1} → statement M
+rise_spec = tie.close (tie.spec (λ c κs. search rules) returns returns-2)

@@ -6,27 +6,27 @@ use Rattle.totals_spec.specs.Format.{valid_format}
 use Rattle.format.proofs.valid_format.Statement.{statement}
 use Rattle.format.proofs.valid_format.Tie as tie
 
-returns : tie.Need-returns
+returns : tie.Need-returns-then-f-gt3
 unfolding valid_format
-returns c = simp (lt-leb _ _ c.if1.true)
+returns c = simp (lt-leb _ _ c.if-f-gt3.true)
 
-returns-2 : tie.Need-returns-2
+returns-2 : tie.Need-returns-then-f-lt2
 unfolding valid_format
-returns-2 c = simp (lt-leb _ _ c.if2.true, and-false)
+returns-2 c = simp (lt-leb _ _ c.if-f-lt2.true, and-false)
 
-returns-3 : tie.Need-returns-3
+returns-3 : tie.Need-returns-then-f-gt28
 unfolding valid_format
-returns-3 c = simp (lt-leb _ _ c.if3.true, and-false)
+returns-3 c = simp (lt-leb _ _ c.if-f-gt28.true, and-false)
 
-returns-4 : tie.Need-returns-4
+returns-4 : tie.Need-returns-then-f
 unfolding valid_format
-returns-4 c = simp (lt-leb _ _ c.if4.true, and-false)
+returns-4 c = simp (lt-leb _ _ c.if-f.true, and-false)
 
-returns-5 : tie.Need-returns-5
+returns-5 : tie.Need-returns-then-f-gt64
 unfolding valid_format
-returns-5 c = simp (lt-leb _ _ c.if5.true, and-false)
+returns-5 c = simp (lt-leb _ _ c.if-f-gt64.true, and-false)
 
-returns-6 : tie.Need-returns-6
+returns-6 : tie.Need-returns
 unfolding valid_format
 returns-6 c =
     let v = c.before in
@@ -34,8 +34,8 @@ returns-6 c =
     let d = w.before.before.before in
     let b = d.before.before in
     let a = b.before.before in
-    rw (le-leb _ _ a.if1.false, le-leb _ _ b.if2.false, le-leb _ _ d.if3.false, le-leb _ _ w.if4.false, le-leb _ _ v.if5.false)
+    rw (le-leb _ _ a.if-f-gt3.false, le-leb _ _ b.if-f-lt2.false, le-leb _ _ d.if-f-gt28.false, le-leb _ _ w.if-f.false, le-leb _ _ v.if-f-gt64.false)
     c.offered.ensures
 
-pub valid-format-spec : {M : Type 1} → statement M
-valid-format-spec = tie.close (tie.spec returns returns-2 returns-3 (λ c. search rules) returns-4 returns-5 (λ c κs. search rules) returns-6)
+pub valid_format_spec : {M : Type 1} → statement M
+valid_format_spec = tie.close (tie.spec returns returns-2 returns-3 (λ c. search rules) returns-4 returns-5 (λ c κs. search rules) returns-6)

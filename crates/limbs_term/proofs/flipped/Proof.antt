@@ -8,8 +8,8 @@ returns : tie.Need-returns
 returns c =
     let o = c.before in
     let a = o.before.args in
-    masked a.negative a.w o.one-if.result c.wrapping-sub-u64.result o.one-if.ensures c.wrapping-sub-u64.ensures (search rules)
+    masked a.negative a.w o.one_if.result c.wrapping_sub_u64.result o.one_if.ensures c.wrapping_sub_u64.ensures (search rules)
     (search rules)
 
-pub flipped-spec : {M : Type 1} → statement M
-flipped-spec = tie.close (tie.spec (λ c κs. search rules) (λ c κs. search rules) returns)
+pub flipped_spec : {M : Type 1} → statement M
+flipped_spec = tie.close (tie.spec (λ c κs. search rules) (λ c κs. search rules) returns)

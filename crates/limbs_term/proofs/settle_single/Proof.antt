@@ -7,9 +7,9 @@ use Rattle.limbs_term.proofs.settle_single.Tie as tie
 
 returns : tie.Need-returns
 returns c =
-    let l = c.before.lay-single.ensures in
+    let l = c.before.lay_single.ensures in
     let t = c.turned.ensures in
     (settles l.0 t t.second, t.third ∙ ap (flip c.before.before.args.negative) l.1)
 
-pub settle-single-spec : {M : Type 1} → statement M
-settle-single-spec = tie.close (tie.spec (λ c κs. search rules) (λ c κs. search rules) returns)
+pub settle_single_spec : {M : Type 1} → statement M
+settle_single_spec = tie.close (tie.spec (λ c κs. search rules) (λ c κs. search rules) returns)

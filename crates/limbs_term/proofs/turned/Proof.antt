@@ -13,13 +13,13 @@ returns c =
     record {
       word = refl;
       within = refl;
-      small = one-if-small a.negative c.one-if.ensures;
+      small = one-if-small a.negative c.one_if.ensures;
       exact =
-          placed-as a.negative a.p _ refl first.flipped.ensures second.flipped2.ensures third.flipped3.ensures c.one-if.ensures
+          placed-as a.negative a.p _ refl first.flipped-w0.ensures second.flipped-w1.ensures third.flipped-w2.ensures c.one_if.ensures
           (search rules) (search rules) (search rules);
-      second = second.flipped2.ensures;
-      third = third.flipped3.ensures;
+      second = second.flipped-w1.ensures;
+      third = third.flipped-w2.ensures;
     }
 
-pub turned-spec : {M : Type 1} → statement M
-turned-spec = tie.close (tie.spec (λ c κs. search rules) (λ c κs. search rules) (λ c κs. search rules) (λ c κs. search rules) returns)
+pub turned_spec : {M : Type 1} → statement M
+turned_spec = tie.close (tie.spec (λ c κs. search rules) (λ c κs. search rules) (λ c κs. search rules) (λ c κs. search rules) returns)

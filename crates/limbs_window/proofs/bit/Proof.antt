@@ -11,10 +11,10 @@ use Rattle.limbs_window.proofs.bit.Tie as tie
 returns : tie.Need-returns
 returns c =
     let s = c.before.before in
-    let p = c.before.split in
+    let p = c.before.split-p in
     ap (λ (x : ℕ). eqb x 1)
-    (ap (λ (x : ℕ). x / 2 ^ p.result.bit % 2) c.word_at.ensures
+    (ap (λ (x : ℕ). x / 2 ^ p.result.bit % 2) c.word_at-w.ensures
     ∙ bit-digit s.args.a (words 12 s.args.a _ s.well_formed.0).fit p.ensures)
 
-pub bit-spec : {M : Type 1} → statement M
-bit-spec = tie.close (tie.spec (λ c κs. search rules) (λ c κs. search rules) (λ c. search rules) returns)
+pub bit_spec : {M : Type 1} → statement M
+bit_spec = tie.close (tie.spec (λ c κs. search rules) (λ c κs. search rules) (λ c. search rules) returns)

@@ -15,5 +15,5 @@ returns c =
     c.sub.ensures
     ∙ ap (λ (x : ℕ). x % 2 ^ 768) (zero-add _ ∙ ap (λ (x : ℕ). 2 ^ 768 - x) (mod-eq_of_lt (value-lt (words 12 s.args.a _ s.well_formed.0))))
 
-pub negate-spec : {M : Type 1} → statement M
-negate-spec = tie.close (tie.spec (λ c κs. search rules) returns)
+pub negate_spec : {M : Type 1} → statement M
+negate_spec = tie.close (tie.spec (λ c κs. search rules) returns)

@@ -11,5 +11,5 @@ returns : tie.Need-returns
 unfolding value
 returns c = c.shl.ensures ∙ ap (λ (x : ℕ). x % 2 ^ 768) (one-mul _)
 
-pub power-spec : {M : Type 1} → statement M
-power-spec = tie.close (tie.spec (λ c κs. search rules) returns)
+pub power_spec : {M : Type 1} → statement M
+power_spec = tie.close (tie.spec (λ c κs. search rules) returns)

@@ -7,23 +7,23 @@ use Rattle.limbs.proofs.Digits.{Filled, fill_none, fill-next, fill_done}
 use Rattle.limbs_window.proofs.shl.Statement.{statement}
 use Rattle.limbs_window.proofs.shl.Tie as tie
 
-abbrev invariant-loop : tie.invariant-loop
+abbrev invariant-loop : tie.invariant-loop-i
 invariant-loop a count r₀ i₀ r i = Filled 12 r i (value a * 2 ^ count)
 
-abbrev decreases-loop : tie.decreases-loop
+abbrev decreases-loop : tie.decreases-loop-i
 decreases-loop a count r₀ i₀ r i = 12 - i
 
-loop-holds : tie.Need-loop-init invariant-loop decreases-loop
+loop-holds : tie.Need-loop-i-init invariant-loop decreases-loop
 loop-holds c = fill_none _ (zeros 12)
 
-loop-again : tie.Need-loop-preserved invariant-loop decreases-loop
-loop-again c = fill-next c.before.before.loop.invariant c.before.loop-test.true c.shl-at.ensures
+loop-again : tie.Need-loop-i-preserved invariant-loop decreases-loop
+loop-again c = fill-next c.before.before.loop-i.invariant c.before.loop-i-test.true c.shl_at.ensures
 
 returns : tie.Need-returns invariant-loop decreases-loop
-returns c = fill_done c.before.loop.invariant c.loop-test.false
+returns c = fill_done c.before.loop-i.invariant c.loop-i-test.false
 
-pub shl-spec : {M : Type 1} → statement M
-shl-spec =
+pub shl_spec : {M : Type 1} → statement M
+shl_spec =
     tie.close
     (tie.spec
     invariant-loop

@@ -10,22 +10,22 @@ use Rattle.limbs.proofs.Digits.{Filled, fill_none, fill-next, fill_done}
 use Rattle.limbs_window.proofs.shr.Statement.{statement}
 use Rattle.limbs_window.proofs.shr.Tie as tie
 
-abbrev invariant-loop : tie.invariant-loop
+abbrev invariant-loop : tie.invariant-loop-i
 invariant-loop a count r₀ i₀ r i = Filled 12 r i (value a / 2 ^ count)
 
-abbrev decreases-loop : tie.decreases-loop
+abbrev decreases-loop : tie.decreases-loop-i
 decreases-loop a count r₀ i₀ r i = 12 - i
 
-loop-holds : tie.Need-loop-init invariant-loop decreases-loop
+loop-holds : tie.Need-loop-i-init invariant-loop decreases-loop
 loop-holds c = fill_none _ (zeros 12)
 
-loop-again : tie.Need-loop-preserved invariant-loop decreases-loop
-loop-again c = fill-next c.before.before.loop.invariant c.before.loop-test.true c.bor_shr_at.ensures
+loop-again : tie.Need-loop-i-preserved invariant-loop decreases-loop
+loop-again c = fill-next c.before.before.loop-i.invariant c.before.loop-i-test.true c.shr_at.ensures
 
 returns : tie.Need-returns invariant-loop decreases-loop
 returns c =
     let s = c.before.before in
-    fill_done c.before.loop.invariant c.loop-test.false
+    fill_done c.before.loop-i.invariant c.loop-i-test.false
     ∙ mod-eq_of_lt (lt_of_le_of_lt (shr_le (value s.args.a) s.args.count) (value-lt (words 12 s.args.a _ s.well_formed.0)))
 
 pub shr_spec : {M : Type 1} → statement M

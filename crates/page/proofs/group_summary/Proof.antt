@@ -45,7 +45,7 @@ returns c =
     let a = s.args in
     subst (λ (l : List ℕ). Summarized l c.summary-of.result)
     (ap (λ (k : ℕ). values_in (take (8 * k - 8 * (64 * a.g)) (drop (8 * (64 * a.g)) a.page.now))) m.smaller.ensures
-    ∙ group-bytes a.n a.g a.page.now (omega (arith, s.pre.0)) s.pre.1)
+    ∙ group-bytes a.n a.g a.page.now (omega (arith, s.requires.0)) s.requires.1)
     c.summary-of.ensures
 
 pub group-summary-spec : {M : Type 1} → statement M

@@ -100,7 +100,7 @@ loop-again c =
     let a = (start t).args in (
       add-one-le t.loop-test.taken,
       omega (arith, l.inv.1),
-      summary-laid a.n l.g a.page.now l.page (bytes t.before.before) (less t) (omega (arith, (start t).pre.2, (start t).pre.1))
+      summary-laid a.n l.g a.page.now l.page (bytes t.before.before) (less t) (omega (arith, (start t).requires.2, (start t).requires.1))
           o.before.before.group-summary.result o.before.before.group-summary.ensures l.inv.2 l.at l.inv.1 _ _
           o.put_word.ensures c.before.before.put-word2.ensures,
     )

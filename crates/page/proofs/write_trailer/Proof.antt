@@ -29,13 +29,13 @@ put-word-requires : tie.Need-put-word-requires
 put-word-requires c κs = omega (arith, room c)
 
 add-put-word : tie.Need-overflow-add-put-word
-add-put-word c = let a = (first c).before in omega (arith, room a, (start a).good)
+add-put-word c = let a = (first c).before in omega (arith, room a, (start a).well_formed)
 
 put-word-requires-2 : tie.Need-put-word-requires-2
 put-word-requires-2 c κs = omega (arith, room (first c).before, c.before.before.page.given)
 
 add-put-word-2 : tie.Need-overflow-add-put-word-2
-add-put-word-2 c = let a = (first (second c).before).before in omega (arith, room a, (start a).good)
+add-put-word-2 c = let a = (first (second c).before).before in omega (arith, room a, (start a).well_formed)
 
 put-word-requires-3 : tie.Need-put-word-requires-3
 put-word-requires-3 c κs =
@@ -78,7 +78,7 @@ put-word-requires-4 : tie.Need-put-word-requires-4
 put-word-requires-4 c κs = omega (arith, room-2 c)
 
 add-put-word-4 : tie.Need-overflow-add-put-word-4
-add-put-word-4 c = let a = (fourth c).before in omega (arith, room-2 a, (start-2 a).good)
+add-put-word-4 c = let a = (fourth c).before in omega (arith, room-2 a, (start-2 a).well_formed)
 
 put-word-requires-5 : tie.Need-put-word-requires-5
 put-word-requires-5 c κs = omega (arith, room-2 (fourth c).before, c.before.before.page4.given)

@@ -17,23 +17,23 @@ env s = settings_of s.args.c
 abbrev entry : tie.Else1 → tie.Start
 entry k = k.before.before
 
-no_nan : (k : tie.Else1) → nan_decides (entry k).args.infinity-first (entry k).args.s ≡ false
+no_nan : (k : tie.Else1) → nan_decides (entry k).args.infinity_first (entry k).args.s ≡ false
 no_nan k = sym k.before.nan-decides.ensures ∙ k.if1.false
 
 returns : tie.Need-returns
 returns c =
     let t = c.before.before.before in
     let s = t.before.before in
-    let e : nan_decides s.args.infinity-first s.args.s ≡ true = sym t.before.nan-decides.ensures ∙ t.if1.true in (
-      by-nan (env s) s.args.infinity-first s.args.s c.before.selected.result _ e c.before.selected.ensures c.either.ensures,
-      nan-leaves s.args.infinity-first s.args.s e,
+    let e : nan_decides s.args.infinity_first s.args.s ≡ true = sym t.before.nan-decides.ensures ∙ t.if1.true in (
+      by-nan (env s) s.args.infinity_first s.args.s c.before.selected.result _ e c.before.selected.ensures c.either.ensures,
+      nan-leaves s.args.infinity_first s.args.s e,
     )
 
 returns-2 : tie.Need-returns-2
 returns-2 c =
     let e = c.before.before in
     let s = entry e in (
-      by-invalid (env s) s.args.infinity-first s.args.s (no_nan e) c.default-nan.result c.before.if2.true c.default-nan.ensures,
+      by-invalid (env s) s.args.infinity_first s.args.s (no_nan e) c.default-nan.result c.before.if2.true c.default-nan.ensures,
       invalid-leaves s.args.s c.before.if2.true,
     )
 
@@ -42,7 +42,7 @@ returns-3 c =
     let t = c.before.before in
     let i = t.before in
     let s = entry i.before in (
-      by_both (env s) s.args.infinity-first s.args.s (no_nan i.before) i.if2.false c.default-nan2.result t.if3.true
+      by_both (env s) s.args.infinity_first s.args.s (no_nan i.before) i.if2.false c.default-nan2.result t.if3.true
           c.before.if4.true c.default-nan2.ensures,
       positive-leaves s.args.s t.if3.true,
     )
@@ -51,7 +51,7 @@ returns-4 : tie.Need-returns-4
 returns-4 c =
     let i = c.before.before in
     let s = entry i.before in (
-      by-positive (env s) s.args.infinity-first s.args.s (no_nan i.before) i.if2.false c.before.if3.true c.if4.false,
+      by-positive (env s) s.args.infinity_first s.args.s (no_nan i.before) i.if2.false c.before.if3.true c.if4.false,
       positive-leaves s.args.s c.before.if3.true,
     )
 
@@ -59,7 +59,7 @@ returns-5 : tie.Need-returns-5
 returns-5 c =
     let i = c.before.before in
     let s = entry i.before in (
-      by-negative (env s) s.args.infinity-first s.args.s (no_nan i.before) i.if2.false c.before.if3.false c.if5.true,
+      by-negative (env s) s.args.infinity_first s.args.s (no_nan i.before) i.if2.false c.before.if3.false c.if5.true,
       negative-leaves s.args.s c.if5.true,
     )
 
@@ -69,7 +69,7 @@ returns-6 c =
     let p = n.before in
     let i = p.before in
     let s = entry i.before in (
-      by-zeros (env s) s.args.infinity-first s.args.s (no_nan i.before) i.if2.false p.if3.false n.if5.false _ c.before.if6.true
+      by-zeros (env s) s.args.infinity_first s.args.s (no_nan i.before) i.if2.false p.if3.false n.if5.false _ c.before.if6.true
           c.zero-sum-sign.ensures,
       zeros-leave s.args.s c.before.if6.true,
     )
@@ -80,8 +80,8 @@ returns-7 c =
     let p = n.before in
     let i = p.before in
     let s = entry i.before in (
-      by-terms (env s) s.args.infinity-first s.args.s (no_nan i.before) i.if2.false p.if3.false n.if5.false c.if6.false,
-      terms-leave s.args.infinity-first s.args.s (no_nan i.before) i.if2.false p.if3.false n.if5.false c.if6.false,
+      by-terms (env s) s.args.infinity_first s.args.s (no_nan i.before) i.if2.false p.if3.false n.if5.false c.if6.false,
+      terms-leave s.args.infinity_first s.args.s (no_nan i.before) i.if2.false p.if3.false n.if5.false c.if6.false,
     )
 
 pub decided-spec : {M : Type 1} → statement M

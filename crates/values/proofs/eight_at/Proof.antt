@@ -10,10 +10,10 @@ returns : tie.Need-returns
 returns c =
     let s = c.before.before.before in
     let a = s.args in
-    ap₂ (λ (x y : ℕ). x + 4294967296 * y) c.before.half_at.ensures.0 c.half-at2.ensures.0 ∙ sym (eight-bytes a.values.now a.at s.requires)
+    ap₂ (λ (x y : ℕ). x + 4294967296 * y) c.before.half_at.ensures.0 c.half_at-2.ensures.0 ∙ sym (eight-bytes a.values.now a.at s.requires)
 
-pub eight-at-spec : {M : Type 1} → statement M
-eight-at-spec =
+pub eight_at_spec : {M : Type 1} → statement M
+eight_at_spec =
     tie.close
     (tie.spec
     (λ c κs. search rules)

@@ -13,13 +13,13 @@ returns c =
     let low = c.before in
     let high = low.before.before in
     let s = high.before.before.before in (
-      ap₂ joined (ap₂ (λ (x y : ℕ). x + 256 * y) high.wide.ensures.0 low.wide2.ensures.0) c.eight-at.ensures
+      ap₂ joined (ap₂ (λ (x y : ℕ). x + 256 * y) high.wide.ensures.0 low.wide-2.ensures.0) c.eight_at.ensures
           ∙ sym (tens-halves s.args.values.now s.args.i s.requires),
       omega arith,
     )
 
-pub ten-at-spec : {M : Type 1} → statement M
-ten-at-spec =
+pub ten_at_spec : {M : Type 1} → statement M
+ten_at_spec =
     tie.close
     (tie.spec
     (λ c. search rules)

@@ -32,7 +32,7 @@ is-ceiling k =
     let l = (above k).before.before in
     rw (
       l.low_bits.ensures,
-      ceiling-is s.args.rest _ _ _ s.pre.0 s.pre.1 k.before.before.power2.ensures l.before.power.ensures
+      ceiling-is s.args.rest _ _ _ s.requires.0 s.requires.1 k.before.before.power2.ensures l.before.power.ensures
           k.before.sub.ensures,
     ) at k.compare2.ensures
 

@@ -24,13 +24,13 @@ quarter-off-requires : tie.Need-quarter-off-requires
 quarter-off-requires c κs =
     let t = above c in
     let s = entry t.before.before in
-    (omega (arith, deep s), above-small _ _ _ t.enum_told.given.1 s.pre.1 c.shl.ensures)
+    (omega (arith, deep s), above-small _ _ _ t.enum_told.given.1 s.requires.1 c.shl.ensures)
 
 returns : tie.Need-returns
 returns c =
     let t = above c.before in
     let s = entry t.before.before in
-    above-left s.args.e.chain _ _ (deep s) c.quarter-off.ensures _ t.enum_told.given.1 s.pre.1 c.before.shl.ensures
+    above-left s.args.e.chain _ _ (deep s) c.quarter-off.ensures _ t.enum_told.given.1 s.requires.1 c.before.shl.ensures
 
 quarter-off-requires-2 : tie.Need-quarter-off-requires-2
 quarter-off-requires-2 c κs =
@@ -38,7 +38,7 @@ quarter-off-requires-2 c κs =
     let t = l.before in
     let m = t.before.before in
     let s = entry m.before in
-    (omega (arith, deep s), below-small _ _ _ _ _ t.enum-told2.given.1 s.pre.1 l.shl2.ensures c.before.power.ensures c.sub.ensures)
+    (omega (arith, deep s), below-small _ _ _ _ _ t.enum-told2.given.1 s.requires.1 l.shl2.ensures c.before.power.ensures c.sub.ensures)
 
 returns-2 : tie.Need-returns-2
 returns-2 c =
@@ -47,7 +47,7 @@ returns-2 c =
     let t = l.before in
     let m = t.before.before in
     let s = entry m.before in
-    below_left s.args.e.chain _ _ (deep s) c.quarter-off2.ensures _ _ _ t.enum-told2.given.1 s.pre.1 l.shl2.ensures
+    below_left s.args.e.chain _ _ (deep s) c.quarter-off2.ensures _ _ _ t.enum-told2.given.1 s.requires.1 l.shl2.ensures
     b.before.power.ensures b.sub.ensures
 
 returns-3 : tie.Need-returns-3
@@ -57,7 +57,7 @@ returns-3 c =
     let m = t.before in
     let s = entry m.before in
     let e = s.args.e in
-    narrowed-left e.chain _ e.outcome m.match.keys2 t.match2.keys2 (omega (arith, deep s)) s.pre.1
+    narrowed-left e.chain _ e.outcome m.match.keys2 t.match2.keys2 (omega (arith, deep s)) s.requires.1
     (rw i.is-inexact.ensures at c.narrowed.ensures)
 
 pub near-boundary-spec : {M : Type 1} → statement M

@@ -9,7 +9,7 @@ use Rattle.window.proofs.quarter_off.Tie as tie
 returns : tie.Need-returns
 returns c =
     let s = c.before in
-    let w = s.args.t2 in
+    let w = s.args.w in
     record { sign = refl; sticky = refl; position = refl; is = two-words w (words 12 w _ s.well_formed.1.0).fit s.requires.1 }
 
 pub quarter-off-spec : {M : Type 1} → statement M

@@ -36,7 +36,7 @@ settable : (k : tie.After-how-near) → let s = entry k in let rest = s.args.n -
     (s.args.c.passes < 2 ^ 62) × (701 ≤ s.args.c.edge) × (s.args.c.edge < 2 ^ 62) × (66 < rest) × (rest < 768)
 settable k =
     let s = entry k in
-    let r = s.pre.1 in
+    let r = s.requires.1 in
     let h = enough k in
     (r.passes, omega (arith, r.high (pos_of_ne-zero (wide k).before.if1.false)), r.edge, omega arith, omega arith)
 

@@ -20,12 +20,12 @@ round-requires c κs =
     let o = k.before.before in
     let s = o.before.before in
     record {
-      format = s.pre.0.range;
+      format = s.requires.0.range;
       settings = settled o.before.valid-settings.ensures (not-false _ o.if1.left);
       some = some (significand_of s.args.v) (λ e. z.if4.false (z.before.length.ensures.0 ∙ e));
       high = k.if2.left;
       low = omega (arith, (placed z).if3.false);
-      grid = omega (arith, s.pre.1);
+      grid = omega (arith, s.requires.1);
       long = l.is-long.ensures (not-false _ c.if5.false);
     }
 

@@ -13,7 +13,7 @@ abbrev entry : tie.Then1 → tie.Start
 entry t = t.before.before
 
 up : (t : tie.Then1) → let s = entry t in let v = s.args.self in CutUp v.sticky (significand_of v) v.position s.args.lowest
-up t = let s = entry t in cut_up _ _ _ _ s.pre.1 t.if1.true s.pre.0.0 s.pre.0.1
+up t = let s = entry t in cut_up _ _ _ _ s.requires.1 t.if1.true s.requires.0.0 s.requires.0.1
 
 word : (t : tie.Then1) → let v = (entry t).args.self in v.low ≡ significand_of v
 word t = omega (arith, (up t).few)
@@ -48,7 +48,7 @@ returns-2 c =
     let i = u - v.position - 1 in
     let at : v.position + (i + 1) ≡ u = omega (arith, e.if1.left) in
     let one = k.shr.result in
-    let word = cut_down m v.position (i + 1) u at s.pre.0.1 in
+    let word = cut_down m v.position (i + 1) u at s.requires.0.1 in
     let first : one.low % 2 ≡ m / 2 ^ i % 2 = omega (arith, k.shr.ensures) in
     λ x st. (
       c.funnel.ensures ∙ two-word-digits m i one.low one.high k.shr.ensures word ∙ sym (stands-kept v.sticky m v.position x st (i + 1) u at),

@@ -7,13 +7,13 @@ use Rattle.format.proofs.Chosen.{chosen-some}
 use Rattle.format.proofs.env.precision_within.Statement.{statement}
 use Rattle.format.proofs.env.precision_within.Tie as tie
 
-returns : tie.Need-returns
+returns : tie.Need-returns-then-c-eq0
 unfolding precision_of
-returns c = (rw c.before.if1.true c.digits.ensures, omega arith, omega arith)
+returns c = (rw c.if-c-eq0.true c.digits.ensures, omega arith, omega arith)
 
-returns-2 : tie.Need-returns-2
+returns-2 : tie.Need-returns-else-c-eq0
 unfolding precision_of
-returns-2 c = (sym (chosen-some _ _ c.if1.false), search rules, search rules)
+returns-2 c = (sym (chosen-some _ _ c.if-c-eq0.false), search rules, search rules)
 
-pub precision-within-spec : {M : Type 1} → statement M
-precision-within-spec = tie.close (tie.spec (λ c κs. search rules) returns returns-2)
+pub precision_within_spec : {M : Type 1} → statement M
+precision_within_spec = tie.close (tie.spec (λ c κs. search rules) returns returns-2)

@@ -5,7 +5,7 @@ use Rattle.format.proofs.env.zero_sum_is_negative.Statement.{statement}
 use Rattle.format.proofs.env.zero_sum_is_negative.Tie as tie
 
 returns : tie.Need-returns
-returns c = sym (toward c.before.args.c.rounding)
+returns c = sym (toward c.args.c.rounding)
 
-pub zero-sum-is-negative-spec : {M : Type 1} → statement M
-zero-sum-is-negative-spec = tie.close (tie.spec returns)
+pub zero_sum_is_negative_spec : {M : Type 1} → statement M
+zero_sum_is_negative_spec = tie.close (tie.spec returns)

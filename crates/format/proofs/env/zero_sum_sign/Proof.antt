@@ -4,16 +4,16 @@ use borrow.Author.Rules.{rules}
 use Rattle.format.proofs.env.zero_sum_sign.Statement.{statement}
 use Rattle.format.proofs.env.zero_sum_sign.Tie as tie
 
-returns : tie.Need-returns
-returns c = rw (not-true c.before.args.negative c.if1.true)
+returns : tie.Need-returns-then-not-negative
+returns c = rw (c.if-not-negative.true)
 
-returns-2 : tie.Need-returns-2
+returns-2 : tie.Need-returns-then-positive
 returns-2 c =
     let n = c.before.before in
-    rw (not-false n.before.args.negative n.if1.false, c.before.if2.true) c.zero-sum-is-negative.ensures
+    rw (n.if-not-negative.false, c.if-positive.true) c.zero_sum_is_negative.ensures
 
-returns-3 : tie.Need-returns-3
-returns-3 c = rw (not-false c.before.before.args.negative c.before.if1.false, c.if2.false)
+returns-3 : tie.Need-returns-else-positive
+returns-3 c = rw (c.if-not-negative.false, c.if-positive.false)
 
-pub zero-sum-sign-spec : {M : Type 1} → statement M
-zero-sum-sign-spec = tie.close (tie.spec returns (λ c κs. search rules) returns-2 returns-3)
+pub zero_sum_sign_spec : {M : Type 1} → statement M
+zero_sum_sign_spec = tie.close (tie.spec returns (λ c κs. search rules) returns-2 returns-3)

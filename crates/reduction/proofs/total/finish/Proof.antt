@@ -44,7 +44,7 @@ rounded : (t : tie.After-round-sum) → let s = entry t in RoundedSum (form s) (
 rounded t =
     let u = t.before in
     let s = entry t in
-    moved _ u.before.grid.ensures.0 u.rise.ensures.0 (t.round-sum.ensures (digits (form s)) (settled (outcome_of s.args.e)) s.pre.3)
+    moved _ u.before.grid.ensures.0 u.rise.ensures.0 (t.round-sum.ensures (digits (form s)) (settled (outcome_of s.args.e)) s.requires.3)
 
 grid-requires : tie.Need-grid-requires
 grid-requires c κs = range c
@@ -129,7 +129,7 @@ returns c =
       last_edge = (ap (λ (a : Answer). a.last_edge) q ∙ edge-is c.before) i;
       refusal = (q i).refusal;
       place = (q i).place;
-      side = (ap (λ (a : Answer). a.side) q ∙ leans (form s) (env s) _ (total s) _ (range s) s.pre.1 r) i;
+      side = (ap (λ (a : Answer). a.side) q ∙ leans (form s) (env s) _ (total s) _ (range s) s.requires.1 r) i;
     }
 
 pub finish_spec : {M : Type 1} → statement M

@@ -65,7 +65,7 @@ round-sum-requires c κs =
 
 -- some sum is rounded
 once : (t : tie.After-round-sum) → let s = entry t in
-    RoundedSum (target s) (env s) (target_grid (list s) (target s)) (on_target (list s) (target s) s.pre.sum) t.round-sum.result
+    RoundedSum (target s) (env s) (target_grid (list s) (target s)) (on_target (list s) (target s) s.requires.sum) t.round-sum.result
 once t = rounded t (entry t).requires.sum (entry t).requires.left
 
 encode-requires : tie.Need-encode-requires
@@ -86,10 +86,10 @@ returns c x h l passes edge =
       result = (ap (λ (a : Answer). a.result) q ∙ b.encode.ensures ∙ ap (λ (y : Rounded). encode (target s) y.value) r.equal) i;
       flags = (ap (λ (a : Answer). a.flags) q ∙ ap (λ (y : Rounded). flag 128 s.args.subnormal + y.flags) r.equal) i;
       passes = (ap (λ (a : Answer). a.passes) q ∙ passes) i;
-      last_edge = (ap (λ (a : Answer). a.last_edge) q ∙ to_z-of_z w64 s.args.last-edge s.fits.last-edge ∙ edge) i;
+      last_edge = (ap (λ (a : Answer). a.last_edge) q ∙ to_z-of_z w64 s.args.last_edge s.fits.last_edge ∙ edge) i;
       refusal = (q i).refusal;
       place = (q i).place;
-      side = (ap (λ (a : Answer). a.side) q ∙ leans (target s) (env s) _ (on_target (list s) (target s) x) _ s.pre.format.range s.pre.settings r) i;
+      side = (ap (λ (a : Answer). a.side) q ∙ leans (target s) (env s) _ (on_target (list s) (target s) x) _ s.requires.format.range s.requires.settings r) i;
     }
 
 pub print-spec : {M : Type 1} → statement M

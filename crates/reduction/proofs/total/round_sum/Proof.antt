@@ -42,13 +42,13 @@ some : (e : tie.Else1) → 0 < significand_of (entry e).args.v
 some e = pos_of_ne-zero (eqb-false _ 0 (sym e.before.is-nothing.ensures ∙ e.if1.false))
 
 add-w : tie.Need-overflow-add-w
-add-w c = let e = c.before in let s = entry e in omega (arith, (s.pre.left.some (some e)).low, s.pre.few)
+add-w c = let e = c.before in let s = entry e in omega (arith, (s.requires.left.some (some e)).low, s.requires.few)
 
 round-requires : tie.Need-round-requires
 round-requires c κs =
     let e = c.before in
     let s = entry e in
-    let h = s.pre in
+    let h = s.requires in
     left-rounds h.decided h.sum s.args.v (some e) (h.left.some (some e)) (form s) (env s) _ _ h.format h.settings h.enough h.grid h.few
 
 returns-2 : tie.Need-returns-2

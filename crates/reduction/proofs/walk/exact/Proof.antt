@@ -26,16 +26,16 @@ Entry = tie.Start invariant-loop decreases-loop
 abbrev ts : Entry → List terms.Term
 ts s =
     let a = s.args in
-    terms.terms (added_in (format_of a.f) (settings_of a.c) a.k a.left-words.now a.left-bytes.now a.right-words.now a.right-bytes.now)
+    terms.terms (added_in (format_of a.f) (settings_of a.c) a.k a.left_words.now a.left_bytes.now a.right_words.now a.right_bytes.now)
 
 base : (s : Entry) → Base s.args.p (ts s)
 base s =
     let a = s.args in
-    let h = s.pre in
-    let lw = a.left-words.now in
-    let lb = a.left-bytes.now in
-    let rw' = a.right-words.now in
-    let rb = a.right-bytes.now in
+    let h = s.requires in
+    let lw = a.left_words.now in
+    let lb = a.left_bytes.now in
+    let rw' = a.right_words.now in
+    let rb = a.right_bytes.now in
     let f = format_of a.f in
     let left = read_length (wide f) a.k.source lw lb in
     let right = read_length (wide f) a.k.source rw' rb in
@@ -59,7 +59,7 @@ start-requires c κs =
     rw s.requires.1.1.0 (loop-start (base s))
 
 loop-holds : tie.Need-loop-init invariant-loop decreases-loop
-loop-holds c = let s = entry c in loop-holds-at (base s) _ s.pre.1.1.0 c.start.ensures
+loop-holds c = let s = entry c in loop-holds-at (base s) _ s.requires.1.1.0 c.start.ensures
 
 advance-requires : tie.Need-advance-requires invariant-loop decreases-loop
 advance-requires c κs = loop-ready (turn c) _ _ c.before.loop.invariant c.pass.ensures

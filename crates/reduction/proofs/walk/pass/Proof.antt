@@ -25,10 +25,10 @@ abbrev form : tie.Start → Format
 form s = format_of s.args.f
 
 abbrev left : Bool → tie.Start → List ℕ
-left w s = read_as w s.args.k.source s.args.left-words.now s.args.left-bytes.now
+left w s = read_as w s.args.k.source s.args.left_words.now s.args.left_bytes.now
 
 abbrev right : Bool → tie.Start → List ℕ
-right w s = read_as w s.args.k.source s.args.right-words.now s.args.right-bytes.now
+right w s = read_as w s.args.k.source s.args.right_words.now s.args.right_bytes.now
 
 abbrev PassedBy : tie.Start → Pass → (wide dot hundred : Bool) → Type 0
 PassedBy s r w b t =
@@ -37,10 +37,10 @@ PassedBy s r w b t =
 
 -- what the width says of the format, and of the slices
 known : (s : tie.Start) (w : Bool) → wide (form s) ≡ w
-    → Known w (form s) × TensThere w s.args.k.source s.args.left-bytes.now s.args.right-bytes.now
+    → Known w (form s) × TensThere w s.args.k.source s.args.left_bytes.now s.args.right_bytes.now
 known s w e =
     let a = s.args in
-    subst (λ (v : Bool). Known v (form s) × TensThere v a.k.source a.left-bytes.now a.right-bytes.now) e (s.requires.0.0, s.requires.0.1)
+    subst (λ (v : Bool). Known v (form s) × TensThere v a.k.source a.left_bytes.now a.right_bytes.now) e (s.requires.0.0, s.requires.0.1)
 
 -- in a format of a word
 bounds : (s : tie.Start) → wide (form s) ≡ false → FormatBounds (form s)
@@ -57,7 +57,7 @@ pence : (t : tie.Then1) → wide (form (entry t.before)) ≡ false
 pence t = (entry t.before).requires.0.2 (eq-eqb _ 4 t.if1.true)
 
 pass-hundreds-requires : tie.Need-pass-hundreds-requires
-pass-hundreds-requires c κs = let s = entry c.before in (bounds s (pence c), s.pre.1.0, s.pre.1.2 (omega (arith, c.if1.true)))
+pass-hundreds-requires c κs = let s = entry c.before in (bounds s (pence c), s.requires.1.0, s.requires.1.2 (omega (arith, c.if1.true)))
 
 returns : tie.Need-returns
 returns c =
@@ -100,7 +100,7 @@ pass-pairs-requires : tie.Need-pass-pairs-requires
 pass-pairs-requires c κs =
     let d = c.before in
     let s = begun (first d) in
-    (bounds s (word d), s.pre.1.0, s.pre.1.1, s.pre.1.2 (omega (arith, c.if3.true)))
+    (bounds s (word d), s.requires.1.0, s.requires.1.1, s.requires.1.2 (omega (arith, c.if3.true)))
 
 returns-3 : tie.Need-returns-3
 returns-3 c =
@@ -118,7 +118,7 @@ pass-singles-requires : tie.Need-pass-singles-requires
 pass-singles-requires c κs =
     let d = second c.before in
     let s = begun (first d) in
-    (bounds s (word d), s.pre.1.0, c.if4.true)
+    (bounds s (word d), s.requires.1.0, c.if4.true)
 
 returns-4 : tie.Need-returns-4
 returns-4 c =
@@ -130,7 +130,7 @@ pass-squares-requires : tie.Need-pass-squares-requires
 pass-squares-requires c κs =
     let d = second c.before in
     let s = begun (first d) in
-    (bounds s (word d), s.pre.1.0, s.pre.1.2 (omega (arith, c.if4.false)))
+    (bounds s (word d), s.requires.1.0, s.requires.1.2 (omega (arith, c.if4.false)))
 
 returns-5 : tie.Need-returns-5
 returns-5 c =

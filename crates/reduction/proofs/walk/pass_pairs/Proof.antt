@@ -43,7 +43,7 @@ entry h = let e = h.before.before in e.before.before.before.before
 
 -- each element of the pair stands at its index
 place : (k : Cut) → let s = (entry (head k)).args.source in (head k).loop.i ≡ s.start + (head k).loop.i * s.step
-place k = straight-place (entry (head k)).pre.3 (head k).loop.i
+place k = straight-place (entry (head k)).requires.3 (head k).loop.i
 
 turn : (k : Cut) → Turn (head k).loop.inv k.before.before.pair-term.result k.before.window-part.result k.larger.result
 turn k = record {
@@ -52,8 +52,8 @@ turn k = record {
       let a = (entry (head k)).args in
       let x = (taken k).before in
       let i = x.before.if1.taken in
-      pair-stands-at _ _ _ _ _ i (x.element.ensures ∙ element-is a.source a.left-words.now a.left-bytes.now _ _ i (place k)) _ _ _
-      ((taken k).element2.ensures ∙ element-is a.source a.right-words.now a.right-bytes.now _ _ i (place k))
+      pair-stands-at _ _ _ _ _ i (x.element.ensures ∙ element-is a.source a.left_words.now a.left_bytes.now _ _ i (place k)) _ _ _
+      ((taken k).element2.ensures ∙ element-is a.source a.right_words.now a.right_bytes.now _ _ i (place k))
       k.before.before.pair-term.ensures;
   part = k.before.window-part.ensures;
   larger = k.larger.ensures;
@@ -68,14 +68,14 @@ element-requires : tie.Need-element-requires invariant-loop decreases-loop
 element-requires c κs =
     let h = c.before.before in
     let s = entry h in
-    element-there s.args.source _ _ _ _ c.if1.true (straight-place s.pre.3 h.loop.i) s.pre.1
+    element-there s.args.source _ _ _ _ c.if1.true (straight-place s.requires.3 h.loop.i) s.requires.1
 
 element-requires-2 : tie.Need-element-requires-2 invariant-loop decreases-loop
 element-requires-2 c κs =
     let i = c.before in
     let h = i.before.before in
     let s = entry h in
-    element-there s.args.source _ _ _ _ i.if1.true (straight-place s.pre.3 h.loop.i) s.pre.2
+    element-there s.args.source _ _ _ _ i.if1.true (straight-place s.requires.3 h.loop.i) s.requires.2
 
 window-part-requires : tie.Need-window-part-requires invariant-loop decreases-loop
 window-part-requires c κs = cuttable _ (pair_item _ _ _) c.pair-term.ensures

@@ -59,7 +59,7 @@ items s = let a = s.args in map (item (format_of a.f) (settings_of a.c) (summand
 inside : (t : tie.After-element-term invariant-loop decreases-loop) → (head t).loop.invariant.index < (entry (head t)).args.source.count
 inside t =
     let s = entry (head t) in
-    inside-end s.args.source s.pre.1 (head t).loop.invariant.stands t.before.before.loop-test.true
+    inside-end s.args.source s.requires.1 (head t).loop.invariant.stands t.before.before.loop-test.true
 
 here : (t : tie.After-element-term invariant-loop decreases-loop) → let a = (entry (head t)).args in
     t.before.element.result ≡ get_or (elements a.source a.words.now a.bytes.now) (head t).loop.invariant.index 0
@@ -77,7 +77,7 @@ next t h =
 
 less : (t : tie.After-element-term invariant-loop decreases-loop) → let s = (entry (head t)).args.source in let end = s.start + s.step * s.count in
     end - ((head t).loop.place + s.step) < end - (head t).loop.place
-less t = let s = entry (head t) in end-nearer s.args.source s.pre.1 t.before.before.loop-test.true
+less t = let s = entry (head t) in end-nearer s.args.source s.requires.1 t.before.before.loop-test.true
 
 turn : (k : Cut) → Turn (head (made k)).loop.inv.so_far (made k).element-term.result k.before.window-part.result k.larger.result
 turn k = record {
@@ -89,7 +89,7 @@ turn k = record {
 
 -- a value or a magnitude has one word
 single : (k : Cut) → (made k).element-term.result.high ≡ 0
-single k = (made k).element-term.ensures.1 (entry (head (made k))).pre.2
+single k = (made k).element-term.ensures.1 (entry (head (made k))).requires.2
 
 -- ---- the needs
 
@@ -107,13 +107,13 @@ element-requires c κs =
     let h = c.before in
     let e = entry h in
     let s = e.args.source in
-    element-there s _ _ _ _ (inside-end s e.pre.1 h.loop.invariant.stands c.loop-test.true) h.loop.invariant.stands e.pre.1
+    element-there s _ _ _ _ (inside-end s e.requires.1 h.loop.invariant.stands c.loop-test.true) h.loop.invariant.stands e.requires.1
 
 add-place : tie.Need-overflow-add-place invariant-loop decreases-loop
 add-place c =
     let t = c.before in
     let e = entry (head t) in
-    record { fits = next_fits e.args.source _ _ _ _ (inside t) (head t).loop.invariant.stands e.pre.1 }
+    record { fits = next_fits e.args.source _ _ _ _ (inside t) (head t).loop.invariant.stands e.requires.1 }
 
 window-part-requires : tie.Need-window-part-requires invariant-loop decreases-loop
 window-part-requires c κs = let b = c.before.before in cuttable _ (item _ _ _ _) b.before.element-term.ensures.0
@@ -153,7 +153,7 @@ returns c =
     let h = c.before.before in
     let e = entry h in
     let r = h.loop.invariant in
-    running-end r.so_far (at-end e.args.source e.pre.1 r.stands c.before.loop-test.false) c.finished.ensures
+    running-end r.so_far (at-end e.args.source e.requires.1 r.stands c.before.loop-test.false) c.finished.ensures
 
 pub pass-singles-spec : {M : Type 1} → statement M
 pass-singles-spec =

@@ -49,7 +49,7 @@ here : (e : tie.After-element invariant-loop decreases-loop) → let a = (entry 
 here e =
     let s = entry (head e) in
     let a = s.args in
-    e.element.ensures ∙ element-is a.source a.words.now a.bytes.now _ _ e.before.if1.true (straight-place s.pre.2 (head e).loop.i)
+    e.element.ensures ∙ element-is a.source a.words.now a.bytes.now _ _ e.before.if1.true (straight-place s.requires.2 (head e).loop.i)
 
 turn : (k : Cut) → Turn (head (taken k)).loop.inv k.before.before.element-term.result k.before.window-part.result k.larger.result
 turn k = record {
@@ -68,7 +68,7 @@ element-requires : tie.Need-element-requires invariant-loop decreases-loop
 element-requires c κs =
     let h = c.before.before in
     let s = entry h in
-    element-there s.args.source _ _ _ _ c.if1.true (straight-place s.pre.2 h.loop.i) s.pre.1
+    element-there s.args.source _ _ _ _ c.if1.true (straight-place s.requires.2 h.loop.i) s.requires.1
 
 window-part-requires : tie.Need-window-part-requires invariant-loop decreases-loop
 window-part-requires c κs = cuttable _ (item _ _ _ _) c.element-term.ensures.0

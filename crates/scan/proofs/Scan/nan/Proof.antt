@@ -104,7 +104,7 @@ module _ {M : Type 1} {𝓤 : Ura M} (𝓛 : Logic 𝓤) (mem : Memory → SProp
     to-select rule n m = ((tt, tt, tt, (rule, (n, (m, tt))), (vint w64 rule ∷ [], (machᴺ n ∷ [], (machᴺ m ∷ [], tt)))), tt)
 
     goes_select : (rule : ℕ) (n m : Nan) → Is u64 rule (vint w64 rule ∷ []) → Is B.the_row n (machᴺ n ∷ []) → Is B.the_row m (machᴺ m ∷ [])
-        → ent 𝓤 (emp 𝓤) (Select.pre (to-select rule n m))
+        → ent 𝓤 (emp 𝓤) (Select.requires (to-select rule n m))
     goes_select rule n m is ns ms =
         qed 𝓛 [] ∵ nothing ! $ owned ! B.the_row (Is B.the_row) (LL.makes B.the_type B'.the_plain 𝓛) m _ ms $ fjoin ! $
         owned ! B.the_row (Is B.the_row) (LL.makes B.the_type B'.the_plain 𝓛) n _ ns $ fjoin ! $
@@ -120,7 +120,7 @@ module _ {M : Type 1} {𝓤 : Ura M} (𝓛 : Logic 𝓤) (mem : Memory → SProp
         assigns ! (of_opd ! (load ! (from ! (hop ! (look ! 11 refl) (fld ! refl (stop !)))) (look_in ! 10 (sub ! 8 refl (whole !))))) (from ! (stop !))
         (init ! 4 refl (typedᴺ h.nan _ (nan_is h hs))) $
         -- the call
-        use0 𝓛 (raw (Select.pre (to-select x.rule h.nan (next x)))) (goes_select x.rule h.nan (next x) rule-is (nan_is h hs) (next-is x xs)) $
+        use0 𝓛 (raw (Select.requires (to-select x.rule h.nan (next x)))) (goes_select x.rule h.nan (next x) rule-is (nan_is h hs) (next-is x xs)) $
         calls_at ! fm Select known (to-select x.rule h.nan (next x))
         (and_then ! (load ! (from ! (fld ! refl (stop !))) (look_in ! 13 (sub ! 0 refl (whole !))))
         (and_then ! (load ! (from ! (stop !)) (look ! 5 refl)) (and_then ! (load ! (from ! (stop !)) (look ! 9 refl)) (no_more !)))) (λ v.

@@ -56,7 +56,7 @@ loop-again c =
     let k = c.before.loop-test.true in (
       add-one-le k,
       tens-next (settings_of a.c) (summand_of a.u) (left e) (right e) (alike e) (eqb a.u 3) _ _ _ (rw (long e) k) h.loop.invariant.1
-          (rw (tens-first a.count a.left.now _ e.pre.0 k, tens-first a.count a.right.now _ e.pre.1 k) at c.take_at.ensures),
+          (rw (tens-first a.count a.left.now _ e.requires.0 k, tens-first a.count a.right.now _ e.requires.1 k) at c.take_at.ensures),
     )
 
 returns : tie.Need-returns invariant-loop decreases-loop

@@ -19,8 +19,8 @@ form s = format_of s.args.f
 abbrev Is : tie.Start → Scan → (wide dot : Bool) → Format → Type 0
 Is s r w b f =
     let a = s.args in
-    GatheredIn w b f (settings_of a.c) (summand_of a.k.summand) (read_as w a.k.source a.left-words.now a.left-bytes.now)
-    (read_as w a.k.source a.right-words.now a.right-bytes.now) r
+    GatheredIn w b f (settings_of a.c) (summand_of a.k.summand) (read_as w a.k.source a.left_words.now a.left_bytes.now)
+    (read_as w a.k.source a.right_words.now a.right_bytes.now) r
 
 by : (s : tie.Start) (r : Scan) (w b : Bool) → wide (form s) ≡ w → is_dot s.args.k ≡ b → Is s r w b (form s)
     → Is s r (wide (form s)) (is_dot s.args.k) (form s)
@@ -28,10 +28,10 @@ by s r w b e g = subst₂ (λ (v d : Bool). Is s r v d (form s)) (sym e) (sym g)
 
 -- what the width says of the format, and of the slices
 known : (s : tie.Start) (w : Bool) → wide (form s) ≡ w
-    → Known w (form s) × TensThere w s.args.k.source s.args.left-bytes.now s.args.right-bytes.now
+    → Known w (form s) × TensThere w s.args.k.source s.args.left_bytes.now s.args.right_bytes.now
 known s w e =
     let a = s.args in
-    subst (λ (v : Bool). Known v (form s) × TensThere v a.k.source a.left-bytes.now a.right-bytes.now) e s.requires.0
+    subst (λ (v : Bool). Known v (form s) × TensThere v a.k.source a.left_bytes.now a.right_bytes.now) e s.requires.0
 
 abbrev entry : tie.After-struct-known → tie.Start
 entry k = let s = k.before.before.before in s.before.before.before
@@ -61,7 +61,7 @@ word k = le-ltb 64 _ k.before.if1.false
 scan-pairs-requires : tie.Need-scan-pairs-requires
 scan-pairs-requires c κs =
     let s = begun c.before in
-    ((known s false (word c.before)).0, s.pre.1.0, s.pre.1.1, s.pre.1.2 (omega (arith, c.if2.true)))
+    ((known s false (word c.before)).0, s.requires.1.0, s.requires.1.1, s.requires.1.2 (omega (arith, c.if2.true)))
 
 returns-2 : tie.Need-returns-2
 returns-2 c =
@@ -69,7 +69,7 @@ returns-2 c =
     by (begun t.before) _ false true (word t.before) (eq-eqb _ 3 t.if2.true) c.scan-pairs.ensures
 
 scan-list-requires : tie.Need-scan-list-requires
-scan-list-requires c κs = let s = begun c.before in ((known s false (word c.before)).0, s.pre.1.0)
+scan-list-requires c κs = let s = begun c.before in ((known s false (word c.before)).0, s.requires.1.0)
 
 returns-3 : tie.Need-returns-3
 returns-3 c =

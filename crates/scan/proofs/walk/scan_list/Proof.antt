@@ -82,7 +82,7 @@ turn t = record { inside = rw (long (entry (head t))) (inside t).if1.taken; here
 
 plainly : (t : Known) → 0 < t.plain-field.result → let e = entry (head t) in
     Plainly (form e) (env e) (by e) (read t).element.result t.plain-field.result
-plainly t z = let e = entry (head t) in list-plainly (form e) (env e) (u e) _ _ e.pre.0 t.plain-field.ensures z
+plainly t z = let e = entry (head t) in list-plainly (form e) (env e) (u e) _ _ e.requires.0 t.plain-field.ensures z
 
 loop-holds : tie.Need-loop-init invariant-loop decreases-loop
 loop-holds c =
@@ -93,14 +93,14 @@ element-requires : tie.Need-element-requires invariant-loop decreases-loop
 element-requires c κs =
     let h = c.before.before in
     let e = entry h in
-    element-there e.args.source _ _ _ _ c.if1.true h.loop.invariant.3 e.pre.1
+    element-there e.args.source _ _ _ _ c.if1.true h.loop.invariant.3 e.requires.1
 
 add-place : tie.Need-overflow-add-place invariant-loop decreases-loop
 add-place c =
     let t = c.before.before in
     let h = t.before.before in
     let e = entry h in
-    record { fits = next_fits e.args.source _ _ _ _ t.if1.true h.loop.invariant.3 e.pre.1 }
+    record { fits = next_fits e.args.source _ _ _ _ t.if1.true h.loop.invariant.3 e.requires.1 }
 
 loop-again : tie.Need-loop-preserved invariant-loop decreases-loop
 loop-again c =
@@ -111,7 +111,7 @@ loop-again-2 : tie.Need-loop-preserved-2 invariant-loop decreases-loop
 loop-again-2 c =
     let t = c.before.before in
     let e = entry (head t) in
-    let small = plain-field-small (form e) _ _ e.pre.0 t.plain-field.ensures in
+    let small = plain-field-small (form e) _ _ e.requires.0 t.plain-field.ensures in
     (add-one-le (inside t).if1.true, small, walk-plain (turn t) _ _ (plainly t (omega arith)) (omega arith), on t)
 
 loop-again-3 : tie.Need-loop-preserved-3 invariant-loop decreases-loop

@@ -43,19 +43,19 @@ abbrev by : (e : Entry) → Reading (form e) (ℕ × ℕ)
 by e = dot (form e) (env e)
 
 abbrev left : Entry → List ℕ
-left e = elements e.args.source e.args.left-words.now e.args.left-bytes.now
+left e = elements e.args.source e.args.left_words.now e.args.left_bytes.now
 
 abbrev right : Entry → List ℕ
-right e = elements e.args.source e.args.right-words.now e.args.right-bytes.now
+right e = elements e.args.source e.args.right_words.now e.args.right_bytes.now
 
 abbrev all : Entry → List (ℕ × ℕ)
 all e = pairs (left e) (right e)
 
 many : (e : Entry) → length (left e) ≡ e.args.source.count
-many e = elements-length e.args.source e.args.left-words.now e.args.left-bytes.now
+many e = elements-length e.args.source e.args.left_words.now e.args.left_bytes.now
 
 alike : (e : Entry) → length (right e) ≡ length (left e)
-alike e = elements-length e.args.source e.args.right-words.now e.args.right-bytes.now ∙ sym (many e)
+alike e = elements-length e.args.source e.args.right_words.now e.args.right_bytes.now ∙ sym (many e)
 
 long : (e : Entry) → length (all e) ≡ e.args.source.count
 long e = pairs-length (left e) (right e) (sym (alike e)) ∙ many e
@@ -78,7 +78,7 @@ pair t = (t.before.before.element.result, t.before.element2.result)
 
 -- each element stands at its index
 place : (t : Known) → let s = (entry (head t)).args.source in (head t).loop.i ≡ s.start + (head t).loop.i * s.step
-place t = straight-place (entry (head t)).pre.3 (head t).loop.i
+place t = straight-place (entry (head t)).requires.3 (head t).loop.i
 
 turn : (t : Known) → let e = entry (head t) in let l = (head t).loop in
     Turn (form e) (env e) (by e) (all e) (0, 0) l.i (pair t) l.s l.greatest
@@ -90,13 +90,13 @@ turn t =
     record {
       inside = rw (long e) i;
       here = pair-here (left e) (right e) _ _ _ (alike e) (rw (many e) i)
-          (y.before.element.ensures ∙ element-is a.source a.left-words.now a.left-bytes.now _ _ i (place t))
-          (y.element2.ensures ∙ element-is a.source a.right-words.now a.right-bytes.now _ _ i (place t));
+          (y.before.element.ensures ∙ element-is a.source a.left_words.now a.left_bytes.now _ _ i (place t))
+          (y.element2.ensures ∙ element-is a.source a.right_words.now a.right_bytes.now _ _ i (place t));
       so_far = (head t).loop.inv.2;
     }
 
 plainly : (t : Known) → 0 < t.plain-fields.result → let e = entry (head t) in Plainly (form e) (env e) (by e) (pair t) t.plain-fields.result
-plainly t z = let e = entry (head t) in pair-plainly (form e) (env e) _ _ _ e.pre.0 t.plain-fields.ensures z
+plainly t z = let e = entry (head t) in pair-plainly (form e) (env e) _ _ _ e.requires.0 t.plain-fields.ensures z
 
 loop-holds : tie.Need-loop-init invariant-loop decreases-loop
 loop-holds c =
@@ -108,14 +108,14 @@ element-requires : tie.Need-element-requires invariant-loop decreases-loop
 element-requires c κs =
     let h = c.before.before in
     let e = entry h in
-    element-there e.args.source _ _ _ _ c.if1.true (straight-place e.pre.3 h.loop.i) e.pre.1
+    element-there e.args.source _ _ _ _ c.if1.true (straight-place e.requires.3 h.loop.i) e.requires.1
 
 element-requires-2 : tie.Need-element-requires-2 invariant-loop decreases-loop
 element-requires-2 c κs =
     let t = c.before in
     let h = t.before.before in
     let e = entry h in
-    element-there e.args.source _ _ _ _ t.if1.true (straight-place e.pre.3 h.loop.i) e.pre.2
+    element-there e.args.source _ _ _ _ t.if1.true (straight-place e.requires.3 h.loop.i) e.requires.2
 
 loop-again : tie.Need-loop-preserved invariant-loop decreases-loop
 loop-again c =
@@ -126,7 +126,7 @@ loop-again-2 : tie.Need-loop-preserved-2 invariant-loop decreases-loop
 loop-again-2 c =
     let t = c.before.before in
     let e = entry (head t) in
-    let small = plain-fields-small (form e) _ _ _ e.pre.0 t.plain-fields.ensures in
+    let small = plain-fields-small (form e) _ _ _ e.requires.0 t.plain-fields.ensures in
     (add-one-le (inside t).if1.true, small, walk-plain (turn t) _ t.plain-fields.result (plainly t (omega arith)) (omega arith))
 
 loop-again-3 : tie.Need-loop-preserved-3 invariant-loop decreases-loop

@@ -41,7 +41,7 @@ start t = entry (first (second t.before))
 
 figure-is : (t : tie.After-put-figure) → let a = (start t).args in
     Puts t.before.put-byte3.result (pence_text (pence_from a.figure a.refusal)) t.put-figure.result
-figure-is t = let s = start t in figure-read s.args.figure s.args.refusal s.good.1.1.1.0 t.put-figure.ensures
+figure-is t = let s = start t in figure-read s.args.figure s.args.refusal s.well_formed.1.1.1.0 t.put-figure.ensures
 
 put-byte-requires : tie.Need-put-byte-requires
 put-byte-requires c κs = omega (arith, after-hex 16 _ c.put-hex.ensures)
@@ -64,7 +64,7 @@ put-figure-requires c κs = omega (arith, three-long c)
 put-byte-requires-4 : tie.Need-put-byte-requires-4
 put-byte-requires-4 c κs =
     let s = start c in
-    omega (arith, three-long c.before, after-figure s.args.figure s.args.refusal s.good.1.1.1.0 (figure-is c))
+    omega (arith, three-long c.before, after-figure s.args.figure s.args.refusal s.well_formed.1.1.1.0 (figure-is c))
 
 returns : tie.Need-returns
 returns c =

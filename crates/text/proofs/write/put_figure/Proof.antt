@@ -16,7 +16,7 @@ abbrev entry : tie.After-magnitude → tie.Start
 entry t = t.before.before
 
 magnitude-is : (t : tie.After-magnitude) → t.magnitude.result ≡ nat_abs (entry t).args.figure
-magnitude-is t = let s = entry t in t.magnitude.ensures ∙ ap nat_abs (read s.args.figure s.good.1.0)
+magnitude-is t = let s = entry t in t.magnitude.ensures ∙ ap nat_abs (read s.args.figure s.well_formed.1.0)
 
 returns : tie.Need-returns
 returns c =
@@ -31,7 +31,7 @@ returns-2 c =
     let z = s.args.figure in
     let text = ap (λ (n : ℕ). (45 ∷ []) ++ decimal_text n) (magnitude-is t) in
     puts-same
-    (text ∙ pence-negative z s.args.refusal t.before.if1.false (test_read z s.good.1.0 n.if2.true))
+    (text ∙ pence-negative z s.args.refusal t.before.if1.false (test_read z s.well_formed.1.0 n.if2.true))
     (puts_then c.before.put_byte.ensures c.put-decimal.ensures)
 
 returns-3 : tie.Need-returns-3
@@ -41,7 +41,7 @@ returns-3 c =
     let s = entry t in
     let z = s.args.figure in
     puts-same
-    (ap decimal_text (magnitude-is t) ∙ pence-positive z s.args.refusal t.before.if1.false (test_read z s.good.1.0 n.if2.false))
+    (ap decimal_text (magnitude-is t) ∙ pence-positive z s.args.refusal t.before.if1.false (test_read z s.well_formed.1.0 n.if2.false))
     c.put-decimal2.ensures
 
 pub put-figure-spec : {M : Type 1} → statement M

@@ -14,12 +14,12 @@ abbrev entry : tie.After-hex → tie.Start
 entry t = t.before.before
 
 spelt : (t : tie.After-hex) → take t.hex.result t.hex.new.1.1.0 ≡ hex_text (entry t).args.count (entry t).args.x
-spelt t = let s = entry t in let told = t.hex.ensures.1 in hex-spelt _ _ _ s.pre.0 s.pre.1 s.pre.2 told.0 told.1
+spelt t = let s = entry t in let told = t.hex.ensures.1 in hex-spelt _ _ _ s.requires.0 s.requires.1 s.requires.2 told.0 told.1
 
 put-bytes-requires : tie.Need-put-bytes-requires
 put-bytes-requires c κs =
     let s = entry c.before in
-    omega (arith, s.pre.3, ap length (spelt c.before), hex-length s.args.count s.args.x)
+    omega (arith, s.requires.3, ap length (spelt c.before), hex-length s.args.count s.args.x)
 
 returns : tie.Need-returns
 returns c = puts-same (spelt c.before.before) c.put-bytes.ensures

@@ -51,7 +51,7 @@ returns-2 c =
     let r = second t in
     let q = first r.before in
     let e = q.before.before in
-    enters-written (answer e.before) _ _ _ _ (omega (arith, e.if1.left)) e.before.before.before.pre.flags q.put_word.ensures
+    enters-written (answer e.before) _ _ _ _ (omega (arith, e.if1.left)) e.before.before.before.requires.flags q.put_word.ensures
     r.put-word2.ensures t.put-word3.ensures
 
 pub enter_spec : {M : Type 1} → statement M

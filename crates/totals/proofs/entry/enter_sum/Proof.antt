@@ -21,7 +21,7 @@ returns c =
     let f = t.before.before in
     let s = begun f.before in
     let a = s.args in
-    sum-ten _ _ _ a.named a.bias _ _ _ _ _ _ f.if1.true (rw (read a.bias s.good.1.1.1.1.0) at t.tens-sum.ensures)
+    sum-ten _ _ _ a.named a.bias _ _ _ _ _ _ f.if1.true (rw (read a.bias s.well_formed.1.1.1.1.0) at t.tens-sum.ensures)
 
 -- any other
 abbrev entry : tie.Else1 → tie.Start
@@ -32,11 +32,11 @@ abbrev tested : tie.After-format-with → tie.Else1
 tested f = f.before.before.before
 
 format : (f : tie.After-format-with) → let a = (entry (tested f)).args in
-    format_of f.format-with.result ≡ format_with a.kind a.exponent-bits a.width a.named a.bias
+    format_of f.format-with.result ≡ format_with a.kind a.exponent_bits a.width a.named a.bias
 format f =
     let s = entry (tested f) in
     let a = s.args in
-    f.format-with.ensures ∙ ap (format_with a.kind a.exponent-bits a.width a.named) (read a.bias s.good.1.1.1.1.0)
+    f.format-with.ensures ∙ ap (format_with a.kind a.exponent_bits a.width a.named) (read a.bias s.well_formed.1.1.1.1.0)
 
 returns-2 : tie.Need-returns-2
 returns-2 c =

@@ -24,10 +24,10 @@ head : (s : tie.Start) → s.args.t.head < 65536
 head s = omega (arith, s.requires.result)
 
 add-put-word : tie.Need-overflow-add-put-word
-add-put-word c = let s = lent c.before in omega (arith, head s, s.pre.flags)
+add-put-word c = let s = lent c.before in omega (arith, head s, s.requires.flags)
 
 add-put-word-2 : tie.Need-overflow-add-put-word-2
-add-put-word-2 c = let s = lent c.before.before in omega (arith, head s, s.pre.flags, s.pre.side)
+add-put-word-2 c = let s = lent c.before.before in omega (arith, head s, s.requires.flags, s.requires.side)
 
 abbrev second : tie.After-put-word2 → tie.After-struct-known
 second t = t.before.before.before
@@ -41,7 +41,7 @@ returns c =
     let u = q.before.before in
     let p = first (second u).before.before in
     let s = begun p in
-    tens-written (answer_as true s.args.t) _ _ _ _ _ s.args.t.head s.args.t.answer.result s.pre refl (omega arith) p.put_word.ensures
+    tens-written (answer_as true s.args.t) _ _ _ _ _ s.args.t.head s.args.t.answer.result s.requires refl (omega arith) p.put_word.ensures
     u.put-word2.ensures v.put-word3.ensures w.put-word4.ensures
 
 pub enter-tens-spec : {M : Type 1} → statement M

@@ -10,7 +10,7 @@ returns : tie.Need-returns
 returns c =
     let s = c.before in
     let a = s.args in
-    rw c.if1.true (ap (biased_from a.kind a.exponent-bits a.width) (read a.bias s.well_formed.1.1.1.1.0))
+    rw c.if1.true (ap (biased_from a.kind a.exponent_bits a.width) (read a.bias s.well_formed.1.1.1.1.0))
 
 returns-2 : tie.Need-returns-2
 returns-2 c = rw c.if1.false

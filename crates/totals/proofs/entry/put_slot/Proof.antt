@@ -26,7 +26,7 @@ returns c =
     let x = second k.before in
     let w = first x.before in
     let s = begun w in
-    slot-laid (answer_of s.args.a) _ _ s.pre.0 s.pre.1.flags _ _ _ _ w.put_word.ensures x.put-word2.ensures y.put-word3.ensures
+    slot-laid (answer_of s.args.a) _ _ s.requires.0 s.requires.1.flags _ _ _ _ w.put_word.ensures x.put-word2.ensures y.put-word3.ensures
     z.put-word4.ensures
 
 pub put-slot-spec : {M : Type 1} → statement M

@@ -18,11 +18,11 @@ abbrev entry : tie.After-format-with → tie.Start
 entry f = let e = f.before.before.before in e.before.before
 
 format : (f : tie.After-format-with) → let a = (entry f).args in
-    format_of f.format-with.result ≡ format_with 4 a.exponent-bits a.width a.named a.bias
+    format_of f.format-with.result ≡ format_with 4 a.exponent_bits a.width a.named a.bias
 format f =
     let s = entry f in
     let a = s.args in
-    f.format-with.ensures ∙ ap (format_with 4 a.exponent-bits a.width a.named) (read a.bias s.good.1.1.1.0)
+    f.format-with.ensures ∙ ap (format_with 4 a.exponent_bits a.width a.named) (read a.bias s.well_formed.1.1.1.0)
 
 -- once the refusal is known
 abbrev tested : tie.After-sum-refusal → tie.Else2

@@ -12,7 +12,7 @@ returns : tie.Need-returns
 returns c =
     let t = c.before.before in
     let s = entry t in
-    rw (read s.args.bias s.good.1.1.1.0) at t.enter-sum.ensures
+    rw (read s.args.bias s.well_formed.1.1.1.0) at t.enter-sum.ensures
 
 pub totals-sum-biased-spec : {M : Type 1} → statement M
 totals-sum-biased-spec = tie.close (tie.spec (λ c κs. search rules) (λ c. search rules) returns)

@@ -44,26 +44,26 @@ room r = (tested r).if3.false
 bias-read : (s : tie.Start) → to_z w64 (of_z w64 s.args.bias) ≡ s.args.bias
 bias-read s = read s.args.bias s.ranges.bias.sfits
 
-naming : (r : tie.After-answers) → let a = (entry (tested r)).args in r.before.before.misnamed.result ≡ misnamed a.bias-named a.bias
-naming r = let s = entry (tested r) in r.before.before.misnamed.ensures ∙ ap (misnamed s.args.bias-named) (bias-read s)
+naming : (r : tie.After-answers) → let a = (entry (tested r)).args in r.before.before.misnamed.result ≡ misnamed a.bias_named a.bias
+naming r = let s = entry (tested r) in r.before.before.misnamed.ensures ∙ ap (misnamed s.args.bias_named) (bias-read s)
 
 format : (r : tie.After-answers) → let a = (entry (tested r)).args in
-    format_of r.before.format-with.result ≡ format_by a.kind a.exponent-bits a.width a.bias-named a.bias
+    format_of r.before.format-with.result ≡ format_by a.kind a.exponent_bits a.width a.bias_named a.bias
 format r =
     let s = entry (tested r) in
     let a = s.args in
-    r.before.format-with.ensures ∙ ap (format_with a.kind a.exponent-bits a.width (eqb a.bias-named 1)) (bias-read s)
+    r.before.format-with.ensures ∙ ap (format_with a.kind a.exponent_bits a.width (eqb a.bias_named 1)) (bias-read s)
 
 module _ (r : tie.After-answers) (new : List ℕ) where
   -- the buffer, where the list has a format
   abbrev Holds : Bool → Format → Type 0
   Holds bad f =
       let a = (entry (tested r)).args in
-      new ≡ filled (slots bad f a.denormals-are-zero (values_in a.values.now) (values_in a.targets.now)) a.answer.now
+      new ≡ filled (slots bad f a.denormals_are_zero (values_in a.values.now) (values_in a.targets.now)) a.answer.now
 
   held : Holds r.before.before.misnamed.result (format_of r.before.format-with.result)
       → let a = (entry (tested r)).args in
-      Holds (misnamed a.bias-named a.bias) (format_by a.kind a.exponent-bits a.width a.bias-named a.bias)
+      Holds (misnamed a.bias_named a.bias) (format_by a.kind a.exponent_bits a.width a.bias_named a.bias)
   held = subst₂ Holds (naming r) (format r)
 
 returns : tie.Need-returns

@@ -30,13 +30,13 @@ bias-read : (s : tie.Start) → to_z w64 (of_z w64 s.args.bias) ≡ s.args.bias
 bias-read s = read s.args.bias s.ranges.bias.sfits
 
 -- whether it is named as it should be
-naming : (m : tie.After-misnamed) (b : Bool) → m.misnamed.result ≡ b → misnamed (entry m).args.bias-named (entry m).args.bias ≡ b
-naming m b e = ap (misnamed (entry m).args.bias-named) (sym (bias-read (entry m))) ∙ sym m.misnamed.ensures ∙ e
+naming : (m : tie.After-misnamed) (b : Bool) → m.misnamed.result ≡ b → misnamed (entry m).args.bias_named (entry m).args.bias ≡ b
+naming m b e = ap (misnamed (entry m).args.bias_named) (sym (bias-read (entry m))) ∙ sym m.misnamed.ensures ∙ e
 
 abbrev settings : tie.Start → Settings
 settings s =
     let a = s.args in
-    settings_from a.rounding a.tininess a.nan-propagation a.default-nan-negative a.flush-to-zero a.denormals-are-zero a.saturate
+    settings_from a.rounding a.tininess a.nan_propagation a.default_nan_negative a.flush_to_zero a.denormals_are_zero a.saturate
     a.precision
 
 -- once the table is worked out
@@ -47,21 +47,21 @@ abbrev begun : tie.After-table → tie.Start
 begun t = let f = (made t).before in entry f.before.before
 
 format : (t : tie.After-table) → let a = (begun t).args in
-    format_of (made t).before.format-with.result ≡ format_by a.kind a.exponent-bits a.width a.bias-named a.bias
+    format_of (made t).before.format-with.result ≡ format_by a.kind a.exponent_bits a.width a.bias_named a.bias
 format t =
     let s = begun t in
     let a = s.args in
-    (made t).before.format-with.ensures ∙ ap (format_with a.kind a.exponent-bits a.width (eqb a.bias-named 1)) (bias-read s)
+    (made t).before.format-with.ensures ∙ ap (format_with a.kind a.exponent_bits a.width (eqb a.bias_named 1)) (bias-read s)
 
 module _ (t : tie.After-table) (r k : List ℕ) where
   -- the table in a format and under settings
   abbrev In : Format → Settings → Type 0
   In f c =
       let a = (begun t).args in
-      Tables (table_answer f c a.rows a.columns a.cells.now a.row-totals.now a.column-totals.now) t.table.result r k
+      Tables (table_answer f c a.rows a.columns a.cells.now a.row_totals.now a.column_totals.now) t.table.result r k
 
   tabled : In (format_of (made t).before.format-with.result) (settings_of (made t).settings.result)
-      → let a = (begun t).args in In (format_by a.kind a.exponent-bits a.width a.bias-named a.bias) (settings (begun t))
+      → let a = (begun t).args in In (format_by a.kind a.exponent_bits a.width a.bias_named a.bias) (settings (begun t))
   tabled = subst₂ In (format t) (made t).settings.ensures
 
 -- and its record is to be written

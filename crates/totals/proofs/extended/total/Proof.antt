@@ -34,7 +34,7 @@ subnormal : (t : tie.After-scan) → let s = entry t.before.before in
     t.scan.result.subnormal ≡ any subnormal_extended (all_tens (eqb s.args.u 3) (left s) (right s))
 subnormal t =
     let s = entry t.before.before in
-    rw (tens-all _ s.args.left.now refl, tens-all _ s.args.right.now (sym s.pre.0)) at t.scan.ensures.subnormal
+    rw (tens-all _ s.args.left.now refl, tens-all _ s.args.right.now (sym s.requires.0)) at t.scan.ensures.subnormal
 
 abbrev scanned : tie.After-default-nan → tie.After-scan
 scanned d = d.before.before
@@ -56,7 +56,7 @@ returns c =
     ∙ unsupported-told env (summand_of s.args.u) (left s) (right s) (eqb s.args.u 3) (sym u.before.some-unsupported.ensures ∙ u.if1.taken)
 
 tens-requires : tie.Need-tens-requires
-tens-requires c κs = let s = entry c.before in (s.pre.0, (sym c.before.some-unsupported.ensures ∙ c.if1.false, s.pre.1))
+tens-requires c κs = let s = entry c.before in (s.requires.0, (sym c.before.some-unsupported.ensures ∙ c.if1.false, s.requires.1))
 
 returns-2 : tie.Need-returns-2
 returns-2 c = c.tens.ensures

@@ -47,7 +47,7 @@ listed-requires c κs =
     let s = entry c in
     let f = format_of s.args.f in
     let b = bounds s in
-    let asked = total-asked f (settings_of s.args.c) 0 _ s.pre.1 _ _ in
+    let asked = total-asked f (settings_of s.args.c) 0 _ s.requires.1 _ _ in
     ((narrow-known f b, narrow-tens f b _ _ _), ((within s _, within s _, λ h. absurd (omega (arith, h))), asked))
 
 returns : tie.Need-returns

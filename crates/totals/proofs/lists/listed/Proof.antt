@@ -34,16 +34,16 @@ abbrev source : tie.Start → Source
 source s = source_of s.args.layout s.args.start s.args.step s.args.count
 
 abbrev left : tie.Start → List ℕ
-left s = read_as (wide (form s)) (source s) s.args.left-words.now s.args.left-bytes.now
+left s = read_as (wide (form s)) (source s) s.args.left_words.now s.args.left_bytes.now
 
 abbrev right : tie.Start → List ℕ
-right s = read_as (wide (form s)) (source s) s.args.right-words.now s.args.right-bytes.now
+right s = read_as (wide (form s)) (source s) s.args.right_words.now s.args.right_bytes.now
 
 many-left : (s : tie.Start) → s.args.count ≡ length (left s)
-many-left s = sym (read_length (wide (form s)) (source s) s.args.left-words.now s.args.left-bytes.now)
+many-left s = sym (read_length (wide (form s)) (source s) s.args.left_words.now s.args.left_bytes.now)
 
 many-right : (s : tie.Start) → s.args.count ≡ length (right s)
-many-right s = sym (read_length (wide (form s)) (source s) s.args.right-words.now s.args.right-bytes.now)
+many-right s = sym (read_length (wide (form s)) (source s) s.args.right_words.now s.args.right_bytes.now)
 
 -- once the walk is searched
 abbrev entry : tie.After-shared-slice-known4 → tie.Start
@@ -55,15 +55,15 @@ begun t = entry t.before
 walk-stray-requires : tie.Need-walk-stray-requires
 walk-stray-requires c κs =
     let s = entry c in
-    let b = known-range (form s) (wide (form s)) s.pre.0.0 in
-    (omega (arith, b.w-ge), (s.pre.1.0.0, s.pre.1.0.1))
+    let b = known-range (form s) (wide (form s)) s.requires.0.0 in
+    (omega (arith, b.w-ge), (s.requires.1.0.0, s.requires.1.0.1))
 
 found : (t : tie.After-walk-stray) → let s = begun t in FoundBy (wide (form s)) (eqb (u s) 3) t.walk-stray.result (form s).W (left s) (right s)
 found t = go (wide (form (begun t))) refl
   where
     go : (w : Bool) → let s = begun t in wide (form s) ≡ w → FoundBy w (eqb (u s) 3) t.walk-stray.result (form s).W
-        (read_as w (source s) s.args.left-words.now s.args.left-bytes.now)
-        (read_as w (source s) s.args.right-words.now s.args.right-bytes.now)
+        (read_as w (source s) s.args.left_words.now s.args.left_bytes.now)
+        (read_as w (source s) s.args.right_words.now s.args.right_bytes.now)
     go true e = t.walk-stray.ensures.1 (omega (arith, ltb-true 64 (form (begun t)).W e))
     go false e = t.walk-stray.ensures.0
 
@@ -71,10 +71,10 @@ total-requires : tie.Need-total-requires
 total-requires c κs =
     let t = c.before.before in
     let s = begun t in (
-      s.pre.0,
+      s.requires.0,
       (
-        s.pre.1.0,
-        list-asks (form s) (env s) (u s) (left s) (right s) (many-left s) (many-right s) (eqb (u s) 4) (wide (form s)) refl s.pre.1.1 _ (found t)
+        s.requires.1.0,
+        list-asks (form s) (env s) (u s) (left s) (right s) (many-left s) (many-right s) (eqb (u s) 4) (wide (form s)) refl s.requires.1.1 _ (found t)
             c.enum_told.given.1,
       ),
     )
@@ -87,7 +87,7 @@ returns c =
     let s = begun t in
     let told = r.strayed.ensures in
     rw c.no_Walk.ensures (
-      list-strayed (form s) (env s) (u s) (left s) (right s) (many-left s) (many-right s) (eqb (u s) 4) (wide (form s)) refl s.pre.1.1 _ _ (found t)
+      list-strayed (form s) (env s) (u s) (left s) (right s) (many-left s) (many-right s) (eqb (u s) 4) (wide (form s)) refl s.requires.1.1 _ _ (found t)
           i.i.given.1 _ told,
       λ z w n. absurd (strayed-refused r.strayed.result _ told.0 n),
     )
@@ -97,7 +97,7 @@ returns-2 c =
     let e = c.before in
     let t = e.before.before in
     let s = begun t in (
-      list-told (form s) (env s) (u s) (left s) (right s) (many-left s) (many-right s) (eqb (u s) 4) (wide (form s)) refl s.pre.1.1 _ (found t)
+      list-told (form s) (env s) (u s) (left s) (right s) (many-left s) (many-right s) (eqb (u s) 4) (wide (form s)) refl s.requires.1.1 _ (found t)
           e.enum_told.given.1 _ c.total.ensures.0,
       λ z w n. c.total.ensures.1 z w,
     )

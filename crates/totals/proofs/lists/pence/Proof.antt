@@ -24,15 +24,15 @@ listed-requires : tie.Need-listed-requires
 listed-requires c κs =
     let s = entry c in
     let f = format_of s.args.f in
-    let b = s.pre.0 in
-    ((narrow-known f b, narrow-tens f b _ _ _), (((gives s _).within, (gives s _).within, λ _. whole-straight 0 _), (narrow f b, s.pre)))
+    let b = s.requires.0 in
+    ((narrow-known f b, narrow-tens f b _ _ _), (((gives s _).within, (gives s _).within, λ _. whole-straight 0 _), (narrow f b, s.requires)))
 
 returns : tie.Need-returns
 returns c =
     let r = c.before in
     let l = r.before in
     let s = entry l.before in
-    c.pence-of.ensures ∙ ap pence_in r.report-of.ensures ∙ rw (narrow (format_of s.args.f) s.pre.0, (gives s _).are) at l.listed.ensures.0
+    c.pence-of.ensures ∙ ap pence_in r.report-of.ensures ∙ rw (narrow (format_of s.args.f) s.requires.0, (gives s _).are) at l.listed.ensures.0
 
 pub pence-spec : {M : Type 1} → statement M
 pence-spec = tie.close (tie.spec (λ c. search rules) (λ c. search rules) listed-requires (λ c κs. search rules) (λ c κs. search rules) returns)

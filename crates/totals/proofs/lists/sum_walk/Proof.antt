@@ -36,7 +36,7 @@ listed-requires c κs =
       (narrow-known f b, narrow-tens f b _ _ _),
       (
         ((gives s _).within, (gives s _).within, λ _. whole-straight 1 _),
-        total-asked f (settings_of s.args.c) 0 (length s.args.values.now / 8) s.pre _ _,
+        total-asked f (settings_of s.args.c) 0 (length s.args.values.now / 8) s.requires _ _,
       ),
     )
 

@@ -27,14 +27,14 @@ listed-requires c κs =
     let f = format_of x.extended.result in
     let l = a.left.now in
     let r = a.right.now in (
-      tens-there f x.extended.ensures (settings_of a.c) a.u l r s.pre.0,
+      tens-there f x.extended.ensures (settings_of a.c) a.u l r s.requires.0,
       (
         (
           tens-within (length l / 10) _ l refl (omega arith),
-          tens-within (length l / 10) _ r (sym s.pre.0) (omega arith),
+          tens-within (length l / 10) _ r (sym s.requires.0) (omega arith),
           λ _. whole-straight 1 _,
         ),
-        tens-asked f x.extended.ensures (settings_of a.c) a.u l r s.pre.0 _ s.pre.1.1 s.pre.1.0,
+        tens-asked f x.extended.ensures (settings_of a.c) a.u l r s.requires.0 _ s.requires.1.1 s.requires.1.0,
       ),
     )
 
@@ -48,7 +48,7 @@ returns c =
     let (same, head) = c.wide_of.ensures in
     let whole = sym (heads-alike true r.report-of.result c.wide_of.result (sym same) (sym head)) in
     whole ∙ ap (answer_in true) r.report-of.ensures
-    ∙ tens-told (format_of x.extended.result) x.extended.ensures (settings_of a.c) a.u a.left.now a.right.now s.pre.0 _ s.pre.1.1 _
+    ∙ tens-told (format_of x.extended.result) x.extended.ensures (settings_of a.c) a.u a.left.now a.right.now s.requires.0 _ s.requires.1.1 _
     l.listed.ensures.0
 
 pub tens-spec : {M : Type 1} → statement M

@@ -30,10 +30,10 @@ abbrev u : tie.Start → ℕ
 u s = s.args.k.summand
 
 abbrev left : tie.Start → List ℕ
-left s = read_as (wide (form s)) s.args.k.source s.args.left-words.now s.args.left-bytes.now
+left s = read_as (wide (form s)) s.args.k.source s.args.left_words.now s.args.left_bytes.now
 
 abbrev right : tie.Start → List ℕ
-right s = read_as (wide (form s)) s.args.k.source s.args.right-words.now s.args.right-bytes.now
+right s = read_as (wide (form s)) s.args.k.source s.args.right_words.now s.args.right_bytes.now
 
 -- once it is scanned
 abbrev entry : tie.After-scanned → tie.Start
@@ -52,11 +52,11 @@ scan-requires : tie.Need-scan-requires
 scan-requires c κs =
     let s = entry c in
     let same = c.scanned.ensures.0 in (
-      (s.pre.0.0, rw same s.pre.0.1),
+      (s.requires.0.0, rw same s.requires.0.1),
       (
-        rw same s.pre.1.0.0,
-        rw same s.pre.1.0.1,
-        scanned-orderly s.args.k c.scanned.result same c.scanned.ensures.1 s.pre.1.0.2,
+        rw same s.requires.1.0.0,
+        rw same s.requires.1.0.1,
+        scanned-orderly s.args.k c.scanned.result same c.scanned.ensures.1 s.requires.1.0.2,
       ),
     )
 
@@ -65,7 +65,7 @@ early-requires c κs =
     let v = c.before in
     let d = v.before.before in
     let s = begun d in
-    early-asks (form s) (env s) (u s) (left s) (right s) _ _ _ _ v.v.given.1 (hundred s) s.pre.0.0 (seen d.before) d.decided-by.ensures
+    early-asks (form s) (env s) (u s) (left s) (right s) _ _ _ _ v.v.given.1 (hundred s) s.requires.0.0 (seen d.before) d.decided-by.ensures
 
 returns : tie.Need-returns
 returns c =
@@ -76,7 +76,7 @@ returns c =
     let s = begun d in
     let is = v.v.given.1 in
     rw c.keep.ensures (
-      early-told (form s) (env s) (u s) (left s) (right s) _ _ _ _ is (hundred s) (seen d.before) s.pre.1.1 d.decided-by.ensures _
+      early-told (form s) (env s) (u s) (left s) (right s) _ _ _ _ is (hundred s) (seen d.before) s.requires.1.1 d.decided-by.ensures _
           a.early.ensures,
       λ z w. keeps (form s) (env s) (u s) (left s) (right s) z w _ (seen d.before) _ _ _ d.decided-by.ensures (λ e. given-terms (sym is ∙ e)),
     )
@@ -86,13 +86,13 @@ abbrev told : tie.After-enum-told → tie.After-decided-by
 told e = e.before.before
 
 digits-for-requires : tie.Need-digits-for-requires
-digits-for-requires c κs = let s = begun (told c) in known-range (form s) (wide (form s)) s.pre.0.0
+digits-for-requires c κs = let s = begun (told c) in known-range (form s) (wide (form s)) s.requires.0.0
 
 top-for-requires : tie.Need-top-for-requires
 top-for-requires c κs =
     let d = told c.before in
     let s = begun d in
-    top-room (form s) (env s) (u s) (left s) (right s) s.pre.0.0 _ (hundred s) (seen d.before)
+    top-room (form s) (env s) (u s) (left s) (right s) s.requires.0.0 _ (hundred s) (seen d.before)
 
 exact-requires : tie.Need-exact-requires
 exact-requires c κs =
@@ -102,16 +102,16 @@ exact-requires c κs =
     let s = begun d in
     let a = s.args in
     let f = form s in
-    let b = s.pre.1.1 in (
-      (s.pre.0.0, s.pre.0.1, pence-narrow f (env s) (u s) (left s) (right s) (hundred s) (is_dot a.k) b),
+    let b = s.requires.1.1 in (
+      (s.requires.0.0, s.requires.0.1, pence-narrow f (env s) (u s) (left s) (right s) (hundred s) (is_dot a.k) b),
       (
         (
-          s.pre.1.0.0,
-          s.pre.1.0.1,
-          rw (read_length (wide f) a.k.source a.left-words.now a.left-bytes.now) at
+          s.requires.1.0.0,
+          s.requires.1.0.1,
+          rw (read_length (wide f) a.k.source a.left_words.now a.left_bytes.now) at
               (asks-few f (env s) (u s) (left s) (right s) (hundred s) (is_dot a.k) b),
-          rw p.digits-for.ensures (digits-most f (env s) (u s) (left s) (right s) s.pre.0.0 (hundred s)),
-          s.pre.1.0.2,
+          rw p.digits-for.ensures (digits-most f (env s) (u s) (left s) (right s) s.requires.0.0 (hundred s)),
+          s.requires.1.0.2,
         ),
         rw c.top-for.ensures
             (exact-asks f (env s) (u s) (left s) (right s) _ _ e.enum_told.given.1 (hundred s) refl (seen d.before) b d.decided-by.ensures),
@@ -121,14 +121,14 @@ exact-requires c κs =
 -- the chain's end, at the digits that were counted
 ends : (x : tie.After-exact) → let t = x.before in let s = begun (told t.before.before) in let a = s.args in
     Sums (cond (hundred s) 64 (spec.digits (form s)))
-    (terms.terms (added_in (form s) (env s) a.k a.left-words.now a.left-bytes.now a.right-words.now a.right-bytes.now)) x.exact.result
+    (terms.terms (added_in (form s) (env s) a.k a.left_words.now a.left_bytes.now a.right_words.now a.right_bytes.now)) x.exact.result
 ends x = rw x.before.before.digits-for.ensures at x.exact.ensures
 
 left-requires : tie.Need-left-requires
 left-requires c κs =
     let p = c.before.before in
     let s = begun (told p.before) in (
-      rw p.digits-for.ensures (digits-most (form s) (env s) (u s) (left s) (right s) s.pre.0.0 (hundred s)),
+      rw p.digits-for.ensures (digits-most (form s) (env s) (u s) (left s) (right s) s.requires.0.0 (hundred s)),
       c.exact.ensures.ended,
     )
 
@@ -136,7 +136,7 @@ ended-requires : tie.Need-ended-requires
 ended-requires c κs =
     let x = c.before in
     let s = begun (told x.before.before.before) in
-    end-asks (form s) (env s) (u s) (left s) (right s) s.pre.0.0 (hundred s) s.pre.1.1 (ends x)
+    end-asks (form s) (env s) (u s) (left s) (right s) s.requires.0.0 (hundred s) s.requires.1.1 (ends x)
     (rw x.before.before.digits-for.ensures at c.left.ensures)
 
 -- there is a term
@@ -144,7 +144,7 @@ some : (e : tie.After-enum-told) → (u (begun (told e)) ≡ 0) → ((told e).be
 some e z n =
     let d = told e in
     let s = begun d in
-    let t = (exact-asks (form s) (env s) (u s) (left s) (right s) _ _ e.enum_told.given.1 (hundred s) refl (seen d.before) s.pre.1.1
+    let t = (exact-asks (form s) (env s) (u s) (left s) (right s) _ _ e.enum_told.given.1 (hundred s) refl (seen d.before) s.requires.1.1
     d.decided-by.ensures).1 in
     let k : 0 < d.before.scan.result.top = rw z at t in
     omega (arith, k, n)
@@ -159,7 +159,7 @@ returns-2 c =
     let d = told e in
     let s = begun d in
     rw c.keep2.ensures (
-      end-told (form s) (env s) (u s) (left s) (right s) _ _ e.enum_told.given.1 (hundred s) refl (seen d.before) s.pre.1.1
+      end-told (form s) (env s) (u s) (left s) (right s) _ _ e.enum_told.given.1 (hundred s) refl (seen d.before) s.requires.1.1
           d.decided-by.ensures _ (ends x) _ r.ended.ensures,
       λ z w. keeps (form s) (env s) (u s) (left s) (right s) z w _ (seen d.before) _ _ _ d.decided-by.ensures
           (λ _. chain-ends (form s) (env s) (u s) (left s) (right s) z w _ (seen d.before) _ _ _ _ (rw z at p.digits-for.ensures) x.exact.ensures

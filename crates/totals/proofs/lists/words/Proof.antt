@@ -39,7 +39,7 @@ listed-requires c κs =
       (narrow-known f b, narrow-tens f b _ _ _),
       (
         ((gives_left s _).within, (gives-right s _).within, λ _. whole-straight 0 _),
-        total-asked f (settings_of s.args.c) s.args.u (length s.args.left.now) s.pre.1 _ _,
+        total-asked f (settings_of s.args.c) s.args.u (length s.args.left.now) s.requires.1 _ _,
       ),
     )
 
@@ -49,7 +49,7 @@ returns c =
     let l = r.before in
     let s = entry l.before in
     c.answer-of.ensures ∙ ap (answer_in false) r.report-of.ensures
-    ∙ total-told (format_of s.args.f) (settings_of s.args.c) s.args.u (length s.args.left.now) s.pre.1 _ _ _
+    ∙ total-told (format_of s.args.f) (settings_of s.args.c) s.args.u (length s.args.left.now) s.requires.1 _ _ _
     (rw (narrow (format_of s.args.f) (bounds s), (gives_left s _).are, (gives-right s _).are) at l.listed.ensures.0)
 
 pub words-spec : {M : Type 1} → statement M

@@ -37,7 +37,7 @@ small : (c : tie.After-cut) → c.cut.result.kept < 2 ^ 63
 small c =
     let e = c.before in
     let s = entry e.before in
-    kept-fits (form s) s.args.v s.pre.1 (fits e) c.cut.result _ (place e) c.cut.ensures
+    kept-fits (form s) s.args.v s.requires.1 (fits e) c.cut.result _ (place e) c.cut.ensures
 
 returns : tie.Need-returns
 returns c x st =
@@ -46,12 +46,12 @@ returns c x st =
     let d = k.before in
     let s = entry t.before in
     c.refused.ensures
-    ∙ too_large (form s) s.args.v s.pre.1 (omega (arith, t.if1.true, k.length.ensures.0, d.fall.ensures.0, d.before.origin.ensures.0)) x st
+    ∙ too_large (form s) s.args.v s.requires.1 (omega (arith, t.if1.true, k.length.ensures.0, d.fall.ensures.0, d.before.origin.ensures.0)) x st
 
 cut-requires : tie.Need-cut-requires
 cut-requires c κs =
     let s = entry c.before in
-    let h = s.pre.1 in
+    let h = s.requires.1 in
     let g = fits c in
     ((h.some, omega (arith, g, place c, penny-above (form s) s.args.v h g)), λ t. omega (arith, place c, sticky-below (form s) s.args.v h g t))
 
@@ -66,7 +66,7 @@ returns-2 c x st =
     let e = k.before in
     let s = entry e.before in
     c.in-range.ensures
-    ∙ whole_is (form s) s.args.v s.pre.1 (fits e) k.cut.result _ (place e) k.cut.ensures u.rounds-up.result u.rounds-up.ensures _
+    ∙ whole_is (form s) s.args.v s.requires.1 (fits e) k.cut.result _ (place e) k.cut.ensures u.rounds-up.result u.rounds-up.ensures _
     (ap₂ ◌+◌ refl n.flag.ensures.0) x st
 
 pub nearest-spec : {M : Type 1} → statement M

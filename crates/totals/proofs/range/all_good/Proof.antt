@@ -40,12 +40,12 @@ there : (t : tie.After-good-entry invariant-loop decreases-loop) → (head t).lo
 there t = omega (arith, long (entry (head t)), (inside t).loop-test.true)
 
 -- the entry i
-here : (t : tie.After-good-entry invariant-loop decreases-loop) → t.good-entry.result ≡ spec.good_amount (get_or (list (entry (head t))) (head t).loop.i (spec.known 0))
+here : (t : tie.After-good-entry invariant-loop decreases-loop) → t.well_formed-entry.result ≡ spec.good_amount (get_or (list (entry (head t))) (head t).loop.i (spec.known 0))
 here t =
     let s = entry (head t) in
     let a = s.args in
-    t.good-entry.ensures
-    ∙ ap spec.good_amount (sym (entry_at a.tags.now a.firsts.now a.seconds.now (sym s.pre.0) (sym s.pre.1) (head t).loop.i))
+    t.well_formed-entry.ensures
+    ∙ ap spec.good_amount (sym (entry_at a.tags.now a.firsts.now a.seconds.now (sym s.requires.0) (sym s.requires.1) (head t).loop.i))
 
 loop-holds : tie.Need-loop-init invariant-loop decreases-loop
 loop-holds c = (omega arith, refl)

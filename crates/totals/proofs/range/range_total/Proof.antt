@@ -63,7 +63,7 @@ few : (e : tie.Else3) → length (ts (begun3 e)) ≤ limit
 few e = e.if3.false
 
 ceiling-good : (e : tie.Else4) → spec.good_ceiling (z (begun4 e)) ≡ true
-ceiling-good e = sym e.before.good-ceiling.ensures ∙ not-false _ e.if4.false
+ceiling-good e = sym e.before.well_formed-ceiling.ensures ∙ not-false _ e.if4.false
 
 entries-good : (e : tie.Else5) → let s = begun e in bad (ts s) (xs s) (ys s) ≡ false
 entries-good e = sym e.before.all-good.ensures ∙ e.if5.false
@@ -130,7 +130,7 @@ returns-4 c =
     let g = t.before in
     let e = g.before in
     leaves-refused _ _ _ _ 11 refl
-    (by-ceiling _ _ _ _ (firsts-long e.before) (seconds-long e.before) (few e) (sym g.good-ceiling.ensures ∙ not-true _ t.if4.true)) _
+    (by-ceiling _ _ _ _ (firsts-long e.before) (seconds-long e.before) (few e) (sym g.well_formed-ceiling.ensures ∙ not-true _ t.if4.true)) _
     c.refused4.ensures
 
 all-good-requires : tie.Need-all-good-requires

@@ -69,7 +69,7 @@ module _ (t : tie.In-loop invariant-loop decreases-loop) where
   good =
       let h = t.before in
       let s = entry h in
-      good-at (ts s) (xs s) (ys s) (firsts-long s) (seconds-long s) s.pre.1.1 h.loop.i t.loop-test.taken
+      good-at (ts s) (xs s) (ys s) (firsts-long s) (seconds-long s) s.requires.1.1 h.loop.i t.loop-test.taken
 
   first-long : t.before.loop.i < length t.before.loop.firsts
   first-long =
@@ -134,7 +134,7 @@ float-to-bits-seconds : tie.Need-float-to-bits-seconds invariant-loop decreases-
 float-to-bits-seconds c =
     let t = turned c in
     let s = entry t.before in
-    let h = high-good s.args.ceiling s.pre.1.0 (amount t.before) (good t) in
+    let h = high-good s.args.ceiling s.requires.1.0 (amount t.before) (good t) in
     no-nan-double _ (figure-no-nan _ (subst (λ (b : ℕ). T (good_figure b)) (sym (high_is c)) h))
 
 slice-write-seconds : tie.Need-slice-write-seconds invariant-loop decreases-loop

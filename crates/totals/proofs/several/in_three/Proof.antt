@@ -20,8 +20,8 @@ many : (s : tie.Start) → let b = s.args.values.now in length b / 8 ≡ length 
 many s = sym (values_length s.args.values.now)
 
 listed : (t : tie.After-walk-once) → let s = entry t in let a = s.args in
-    sum_numbers (format_of a.f) (reading_with a.denormals-are-zero) 0 (length a.values.now / 8) ≡ 0
-    → Listed (format_of a.f) a.denormals-are-zero (length a.values.now / 8) t.walk-once.result
+    sum_numbers (format_of a.f) (reading_with a.denormals_are_zero) 0 (length a.values.now / 8) ≡ 0
+    → Listed (format_of a.f) a.denormals_are_zero (length a.values.now / 8) t.walk-once.result
 listed t e = let s = entry t in record { values = values_in s.args.values.now; kept = t.walk-once.ensures e; many = many s }
 
 into-target-requires : tie.Need-into-target-requires

@@ -21,7 +21,7 @@ abbrev env : tie.Start → Settings
 env s = settings_of s.args.target.settings
 
 abbrev d : tie.Start → ℕ
-d s = s.args.denormals-are-zero
+d s = s.args.denormals_are_zero
 
 -- once it is tested
 abbrev entry : tie.After-target-refusal → tie.Start
@@ -61,7 +61,7 @@ print-one-requires c κs =
     let e = tested c.before in
     let s = begun e in
     let v = valid e in
-    let k = s.pre v.numbers in
+    let k = s.requires v.numbers in
     record {
       list = v.list;
       format = v.format;

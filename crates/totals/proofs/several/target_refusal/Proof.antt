@@ -28,8 +28,8 @@ first t = t.before.before
 format : (t : tie.Else2) → valid_format (format_of (entry (first t)).args.t) ≡ true
 format t = sym t.before.valid-format2.ensures ∙ not-false _ t.if2.false
 
-reading : (t : tie.Else3) → leb (entry (first t.before)).args.denormals-are-zero 1 ≡ true
-reading t = le-leb (entry (first t.before)).args.denormals-are-zero 1 (omega (arith, t.if3.false))
+reading : (t : tie.Else3) → leb (entry (first t.before)).args.denormals_are_zero 1 ≡ true
+reading t = le-leb (entry (first t.before)).args.denormals_are_zero 1 (omega (arith, t.if3.false))
 
 abbrev read : tie.Else4 → tie.Else3
 read t = t.before.before
@@ -47,7 +47,7 @@ returns-2 c = let t = c.before in rw (list t.before, sym t.valid-format2.ensures
 
 returns-3 : tie.Need-returns-3
 unfolding target_numbers
-returns-3 c = let t = c.before in rw (list (first t), format t, lt-leb (entry (first t)).args.denormals-are-zero 1 (omega arith))
+returns-3 c = let t = c.before in rw (list (first t), format t, lt-leb (entry (first t)).args.denormals_are_zero 1 (omega arith))
 
 valid-settings-requires : tie.Need-valid-settings-requires
 valid-settings-requires c κs = (format-bounds _ (T_of (format c.before))).range

@@ -18,7 +18,7 @@ abbrev entry : tie.After-sum-refusal → tie.Start
 entry t = let r = read t in r.before.before
 
 number : (t : tie.After-sum-refusal) → let a = (entry t).args in
-    t.sum-refusal.result ≡ sum_numbers (format_of a.f) (reading_with a.denormals-are-zero) 0 (length a.values.now / 8)
+    t.sum-refusal.result ≡ sum_numbers (format_of a.f) (reading_with a.denormals_are_zero) 0 (length a.values.now / 8)
 number t =
     let a = (entry t).args in
     t.sum-refusal.ensures ∙ ap (λ (c : Settings). sum_numbers (format_of a.f) c 0 (length a.values.now / 8)) (read t).reading.ensures

@@ -60,7 +60,7 @@ element-requires : tie.Need-element-requires invariant-loop decreases-loop
 element-requires c κs =
     let h = c.before in
     let s = entry h in
-    element-there s.args.source _ _ _ _ c.loop-test.true h.loop.invariant.1 s.pre.1
+    element-there s.args.source _ _ _ _ c.loop-test.true h.loop.invariant.1 s.requires.1
 
 returns-2 : tie.Need-returns-2 invariant-loop decreases-loop
 returns-2 c =
@@ -71,7 +71,7 @@ add-place : tie.Need-overflow-add-place invariant-loop decreases-loop
 add-place c =
     let t = c.before.before in
     let s = entry (head t) in
-    record { fits = next_fits s.args.source _ _ _ _ t.before.loop-test.true (head t).loop.invariant.1 s.pre.1 }
+    record { fits = next_fits s.args.source _ _ _ _ t.before.loop-test.true (head t).loop.invariant.1 s.requires.1 }
 
 add-i : tie.Need-overflow-add-i invariant-loop decreases-loop
 add-i c = search rules

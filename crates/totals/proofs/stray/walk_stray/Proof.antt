@@ -12,10 +12,10 @@ use Rattle.totals.proofs.stray.walk_stray.Tie as tie
 
 -- at the entry: the lists
 abbrev left : tie.Start → List ℕ
-left s = elements s.args.k.source s.args.left-words.now s.args.left-bytes.now
+left s = elements s.args.k.source s.args.left_words.now s.args.left_bytes.now
 
 abbrev right : tie.Start → List ℕ
-right s = elements s.args.k.source s.args.right-words.now s.args.right-bytes.now
+right s = elements s.args.k.source s.args.right_words.now s.args.right_bytes.now
 
 -- once the left one is searched
 abbrev entry : tie.After-find-stray → tie.Start

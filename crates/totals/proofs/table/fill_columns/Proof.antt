@@ -39,8 +39,8 @@ column-requires c κs =
     let s = entry h in
     let a = s.args in
     let some : a.rows * 1 ≤ a.rows * a.columns = mul-le-mul_left a.rows (omega (arith, c.loop-test.true)) in (
-      (omega (arith, s.pre.0), c.loop-test.true),
-      fewer-pass (format_of a.f) (settings_of a.c) 0 a.rows _ (omega (arith, some, s.pre.0)) s.pre.2,
+      (omega (arith, s.requires.0), c.loop-test.true),
+      fewer-pass (format_of a.f) (settings_of a.c) 0 a.rows _ (omega (arith, some, s.requires.0)) s.requires.2,
     )
 
 mul-totals : tie.Need-overflow-mul-totals invariant-loop decreases-loop

@@ -30,7 +30,7 @@ there : (t : tie.In-loop invariant-loop decreases-loop) → let l = t.before.loo
 there t =
     let h = t.before in
     let s = entry h in
-    omega (arith, h.loop.invariant.1, s.pre.0, mul-le-mul_right s.args.columns (add-one-le t.loop-test.true))
+    omega (arith, h.loop.invariant.1, s.requires.0, mul-le-mul_right s.args.columns (add-one-le t.loop-test.true))
 
 row_is : (t : tie.After-sum invariant-loop decreases-loop) → let h = t.before.before.before in let a = (entry h).args in
     t.sum.result.result ≡ plain_total (format_of a.f) (settings_of a.c) (take a.columns (drop (h.loop.i * a.columns) a.cells.now))
@@ -48,7 +48,7 @@ add-end : tie.Need-overflow-add-end invariant-loop decreases-loop
 add-end c = omega (arith, there c)
 
 mul-sum : tie.Need-overflow-mul-sum invariant-loop decreases-loop
-mul-sum c = omega (arith, there c, (entry c.before).good)
+mul-sum c = omega (arith, there c, (entry c.before).well_formed)
 
 sub-sum : tie.Need-overflow-sub-sum invariant-loop decreases-loop
 sub-sum c = omega arith

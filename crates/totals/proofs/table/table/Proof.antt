@@ -31,7 +31,7 @@ abbrev cells : tie.Start → List ℕ
 cells s = s.args.cells.now
 
 abbrev whole : tie.Start → Tabled
-whole s = table_answer (form s) (env s) s.args.rows s.args.columns (cells s) s.args.row-totals.now s.args.column-totals.now
+whole s = table_answer (form s) (env s) s.args.rows s.args.columns (cells s) s.args.row_totals.now s.args.column_totals.now
 
 tables : {t : Tabled} {g : totals.Answer} {r k : List ℕ} (a : Answer) → t ≡ leaves g r k → answer_of a ≡ g → Tables t a r k
 tables a e q = record {
@@ -63,7 +63,7 @@ abbrev second : tie.Else4 → tie.Else2
 second e = e.before.before
 
 roomy : (e : tie.Else4) → let s = entry (first (second e)).before in
-    Roomy s.args.rows s.args.columns (cells s) s.args.row-totals.now s.args.column-totals.now
+    Roomy s.args.rows s.args.columns (cells s) s.args.row_totals.now s.args.column_totals.now
 roomy e = record { shape = shape (second e); for-rows = e.before.if3.false; for-columns = e.if4.false }
 
 abbrev begun : tie.After-words → tie.Start
@@ -79,7 +79,7 @@ unfolding sum_numbers
 returns c =
     let t = c.before in
     let s = entry t.before in
-    tables _ (table-stopped (form s) (env s) (cells s) s.args.rows s.args.columns s.args.row-totals.now s.args.column-totals.now _
+    tables _ (table-stopped (form s) (env s) (cells s) s.args.rows s.args.columns s.args.row_totals.now s.args.column_totals.now _
     t.before.sum-refusal.ensures t.if1.true) c.refused.ensures
 
 returns-2 : tie.Need-returns-2
@@ -88,7 +88,7 @@ returns-2 c =
     let m = t.before in
     let s = entry m.before.before in
     let other : s.args.rows * s.args.columns ≢ length (cells s) = eqb-false _ _ (not-true _ (sym m.misshapen.ensures ∙ t.if2.true)) in
-    tables _ (shape-refused (form s) (env s) (cells s) s.args.rows s.args.columns s.args.row-totals.now s.args.column-totals.now
+    tables _ (shape-refused (form s) (env s) (cells s) s.args.rows s.args.columns s.args.row_totals.now s.args.column_totals.now
     (passed m.before) other) c.refused2.ensures
 
 returns-3 : tie.Need-returns-3
@@ -96,7 +96,7 @@ returns-3 c =
     let t = c.before in
     let e = t.before in
     let s = entry (first e).before in
-    tables _ (room-refused (form s) (env s) (cells s) s.args.rows s.args.columns s.args.row-totals.now s.args.column-totals.now
+    tables _ (room-refused (form s) (env s) (cells s) s.args.rows s.args.columns s.args.row_totals.now s.args.column_totals.now
     (passed (first e)) (shape e) (inl t.if3.true)) c.refused3.ensures
 
 returns-4 : tie.Need-returns-4
@@ -104,7 +104,7 @@ returns-4 c =
     let t = c.before in
     let e = t.before.before in
     let s = entry (first e).before in
-    tables _ (room-refused (form s) (env s) (cells s) s.args.rows s.args.columns s.args.row-totals.now s.args.column-totals.now
+    tables _ (room-refused (form s) (env s) (cells s) s.args.rows s.args.columns s.args.row_totals.now s.args.column_totals.now
     (passed (first e)) (shape e) (inr t.if4.true)) c.refused4.ensures
 
 words-requires : tie.Need-words-requires
@@ -115,7 +115,7 @@ returns-5 c =
     let t = c.before.before in
     let e = t.before in
     let s = begun t in
-    tables _ (table-strayed (form s) (env s) (cells s) s.args.rows s.args.columns s.args.row-totals.now s.args.column-totals.now
+    tables _ (table-strayed (form s) (env s) (cells s) s.args.rows s.args.columns s.args.row_totals.now s.args.column_totals.now
     (passed (first (second e))) (roomy e) (λ q. c.if5.true (number t ∙ q))) t.words.ensures
 
 abbrev summed : tie.After-fill-rows-arg → tie.After-words
@@ -143,7 +143,7 @@ returns-6 c =
     let done = r.before.before in
     let accepted = sym (number t) ∙ done.if5.left in
     let all =
-    table-summed (form s) (env s) (cells s) s.args.rows s.args.columns s.args.row-totals.now s.args.column-totals.now
+    table-summed (form s) (env s) (cells s) s.args.rows s.args.columns s.args.row_totals.now s.args.column_totals.now
     (passed (first (second e))) (roomy e) accepted in
     record {
       grand-is = t.words.ensures ∙ sym (ap (λ (x : Tabled). x.grand) all);

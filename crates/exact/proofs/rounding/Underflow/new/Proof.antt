@@ -4,7 +4,7 @@ use Rattle.exact.proofs.rounding.Underflow.new.Statement.{statement}
 use Rattle.exact.proofs.rounding.Underflow.new.Tie as tie
 
 returns : tie.Need-returns
-returns c = let t = c.before in rw (t.if1.true, set_on t.before.args.flush-to-zero c.if2.true)
+returns c = let t = c.before in rw (t.if1.true, set_on t.before.args.flush_to_zero c.if2.true)
 
 returns-2 : tie.Need-returns-2
 returns-2 c = let t = c.before in rw (t.before.if1.true, t.if2.false, c.if3.true)
