@@ -3,18 +3,18 @@ use Rattle.std.proofs.Common.{rules, eq-eqb, ne_eqb}
 use Rattle.binary.proofs.decode_top.Statement.{statement}
 use Rattle.binary.proofs.decode_top.Tie as tie
 
-returns : tie.Need-returns
-returns c = rw (eq-eqb _ _ c.if1.true)
+returns : tie.Need-returns-then-fraction-eq0
+returns c = rw (eq-eqb _ _ c.if-fraction-eq0.true)
 
-returns-2 : tie.Need-returns-2
+returns-2 : tie.Need-returns
 returns-2 c =
-    let if1 = c.before.before.if1 in
-    let power = c.before.power in
+    let if1 = c.if-fraction-eq0 in
+    let power = c.power in
     let low_bits = c.low_bits in
     rw (ne_eqb _ _ if1.false, power.ensures.0, low_bits.ensures)
 
-pub decode-top-spec : {M : Type 1} → statement M
-decode-top-spec =
+pub decode_top_spec : {M : Type 1} → statement M
+decode_top_spec =
     tie.close
     (tie.spec
     returns

@@ -4,7 +4,7 @@ use Rattle.binary.proofs.field_of.Statement.{statement}
 use Rattle.binary.proofs.field_of.Tie as tie
 
 returns : tie.Need-returns
-returns c = rw c.before.fraction-bits.ensures at c.low_bits.ensures
+returns c = rw c.fraction_bits.ensures at c.low_bits.ensures
 
-pub field-of-spec : {M : Type 1} → statement M
-field-of-spec = tie.close (tie.spec (λ c κs. search rules) (λ c. search rules) (λ c κs. search rules) returns)
+pub field_of_spec : {M : Type 1} → statement M
+field_of_spec = tie.close (tie.spec (λ c κs. search rules) (λ c. search rules) (λ c κs. search rules) returns)

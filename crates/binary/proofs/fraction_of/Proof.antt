@@ -8,10 +8,10 @@ use Rattle.binary.proofs.fraction_of.Tie as tie
 returns : tie.Need-returns
 returns c =
     let s = c.before.before in
-    let fraction-bits = c.before.fraction-bits in
+    let fraction-bits = c.fraction_bits in
     let low_bits = c.low_bits in
     let e = rw fraction-bits.ensures at low_bits.ensures in
     (e, rw e (mod-lt s.args.b (pow_pos (fraction_bits (format_of s.args.f)))))
 
-pub fraction-of-spec : {M : Type 1} → statement M
-fraction-of-spec = tie.close (tie.spec (λ c κs. search rules) (λ c κs. search rules) returns)
+pub fraction_of_spec : {M : Type 1} → statement M
+fraction_of_spec = tie.close (tie.spec (λ c κs. search rules) (λ c κs. search rules) returns)

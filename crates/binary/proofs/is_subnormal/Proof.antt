@@ -3,11 +3,11 @@ use Rattle.std.proofs.Common.{rules}
 use Rattle.binary.proofs.is_subnormal.Statement.{statement}
 use Rattle.binary.proofs.is_subnormal.Tie as tie
 
-returns-2 : tie.Need-returns-2
-returns-2 c = rw (c.before.enum-told2.given.1, c.field_of.ensures)
+returns-2 : tie.Need-returns-in-Finite
+returns-2 c = rw (c.in-Finite.is, c.field_of.ensures)
 
-pub is-subnormal-spec : {M : Type 1} → statement M
-is-subnormal-spec =
+pub is_subnormal_spec : {M : Type 1} → statement M
+is_subnormal_spec =
     tie.close
     (tie.spec
     (λ c. search rules)

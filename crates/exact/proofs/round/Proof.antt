@@ -25,24 +25,24 @@ ends : (t : tie.After-length) → let s = entry t in EndsAt (form s) (env s) s.a
 ends t = record { rounds = (entry t).requires; is = omega arith; top = omega arith }
 
 -- once the precision is known, and then the first digits
-abbrev sized : tie.After-precision-within → tie.After-length
+abbrev sized : tie.After-precision_within-q → tie.After-length
 sized t = t.before.before
 
-begun : (t : tie.After-first-digits) → let s = entry (sized t.before) in
-    Begins (form s) (env s) s.args.g s.args.v t.before.precision-within.result t.first-digits.result
-begun t = begins (ends (sized t.before)) t.before.precision-within.ensures t.first-digits.ensures
+begun : (t : tie.After-first_digits-d) → let s = entry (sized t.before) in
+    Begins (form s) (env s) s.args.g s.args.v t.precision_within-q.result t.first_digits-d.result
+begun t = begins (ends (sized t.before)) t.precision_within-q.ensures t.first_digits-d.ensures
 
-first-digits-requires : tie.Need-first-digits-requires
-first-digits-requires c κs = measured (ends (sized c)) c.precision-within.ensures
+first-digits-requires : tie.Need-first_digits-d-requires
+first-digits-requires c κs = measured (ends (sized c)) c.precision_within-q.ensures
 
-round-normal-requires : tie.Need-round-normal-requires
+round-normal-requires : tie.Need-round_normal-requires
 round-normal-requires c κs = (begun c.before.before, omega arith)
 
-round-small-requires : tie.Need-round-small-requires
+round-small-requires : tie.Need-round_small-requires
 round-small-requires c κs = (begun c.before.before, omega arith)
 
-pub round-spec : {M : Type 1} → statement M
-round-spec =
+pub round_spec : {M : Type 1} → statement M
+round_spec =
     tie.close
     (tie.spec
     (λ c κs. search rules)

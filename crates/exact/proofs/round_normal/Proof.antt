@@ -10,45 +10,45 @@ use Rattle.exact.proofs.round_normal.Tie as tie
 abbrev entry : tie.After-overflows → tie.Start
 entry t = t.before.before
 
-abbrev tested : tie.After-struct-known → tie.After-overflows
+abbrev tested : tie.After-struct_known-1 → tie.After-overflows
 tested t = t.before.before
 
-returns : tie.Need-returns
+returns : tie.Need-returns-then-overflows
 returns c =
     let t = c.before.before in
     let s = entry t in
     let b = s.requires.0 in
     let r = c.overflow.ensures in
-    let over = goes_over b.ends b.keeps b.first s.requires.1 (sym t.overflows.ensures ∙ c.before.if1.true) in
+    let over = goes_over b.ends b.keeps b.first s.requires.1 (sym t.overflows.ensures ∙ c.if-overflows.true) in
     record { equal = λ x st. r.0 ∙ over x st; encodes = r.1; flags = r.2 }
 
 scaled-requires : tie.Need-scaled-requires
 scaled-requires c κs =
     let s = entry (tested c) in
     let b = s.requires.0 in
-    rw (tested c).before.digits.ensures (stays-word b.ends b.keeps b.first s.requires.1)
+    rw (tested c).digits-p.ensures (stays-word b.ends b.keeps b.first s.requires.1)
 
-returns-2 : tie.Need-returns-2
+returns-2 : tie.Need-returns
 returns-2 c =
     let k = c.before.before.before in
     let t = tested k in
     let s = entry t in
     let b = s.requires.0 in
-    let o = sym t.overflows.ensures ∙ k.before.if1.false in
+    let o = sym t.overflows.ensures ∙ k.if-overflows.false in
     let same = stays b.ends b.keeps b.first s.requires.1 o in
     let can = stays-encodes b.ends b.keeps b.first s.requires.1 o in
-    let number = c.before.before.scaled.ensures in
-    let lost = c.before.flag.ensures in
-    let up = c.flag2.ensures in
-    let p = t.before.digits.ensures in
+    let number = c.scaled.ensures in
+    let lost = c.flag.ensures in
+    let up = c.flag-2.ensures in
+    let p = t.digits-p.ensures in
     record {
       equal = λ x st. rw (lost.0, up.0, number, p) (same x st);
       encodes = rw (number, p) can;
       flags = omega (arith, lost.1, up.1);
     }
 
-pub round-normal-spec : {M : Type 1} → statement M
-round-normal-spec =
+pub round_normal_spec : {M : Type 1} → statement M
+round_normal_spec =
     tie.close
     (tie.spec
     (λ c κs. search rules)

@@ -10,29 +10,29 @@ use Rattle.binary.proofs.extended.decode.Tie as tie
 significand-is : (s : tie.Start) → significand_in (ten_of s.args.b) ≡ s.args.b.significand
 significand-is s = halves-significand s.args.b.head s.args.b.significand s.requires (search rules)
 
-returns : tie.Need-returns
-returns c = let u = c.before in decoded-unsupported _ _ u.before.sign_of.ensures (sym u.is-unsupported.ensures ∙ c.if1.true)
+returns : tie.Need-returns-then-is_unsupported
+returns c = let u = c.before in decoded-unsupported _ _ u.sign_of-negative.ensures (sym u.is_unsupported.ensures ∙ c.if-is_unsupported.true)
 
-returns-2 : tie.Need-returns-2
+returns-2 : tie.Need-returns-then-field-eq-FIELD_MAX
 returns-2 c =
     let f = c.before.before in
     let u = f.before.before in
     let g = u.before in
-    c.decode-top.ensures
-    ∙ decoded-top _ _ g.sign_of.ensures _ _ f.field_of.ensures.0 (significand-is g.before)
-    (sym u.is-unsupported.ensures ∙ f.before.if1.false) c.before.if2.true
+    c.decode_top.ensures
+    ∙ decoded-top _ _ g.sign_of-negative.ensures _ _ f.field_of-field.ensures.0 (significand-is g.before)
+    (sym u.is_unsupported.ensures ∙ f.if-is_unsupported.false) c.if-field-eq-FIELD_MAX.true
 
-returns-3 : tie.Need-returns-3
+returns-3 : tie.Need-returns
 returns-3 c =
     let f = c.before.before in
     let u = f.before.before in
     let g = u.before in
-    c.decode-number.ensures
-    ∙ decoded-number _ _ g.sign_of.ensures _ _ f.field_of.ensures.0 (significand-is g.before)
-    (sym u.is-unsupported.ensures ∙ f.before.if1.false) c.before.if2.false
+    c.decode_number.ensures
+    ∙ decoded-number _ _ g.sign_of-negative.ensures _ _ f.field_of-field.ensures.0 (significand-is g.before)
+    (sym u.is_unsupported.ensures ∙ f.if-is_unsupported.false) c.if-field-eq-FIELD_MAX.false
 
-pub decode-spec : {M : Type 1} → statement M
-decode-spec =
+pub decode_spec : {M : Type 1} → statement M
+decode_spec =
     tie.close
     (tie.spec
     (λ c κs. search rules)

@@ -5,30 +5,30 @@ use Rattle.std.proofs.Common.{rules}
 use Rattle.binary.proofs.extended.encode.Statement.{statement}
 use Rattle.binary.proofs.extended.encode.Tie as tie
 
-encode-finite-requires : tie.Need-encode-finite-requires
+encode-finite-requires : tie.Need-encode_finite-requires
 unfolding extended
-encode-finite-requires c κs = let v = c.before in (rw v.v2.given.1 at v.before.before.requires).0
+encode-finite-requires c κs = let v = c in (rw v.in-Finite.is at v.requires).0
 
-encode-nan-requires : tie.Need-encode-nan-requires
+encode-nan-requires : tie.Need-encode_nan-requires
 unfolding extended
-encode-nan-requires c κs = let v = c.before in rw v.v4.given.1 at v.before.before.requires
+encode-nan-requires c κs = let v = c in rw v.in-Nan.is at v.requires
 
-returns : tie.Need-returns
+returns : tie.Need-returns-in-Zero
 unfolding encode extended
-returns c = rw c.before.before.v.given.1 c.assemble.ensures
+returns c = rw c.in-Zero.is c.assemble.ensures
 
-returns-2 : tie.Need-returns-2
-returns-2 c = rw c.before.before.v2.given.1 c.encode-finite.ensures
+returns-2 : tie.Need-returns-in-Finite
+returns-2 c = rw c.in-Finite.is c.encode_finite.ensures
 
-returns-3 : tie.Need-returns-3
+returns-3 : tie.Need-returns-in-Infinity
 unfolding encode extended
-returns-3 c = rw c.before.before.v3.given.1 c.assemble2.ensures
+returns-3 c = rw c.in-Infinity.is c.assemble-in-Infinity.ensures
 
-returns-4 : tie.Need-returns-4
-returns-4 c = rw c.before.before.v4.given.1 c.encode-nan.ensures
+returns-4 : tie.Need-returns-in-Nan
+returns-4 c = rw c.in-Nan.is c.encode_nan.ensures
 
-pub encode-spec : {M : Type 1} → statement M
-encode-spec =
+pub encode_spec : {M : Type 1} → statement M
+encode_spec =
     tie.close
     (tie.spec
     (λ c. search rules)

@@ -5,14 +5,14 @@ use Rattle.totals_spec.specs.Extended.{extended}
 use Rattle.binary.proofs.extended.encode_nan.Statement.{statement}
 use Rattle.binary.proofs.extended.encode_nan.Tie as tie
 
-returns : tie.Need-returns
+returns : tie.Need-returns-then-signaling
 unfolding encode extended
-returns c = (rw (c.before.if1.true, zero-add c.before.before.args.payload) c.assemble.ensures.0, c.assemble.ensures.1)
+returns c = (rw (c.if-signaling.true, zero-add c.args.payload) c.assemble.ensures.0, c.assemble.ensures.1)
 
-returns-2 : tie.Need-returns-2
+returns-2 : tie.Need-returns
 unfolding encode extended
-returns-2 c = (rw c.before.if1.false c.assemble2.ensures.0, c.assemble2.ensures.1)
+returns-2 c = (rw c.if-signaling.false c.assemble-2.ensures.0, c.assemble-2.ensures.1)
 
-pub encode-nan-spec : {M : Type 1} → statement M
-encode-nan-spec =
+pub encode_nan_spec : {M : Type 1} → statement M
+encode_nan_spec =
     tie.close (tie.spec (λ c κs. search rules) returns (λ c. search rules) (λ c κs. search rules) returns-2)

@@ -8,5 +8,5 @@ returns : tie.Need-returns
 unfolding extended
 returns c = refl
 
-pub extended-spec : {M : Type 1} → statement M
-extended-spec = tie.close (tie.spec returns)
+pub extended_spec : {M : Type 1} → statement M
+extended_spec = tie.close (tie.spec returns)

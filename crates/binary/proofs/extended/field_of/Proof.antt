@@ -7,5 +7,5 @@ use Rattle.binary.proofs.extended.field_of.Tie as tie
 returns : tie.Need-returns
 returns c = let s = c.before in (sym (halves-field s.args.b.head s.args.b.significand s.requires (search rules)), omega arith)
 
-pub field-of-spec : {M : Type 1} → statement M
-field-of-spec = tie.close (tie.spec returns)
+pub field_of_spec : {M : Type 1} → statement M
+field_of_spec = tie.close (tie.spec returns)

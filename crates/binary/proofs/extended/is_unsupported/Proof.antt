@@ -5,11 +5,11 @@ use Rattle.totals_spec.proofs.Halves.{halves-significand}
 use Rattle.binary.proofs.extended.is_unsupported.Statement.{statement}
 use Rattle.binary.proofs.extended.is_unsupported.Tie as tie
 
-returns : tie.Need-returns
+returns : tie.Need-returns-then-field_of-eq0
 unfolding unsupported
 returns c = let f = c.before in rw (sym f.field_of.ensures.0, eq-eqb f.field_of.result 0 (omega arith))
 
-returns-2 : tie.Need-returns-2
+returns-2 : tie.Need-returns
 unfolding unsupported
 returns-2 c =
     let k = c.before in
@@ -19,5 +19,5 @@ returns-2 c =
     let some = ne_eqb f.field_of.result 0 (λ e. omega (arith, e)) in
     rw (halves-significand b.head b.significand s.requires (search rules), sym f.field_of.ensures.0, some)
 
-pub is-unsupported-spec : {M : Type 1} → statement M
-is-unsupported-spec = tie.close (tie.spec (λ c κs. search rules) returns returns-2)
+pub is_unsupported_spec : {M : Type 1} → statement M
+is_unsupported_spec = tie.close (tie.spec (λ c κs. search rules) returns returns-2)

@@ -7,27 +7,27 @@ use Rattle.binary.proofs.Cases.{operand-other, operand-kept, operand-zero}
 use Rattle.binary.proofs.extended.operand.Statement.{statement}
 use Rattle.binary.proofs.extended.operand.Tie as tie
 
-returns : tie.Need-returns
+returns : tie.Need-returns-then-c-eq0
 unfolding extended_operand
 returns c =
     let k = c.before.before in
     let t = k.before in
-    let b = ten_of t.before.args.b in
-    (c.decode.ensures ∙ operand-kept _ (subnormal_extended b) (zero_of (sign_in b)) (decode_extended b) c.before.if1.true, t.is_subnormal.ensures)
+    let b = ten_of t.args.b in
+    (c.decode.ensures ∙ operand-kept _ (subnormal_extended b) (zero_of (sign_in b)) (decode_extended b) c.if-c-eq0.true, t.is_subnormal-subnormal.ensures)
 
-returns-2 : tie.Need-returns-2
+returns-2 : tie.Need-returns-then-subnormal
 unfolding extended_operand
 returns-2 c =
     let z = c.before.before in
     let t = z.before.before in
-    let b = ten_of t.before.args.b in
-    let sub = c.before.if2.true in (
+    let b = ten_of t.args.b in
+    let sub = c.if-subnormal.true in (
       ap (λ s. zero_of s) c.sign_of.ensures
-          ∙ operand-zero _ (subnormal_extended b) (zero_of (sign_in b)) (decode_extended b) z.if1.false (sym t.is_subnormal.ensures ∙ sub),
-      sym sub ∙ t.is_subnormal.ensures,
+          ∙ operand-zero _ (subnormal_extended b) (zero_of (sign_in b)) (decode_extended b) z.if-c-eq0.false (sym t.is_subnormal-subnormal.ensures ∙ sub),
+      sym sub ∙ t.is_subnormal-subnormal.ensures,
     )
 
-returns-3 : tie.Need-returns-3
+returns-3 : tie.Need-returns
 unfolding extended_operand
 returns-3 c =
     let k = c.before.before in
@@ -35,13 +35,13 @@ returns-3 c =
     let s = t.before in
     let b = ten_of s.args.b in
     let daz = s.args.c.denormals_are_zero in
-    let sub = c.before.if2.false in (
-      c.decode2.ensures ∙ operand-other daz (subnormal_extended b) (zero_of (sign_in b)) (decode_extended b) (sym t.is_subnormal.ensures ∙ sub),
-      sym sub ∙ t.is_subnormal.ensures,
+    let sub = c.if-subnormal.false in (
+      c.decode-2.ensures ∙ operand-other daz (subnormal_extended b) (zero_of (sign_in b)) (decode_extended b) (sym t.is_subnormal-subnormal.ensures ∙ sub),
+      sym sub ∙ t.is_subnormal-subnormal.ensures,
     )
 
-pub operand-spec : {M : Type 1} → statement M
-operand-spec =
+pub operand_spec : {M : Type 1} → statement M
+operand_spec =
     tie.close
     (tie.spec
     (λ c κs. search rules)

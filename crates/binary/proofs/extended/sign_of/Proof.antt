@@ -7,5 +7,5 @@ use Rattle.binary.proofs.extended.sign_of.Tie as tie
 returns : tie.Need-returns
 returns c = let s = c.before in sym (halves-sign s.args.b.head s.args.b.significand s.requires (search rules))
 
-pub sign-of-spec : {M : Type 1} → statement M
-sign-of-spec = tie.close (tie.spec returns)
+pub sign_of_spec : {M : Type 1} → statement M
+sign_of_spec = tie.close (tie.spec returns)

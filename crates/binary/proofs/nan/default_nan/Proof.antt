@@ -8,7 +8,7 @@ use Rattle.binary.proofs.nan.default_nan.Tie as tie
 
 returns : tie.Need-returns
 unfolding default_nan_of
-returns c = ap (λ b. nan b false 0) (set_is c.before.args.c.default_nan_negative)
+returns c = ap (λ b. nan b false 0) (set_is c.args.c.default_nan_negative)
 
-pub default-nan-spec : {M : Type 1} → statement M
-default-nan-spec = tie.close (tie.spec returns)
+pub default_nan_spec : {M : Type 1} → statement M
+default_nan_spec = tie.close (tie.spec returns)

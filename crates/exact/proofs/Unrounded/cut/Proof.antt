@@ -9,23 +9,23 @@ use Rattle.exact.proofs.Unrounded.cut.Statement.{statement}
 use Rattle.exact.proofs.Unrounded.cut.Tie as tie
 
 -- where the cut is at or below the position
-abbrev entry : tie.Then1 → tie.Start
+abbrev entry : tie.Then-lowest-self → tie.Start
 entry t = t.before.before
 
-up : (t : tie.Then1) → let s = entry t in let v = s.args.self in CutUp v.sticky (significand_of v) v.position s.args.lowest
-up t = let s = entry t in cut_up _ _ _ _ s.requires.1 t.if1.true s.requires.0.0 s.requires.0.1
+up : (t : tie.Then-lowest-self) → let s = entry t in let v = s.args.self in CutUp v.sticky (significand_of v) v.position s.args.lowest
+up t = let s = entry t in cut_up _ _ _ _ s.requires.1 t.if-lowest-self.true s.requires.0.0 s.requires.0.1
 
-word : (t : tie.Then1) → let v = (entry t).args.self in v.low ≡ significand_of v
+word : (t : tie.Then-lowest-self) → let v = (entry t).args.self in v.low ≡ significand_of v
 word t = omega (arith, (up t).few)
 
 -- above the position: the digits from the last dropped one up
-abbrev below : tie.After-shr → tie.Else1
+abbrev below : tie.After-shr-one → tie.Else-lowest-self
 below t = t.before.before
 
 scaled-requires : tie.Need-scaled-requires
 scaled-requires c κs = ((up c.before).near, rw (word c.before) (up c.before).fits)
 
-returns : tie.Need-returns
+returns : tie.Need-returns-then-lowest-self
 returns c =
     let t = c.before.before in
     let s = entry t in
@@ -34,7 +34,7 @@ returns c =
       ((up t).each x st).1,
     )
 
-returns-2 : tie.Need-returns-2
+returns-2 : tie.Need-returns
 returns-2 c =
     let n = c.before in
     let r = n.before.before in
@@ -46,13 +46,13 @@ returns-2 c =
     let m = significand_of v in
     let u = s.args.lowest in
     let i = u - v.position - 1 in
-    let at : v.position + (i + 1) ≡ u = omega (arith, e.if1.left) in
-    let one = k.shr.result in
+    let at : v.position + (i + 1) ≡ u = omega (arith, e.if-lowest-self.false) in
+    let one = k.shr-one.result in
     let word = cut_down m v.position (i + 1) u at s.requires.0.1 in
-    let first : one.low % 2 ≡ m / 2 ^ i % 2 = omega (arith, k.shr.ensures) in
+    let first : one.low % 2 ≡ m / 2 ^ i % 2 = omega (arith, k.shr-one.ensures) in
     λ x st. (
-      c.funnel.ensures ∙ two-word-digits m i one.low one.high k.shr.ensures word ∙ sym (stands-kept v.sticky m v.position x st (i + 1) u at),
-      n.new.ensures ∙ rw (r.either.ensures, a.any_below.ensures, first) (sym (stands-dropped v.sticky m v.position x st i u (omega (arith, at)))),
+      c.funnel.ensures ∙ two-word-digits m i one.low one.high k.shr-one.ensures word ∙ sym (stands-kept v.sticky m v.position x st (i + 1) u at),
+      n.new-d.ensures ∙ rw (r.either-rest.ensures, a.any_below.ensures, first) (sym (stands-dropped v.sticky m v.position x st i u (omega (arith, at)))),
     )
 
 pub cut_spec : {M : Type 1} → statement M

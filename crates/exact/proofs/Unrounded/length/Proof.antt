@@ -10,7 +10,7 @@ use Rattle.exact.proofs.Unrounded.length.Tie as tie
 
 returns : tie.Need-returns
 returns c =
-    let v = c.before.args.self in
+    let v = c.args.self in
     let few : significand_of v < 2 ^ 128 = digits_lt {m = 2 ^ 64} (search rules) (search rules) in
     (c.bit_length.ensures, omega (arith, c.bit_length.ensures, size-le (significand_of v) 128 few))
 
