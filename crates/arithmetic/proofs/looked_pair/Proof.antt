@@ -18,46 +18,46 @@ abbrev second : tie.Start → dec.Unpacked
 second s = dec.operand (format_of s.args.f) (settings_of s.args.c) s.args.y
 
 -- where the first is a number m × 2^k
-abbrev looked : tie.After-known-told → tie.After-operand
-looked k = k.before.before.before
+abbrev looked : tie.In-Finite → tie.After-operand-o
+looked k = k.before
 
-abbrev entry : tie.After-known-told → tie.Start
+abbrev entry : tie.In-Finite → tie.Start
 entry k = (looked k).before
 
-abbrev number : tie.After-known-told → dec.Unpacked
-number k = let n = k.before.v.given.0 in dec.finite n.0 n.1.0 n.1.1.0
+abbrev number : tie.In-Finite → dec.Unpacked
+number k = let n = k.in-Finite in dec.finite n.negative n.shift n.significand
 
-is-number : (k : tie.After-known-told) → first (entry k) ≡ number k
-is-number k = sym (looked k).operand.ensures.0 ∙ ap unpacked_of k.before.v.given.1
+is-number : (k : tie.In-Finite) → first (entry k) ≡ number k
+is-number k = sym (looked k).operand-o.ensures.0 ∙ ap unpacked_of k.in-Finite.is
 
 -- and the second
-abbrev looked₂ : tie.After-known-told2 → tie.After-operand2
-looked₂ k = k.before.before.before
+abbrev looked₂ : tie.In-Finite-w → tie.After-operand-q
+looked₂ k = k.before
 
-abbrev entry₂ : tie.After-known-told2 → tie.Start
+abbrev entry₂ : tie.In-Finite-w → tie.Start
 entry₂ k = entry (looked₂ k).before
 
-abbrev number₂ : tie.After-known-told2 → dec.Unpacked
-number₂ k = let n = k.before.w.given.0 in dec.finite n.0 n.1.0 n.1.1.0
+abbrev number₂ : tie.In-Finite-w → dec.Unpacked
+number₂ k = let n = k.in-Finite-w in dec.finite n.minus n.j n.n
 
-is-number₂ : (k : tie.After-known-told2) → second (entry₂ k) ≡ number₂ k
-is-number₂ k = sym (looked₂ k).operand2.ensures.0 ∙ ap unpacked_of k.before.w.given.1
+is-number₂ : (k : tie.In-Finite-w) → second (entry₂ k) ≡ number₂ k
+is-number₂ k = sym (looked₂ k).operand-q.ensures.0 ∙ ap unpacked_of k.in-Finite-w.is
 
-returns : tie.Need-returns
+returns : tie.Need-returns-in_default
 unfolding terms.pair_item
 returns c =
     let o = c.before.before in
-    let n = c.no-term.ensures in
-    let other = ap dec.is_finite (sym o.operand.ensures.0) ∙ other_arm o.operand.result.value c.before.match.keys2 in
+    let n = c.no_term.ensures in
+    let other = ap dec.is_finite (sym o.operand-o.ensures.0) ∙ other_arm o.operand-o.result.value c.in_default.in_default-own.keys2 in
     none_left (first o.before) (second o.before) _ other (no-magnitude _ n.0 n.1) n.2
 
-returns-2 : tie.Need-returns-2
+returns-2 : tie.Need-returns-in_default-w
 unfolding terms.pair_item
 returns-2 c =
     let o = c.before.before in
     let s = entry o.before in
-    let n = c.no-term2.ensures in
-    let other = ap dec.is_finite (sym o.operand2.ensures.0) ∙ other_arm o.operand2.result.value c.before.match2.keys2 in
+    let n = c.no_term-in_default-w.ensures in
+    let other = ap dec.is_finite (sym o.operand-q.ensures.0) ∙ other_arm o.operand-q.result.value c.in_default-w.in_default-w-own.keys2 in
     none-either (first s) (second s) _ other (no-magnitude _ n.0 n.1) n.2
 
 product-requires : tie.Need-product-requires
@@ -68,14 +68,14 @@ product-requires c κs =
     let b : Bounded (number₂ c) = operand-bounded _ s.requires _ s.args.y _ (is-number₂ c) in
     (a.0, b.0, a.1, b.1)
 
-returns-3 : tie.Need-returns-3
+returns-3 : tie.Need-returns
 unfolding terms.pair_item
 returns-3 c =
     let k = c.before in
     subst (StandsFor c.product.result) (ap₂ terms.pair_of (sym (is-number (looked₂ k).before)) (sym (is-number₂ k))) c.product.ensures
 
-pub looked-pair-spec : {M : Type 1} → statement M
-looked-pair-spec =
+pub looked_pair_spec : {M : Type 1} → statement M
+looked_pair_spec =
     tie.close
     (tie.spec
     (λ c κs. search rules)

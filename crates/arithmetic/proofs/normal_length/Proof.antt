@@ -9,7 +9,7 @@ use Rattle.arithmetic.proofs.normal_length.Tie as tie
 returns : tie.Need-returns
 returns c =
     let b = c.before.before in
-    c.bit_length.ensures ∙ rw (c.before.power.ensures.0, b.fraction-bits.ensures) (least_size (format_of b.before.args.f) b.before.requires)
+    c.bit_length.ensures ∙ rw (c.power.ensures.0, b.fraction_bits.ensures) (least_size (format_of b.args.f) b.requires)
 
-pub normal-length-spec : {M : Type 1} → statement M
-normal-length-spec = tie.close (tie.spec (λ c κs. search rules) (λ c κs. search rules) (λ c κs. search rules) (λ c. search rules) returns)
+pub normal_length_spec : {M : Type 1} → statement M
+normal_length_spec = tie.close (tie.spec (λ c κs. search rules) (λ c κs. search rules) (λ c κs. search rules) (λ c. search rules) returns)

@@ -8,19 +8,19 @@ use borrow.Author.Rules.{rules}
 use Rattle.arithmetic.proofs.operand_term.Statement.{statement}
 use Rattle.arithmetic.proofs.operand_term.Tie as tie
 
-returns : tie.Need-returns
+returns : tie.Need-returns-in_default
 returns c =
     let m = c.before in
-    let a = m.before.args in
-    let n = c.no-term.ensures in
-    (none-stands (env.summand_of a.u) (unpacked_of a.v) _ (other_arm a.v m.match.keys2) (no-magnitude _ n.0 n.1) n.2, λ _. n.1)
+    let a = m.args in
+    let n = c.no_term.ensures in
+    (none-stands (env.summand_of a.u) (unpacked_of a.v) _ (other_arm a.v m.in_default.in_default-own.keys2) (no-magnitude _ n.0 n.1) n.2, λ _. n.1)
 
-summand-term-requires : tie.Need-summand-term-requires
-summand-term-requires c κs = let v = c.before in subst (λ x. Bounded (unpacked_of x)) v.v.given.1 v.before.before.requires
+summand-term-requires : tie.Need-summand_term-requires
+summand-term-requires c κs = let v = c in subst (λ x. Bounded (unpacked_of x)) v.in-Finite.is v.requires
 
-returns-2 : tie.Need-returns-2
-returns-2 c = rw c.before.before.v.given.1 c.summand-term.ensures
+returns-2 : tie.Need-returns
+returns-2 c = rw c.in-Finite.is c.summand_term.ensures
 
-pub operand-term-spec : {M : Type 1} → statement M
-operand-term-spec =
+pub operand_term_spec : {M : Type 1} → statement M
+operand_term_spec =
     tie.close (tie.spec (λ c. search rules) (λ c κs. search rules) returns summand-term-requires returns-2)

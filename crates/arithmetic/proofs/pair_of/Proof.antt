@@ -3,20 +3,20 @@ use borrow.Author.Rules.{rules}
 use Rattle.arithmetic.proofs.pair_of.Statement.{statement}
 use Rattle.arithmetic.proofs.pair_of.Tie as tie
 
-pair-finite-requires : tie.Need-pair-finite-requires
-pair-finite-requires c κs = let v = c.before in let h = v.before.before.requires in (rw v.v2.given.1 at h.0, h.1)
+pair-finite-requires : tie.Need-pair_finite-requires
+pair-finite-requires c κs = let v = c in let h = v.requires in (rw v.in-Finite.is at h.0, h.1)
 
-returns : tie.Need-returns
-returns c = rw c.before.before.v.given.1 c.pair-zero.ensures
+returns : tie.Need-returns-in-Zero
+returns c = rw c.in-Zero.is c.pair_zero.ensures
 
-returns-2 : tie.Need-returns-2
-returns-2 c = rw c.before.before.v2.given.1 c.pair-finite.ensures
+returns-2 : tie.Need-returns-in-Finite
+returns-2 c = rw c.in-Finite.is c.pair_finite.ensures
 
-returns-3 : tie.Need-returns-3
-returns-3 c = rw c.before.before.v3.given.1 c.pair-infinity.ensures
+returns-3 : tie.Need-returns-in-Infinity
+returns-3 c = rw c.in-Infinity.is c.pair_infinity.ensures
 
-pub pair-of-spec : {M : Type 1} → statement M
-pair-of-spec =
+pub pair_of_spec : {M : Type 1} → statement M
+pair_of_spec =
     tie.close
     (tie.spec
     (λ c. search rules)

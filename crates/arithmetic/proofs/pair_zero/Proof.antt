@@ -3,14 +3,14 @@ use borrow.Author.Rules.{rules}
 use Rattle.arithmetic.proofs.pair_zero.Statement.{statement}
 use Rattle.arithmetic.proofs.pair_zero.Tie as tie
 
-returns : tie.Need-returns
-returns c = rw c.before.w.given.1
+returns : tie.Need-returns-in-Zero
+returns c = rw c.in-Zero.is
 
-returns-2 : tie.Need-returns-2
-returns-2 c = rw c.before.w2.given.1
+returns-2 : tie.Need-returns-in-Finite
+returns-2 c = rw c.in-Finite.is
 
-pub pair-zero-spec : {M : Type 1} → statement M
-pair-zero-spec =
+pub pair_zero_spec : {M : Type 1} → statement M
+pair_zero_spec =
     tie.close
     (tie.spec
     (λ c. search rules)

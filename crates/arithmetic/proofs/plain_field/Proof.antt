@@ -5,11 +5,11 @@ use borrow.Author.Tests.{not-true, not-false}
 use Rattle.arithmetic.proofs.plain_field.Statement.{statement}
 use Rattle.arithmetic.proofs.plain_field.Tie as tie
 
-returns : tie.Need-returns
-returns c = rw (sym c.before.is_plain.ensures ∙ not-true _ c.if1.true)
+returns : tie.Need-returns-then-not-is_plain
+returns c = rw (sym c.is_plain.ensures ∙ c.if-not-is_plain.true)
 
-returns-2 : tie.Need-returns-2
-returns-2 c = rw (sym c.before.before.is_plain.ensures ∙ not-false _ c.before.if1.false) c.field_of.ensures
+returns-2 : tie.Need-returns
+returns-2 c = rw (sym c.is_plain.ensures ∙ c.if-not-is_plain.false) c.field_of.ensures
 
-pub plain-field-spec : {M : Type 1} → statement M
-plain-field-spec = tie.close (tie.spec (λ c κs. search rules) returns (λ c κs. search rules) returns-2)
+pub plain_field_spec : {M : Type 1} → statement M
+plain_field_spec = tie.close (tie.spec (λ c κs. search rules) returns (λ c κs. search rules) returns-2)

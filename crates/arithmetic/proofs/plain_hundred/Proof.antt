@@ -12,28 +12,28 @@ use Rattle.arithmetic.proofs.plain_hundred.Statement.{statement}
 use Rattle.arithmetic.proofs.plain_hundred.Tie as tie
 
 -- once sign, field and significand are read: the number
-abbrev entry : tie.After-plain-significand → tie.Start
+abbrev entry : tie.After-plain_significand → tie.Start
 entry k = k.before.before.before
 
-number : (k : tie.After-plain-significand)
-    → dec.finite k.before.before.sign_of.result (k.before.field_of.result - 1) k.plain-significand.result
+number : (k : tie.After-plain_significand)
+    → dec.finite k.sign_of.result (k.field_of.result - 1) k.plain_significand.result
     ≡ plain_number (format_of (entry k).args.f) (entry k).args.b
-number k = cc (k.before.before.sign_of.ensures, k.before.field_of.ensures, k.plain-significand.ensures)
+number k = cc (k.sign_of.ensures, k.field_of.ensures, k.plain_significand.ensures)
 
 product-requires : tie.Need-product-requires
 product-requires c κs =
     let s = entry c in (
-      omega (arith, field-small (format_of s.args.f) s.args.b s.requires.0, c.before.field_of.ensures),
+      omega (arith, field-small (format_of s.args.f) s.args.b s.requires.0, c.field_of.ensures),
       omega arith,
-      rw c.plain-significand.ensures (significand-pos (format_of s.args.f) s.args.b),
+      rw c.plain_significand.ensures (significand-pos (format_of s.args.f) s.args.b),
       omega arith,
     )
 
 returns : tie.Need-returns
 returns c = subst (λ x. StandsFor c.product.result (hundred_of x)) (number c.before) c.product.ensures
 
-pub plain-hundred-spec : {M : Type 1} → statement M
-plain-hundred-spec =
+pub plain_hundred_spec : {M : Type 1} → statement M
+plain_hundred_spec =
     tie.close
     (tie.spec
     (λ c κs. search rules)

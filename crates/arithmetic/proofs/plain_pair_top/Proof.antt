@@ -8,11 +8,11 @@ use borrow.Author.Rules.{rules}
 use Rattle.arithmetic.proofs.plain_pair_top.Statement.{statement}
 use Rattle.arithmetic.proofs.plain_pair_top.Tie as tie
 
-returns-2 : tie.Need-returns-2
+returns-2 : tie.Need-returns
 returns-2 c =
-    let a = c.before.before.args in
+    let a = c.args in
     omega (arith, above-some (2 * digits (format_of a.f) + 1021) a.fields (omega arith))
 
-pub plain-pair-top-spec : {M : Type 1} → statement M
-plain-pair-top-spec =
+pub plain_pair_top_spec : {M : Type 1} → statement M
+plain_pair_top_spec =
     tie.close (tie.spec (λ c. search rules) (λ c κs. search rules) (λ c. search rules) (λ c. search rules) (λ c. search rules) returns-2)

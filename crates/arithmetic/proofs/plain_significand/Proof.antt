@@ -13,17 +13,17 @@ abbrev entry : tie.After-power → tie.Start
 entry p = p.before.before
 
 leading : (p : tie.After-power) → p.power.result ≡ 2 ^ fraction_bits (format_of (entry p).args.f)
-leading p = rw p.before.fraction-bits.ensures at p.power.ensures.0
+leading p = rw p.fraction_bits.ensures at p.power.ensures.0
 
-add-result : tie.Need-overflow-add-result
+add-result : tie.Need-overflow_add-result
 add-result c =
     let p = c.before in
-    omega (arith, fraction-le (format_of (entry p).args.f) (entry p).requires, leading p, c.fraction-of.ensures.1)
+    omega (arith, fraction-le (format_of (entry p).args.f) (entry p).requires, leading p, c.fraction_of.ensures.1)
 
 returns : tie.Need-returns
-returns c = ap₂ ◌+◌ (leading c.before) c.fraction-of.ensures.0
+returns c = ap₂ ◌+◌ (leading c.before) c.fraction_of.ensures.0
 
-pub plain-significand-spec : {M : Type 1} → statement M
-plain-significand-spec =
+pub plain_significand_spec : {M : Type 1} → statement M
+plain_significand_spec =
     tie.close
     (tie.spec (λ c κs. search rules) (λ c κs. search rules) (λ c κs. search rules) add-result returns)

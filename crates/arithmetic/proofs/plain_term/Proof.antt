@@ -13,28 +13,28 @@ use Rattle.arithmetic.proofs.plain_term.Statement.{statement}
 use Rattle.arithmetic.proofs.plain_term.Tie as tie
 
 -- once sign, field and significand are read: the number
-abbrev entry : tie.After-plain-significand → tie.Start
+abbrev entry : tie.After-plain_significand → tie.Start
 entry k = k.before.before.before
 
-number : (k : tie.After-plain-significand)
-    → dec.finite k.before.before.sign_of.result (k.before.field_of.result - 1) k.plain-significand.result
+number : (k : tie.After-plain_significand)
+    → dec.finite k.sign_of.result (k.field_of.result - 1) k.plain_significand.result
     ≡ plain_number (format_of (entry k).args.f) (entry k).args.b
-number k = cc (k.before.before.sign_of.ensures, k.before.field_of.ensures, k.plain-significand.ensures)
+number k = cc (k.sign_of.ensures, k.field_of.ensures, k.plain_significand.ensures)
 
-summand-term-requires : tie.Need-summand-term-requires
+summand-term-requires : tie.Need-summand_term-requires
 summand-term-requires c κs =
     let s = entry c in (
-      omega (arith, field-small (format_of s.args.f) s.args.b s.requires.0, c.before.field_of.ensures),
-      rw c.plain-significand.ensures (significand-pos (format_of s.args.f) s.args.b),
+      omega (arith, field-small (format_of s.args.f) s.args.b s.requires.0, c.field_of.ensures),
+      rw c.plain_significand.ensures (significand-pos (format_of s.args.f) s.args.b),
     )
 
 returns : tie.Need-returns
 returns c =
-    let r = c.summand-term in
+    let r = c.summand_term in
     (subst (λ x. StandsFor r.result (terms.item_of (env.summand_of (entry c.before).args.u) x)) (number c.before) r.ensures.0, r.ensures.1)
 
-pub plain-term-spec : {M : Type 1} → statement M
-plain-term-spec =
+pub plain_term_spec : {M : Type 1} → statement M
+plain_term_spec =
     tie.close
     (tie.spec
     (λ c κs. search rules)

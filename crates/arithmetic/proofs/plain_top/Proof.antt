@@ -8,22 +8,22 @@ use borrow.Author.Rules.{rules}
 use Rattle.arithmetic.proofs.plain_top.Statement.{statement}
 use Rattle.arithmetic.proofs.plain_top.Tie as tie
 
-returns : tie.Need-returns
-returns c = rw (square-of c.before.before.args.u c.before.if1.true) c.plain-pair-top.ensures
+returns : tie.Need-returns-then-u-ge2
+returns c = rw (square-of c.args.u c.if-u-ge2.true) c.plain_pair_top.ensures
 
-returns-2 : tie.Need-returns-2
+returns-2 : tie.Need-returns-then-field-eq0
 returns-2 c =
-    let a = c.before.before.args in
-    rw (single-top (format_of a.f) a.u a.field c.before.if1.false, c.if2.true)
+    let a = c.args in
+    rw (single-top (format_of a.f) a.u a.field c.if-u-ge2.false, c.if-field-eq0.true)
 
-returns-3 : tie.Need-returns-3
+returns-3 : tie.Need-returns
 returns-3 c =
     let e = c.before.before in
-    let a = e.before.args in
-    rw (single-top (format_of a.f) a.u a.field e.if1.false) (omega (arith, above-some (digits (format_of a.f) + 1022) a.field (omega arith)))
+    let a = e.args in
+    rw (single-top (format_of a.f) a.u a.field e.if-u-ge2.false) (omega (arith, above-some (digits (format_of a.f) + 1022) a.field (omega arith)))
 
-pub plain-top-spec : {M : Type 1} → statement M
-plain-top-spec =
+pub plain_top_spec : {M : Type 1} → statement M
+plain_top_spec =
     tie.close
     (tie.spec
     (λ c. search rules)

@@ -15,7 +15,7 @@ unfolding magnitude terms.product
 returns c =
     let s = c.before in
     let units = s.args.k + s.args.j + 1024 in
-    (ap (λ (x : ℕ). x * 2 ^ units) c.widening-mul.ensures, refl, omega arith, mul-pos (mul-pos s.requires.2 s.requires.3) (pow_pos units))
+    (ap (λ (x : ℕ). x * 2 ^ units) c.widening_mul-p.ensures, refl, omega arith, mul-pos (mul-pos s.requires.2 s.requires.3) (pow_pos units))
 
-pub product-spec : {M : Type 1} → statement M
-product-spec = tie.close (tie.spec (λ c κs. search rules) (λ c. search rules) (λ c. search rules) returns)
+pub product_spec : {M : Type 1} → statement M
+product_spec = tie.close (tie.spec (λ c κs. search rules) (λ c. search rules) (λ c. search rules) returns)

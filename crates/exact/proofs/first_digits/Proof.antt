@@ -30,7 +30,7 @@ returns c =
     let s = k.before in
     let r = t.rounds_up-up in
     rounded-to s.requires k.cut-first.ensures r.ensures t.is_inexact-inexact.ensures (kept k) (s.args.end - s.args.q)
-    (least k) (most k) (omega arith) (omega arith) (rw (not-true r.result c.if-not-up.true) (omega arith))
+    (least k) (most k) (omega arith) (omega arith) (rw (c.if-not-up.true) (omega arith))
 
 returns-2 : tie.Need-returns-then-first-ones
 returns-2 c =
@@ -42,7 +42,7 @@ returns-2 c =
     let r = t.rounds_up-up in
     rounded-to s.requires k.cut-first.ensures r.ensures t.is_inexact-inexact.ensures (kept k + 1) (s.args.end - s.args.q)
     (omega (arith, least k)) (omega (arith, c.if-first-ones.true, n.ones.ensures)) (omega arith) (omega arith)
-    (rw (not-false r.result u.if-not-up.false))
+    (rw (u.if-not-up.false))
 
 returns-3 : tie.Need-returns
 returns-3 c =
@@ -58,7 +58,7 @@ returns-3 c =
     rw c.power.ensures.0
     (rounded-to s.requires k.cut-first.ensures r.ensures t.is_inexact-inexact.ensures (2 ^ (q - 1)) (low + 1)
     (le_refl _) (pow-lt (omega arith)) (omega arith) (omega arith)
-    (rw (not-false r.result u.if-not-up.false) (carried (kept k) q low s.requires.least (most k) full)))
+    (rw (u.if-not-up.false) (carried (kept k) q low s.requires.least (most k) full)))
 
 pub first_digits_spec : {M : Type 1} → statement M
 first_digits_spec =

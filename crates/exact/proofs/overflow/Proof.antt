@@ -31,7 +31,7 @@ abbrev entry : tie.Else-not-overflows_to_infinity → tie.Start
 entry t = (most (asked t)).before
 
 goes : (t : tie.Else-not-overflows_to_infinity) → let s = entry t in to_infinity (rounding_of (env s).rounding) s.args.negative ≡ true
-goes t = sym t.overflows_to_infinity.ensures ∙ not-false _ t.if-not-overflows_to_infinity.false
+goes t = sym t.overflows_to_infinity.ensures ∙ t.if-not-overflows_to_infinity.false
 
 -- where the kind has no infinity
 abbrev beyond : tie.After-struct_known-3-1 → tie.Else-not-overflows_to_infinity
@@ -53,7 +53,7 @@ returns-2 c =
     let m = most c.before.before in
     let s = m.before in
     let l = m.largest in
-    let not = sym o.ensures ∙ not-true o.result c.if-not-overflows_to_infinity.true in (
+    let not = sym o.ensures ∙ c.if-not-overflows_to_infinity.true in (
       overflow-most (form s) (env s) s.args.q s.args.negative (unpacked_of l.result) l.ensures.0 not,
       l.ensures.1,
       search rules,

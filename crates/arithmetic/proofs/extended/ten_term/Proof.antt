@@ -6,12 +6,12 @@ use borrow.Author.Rules.{rules}
 use Rattle.arithmetic.proofs.extended.ten_term.Statement.{statement}
 use Rattle.arithmetic.proofs.extended.ten_term.Tie as tie
 
-operand-term-requires : tie.Need-operand-term-requires
-operand-term-requires c κs = extended-bounded _ _ _ (sym c.operand.ensures.0)
+operand-term-requires : tie.Need-operand_term-requires
+operand-term-requires c κs = extended-bounded _ _ _ (sym c.operand-o.ensures.0)
 
 returns : tie.Need-returns
 unfolding extended_item
-returns c = rw c.before.operand.ensures.0 at c.operand-term.ensures.0
+returns c = rw c.operand-o.ensures.0 at c.operand_term.ensures.0
 
-pub ten-term-spec : {M : Type 1} → statement M
-ten-term-spec = tie.close (tie.spec (λ c κs. search rules) operand-term-requires returns)
+pub ten_term_spec : {M : Type 1} → statement M
+ten_term_spec = tie.close (tie.spec (λ c κs. search rules) operand-term-requires returns)
