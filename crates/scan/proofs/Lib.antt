@@ -5,6 +5,3 @@ pub mod Tens
 pub mod Updates
 pub mod Special
 mod Leaves
-pub mod Record
-pub mod Lent
-pub mod Signed

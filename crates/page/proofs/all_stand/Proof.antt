@@ -13,46 +13,46 @@ use Rattle.page.proofs.Numbers.{one_more}
 use Rattle.page.proofs.all_stand.Statement.{statement}
 use Rattle.page.proofs.all_stand.Tie as tie
 
-abbrev invariant-loop : tie.invariant-loop
+abbrev invariant-loop : tie.invariant-loop-g
 invariant-loop page n groups g₀ g = (g ≤ groups) × AllStand n page g
 
-abbrev decreases-loop : tie.decreases-loop
+abbrev decreases-loop : tie.decreases-loop-g
 decreases-loop page n groups g₀ g = groups - g
 
-loop-holds : tie.Need-loop-init invariant-loop decreases-loop
+loop-holds : tie.Need-loop-g-init invariant-loop decreases-loop
 loop-holds c = (search rules, λ g h. absurd (not-suc-le-zero h))
 
 stands-requires : tie.Need-stands-requires invariant-loop decreases-loop
 stands-requires c κs =
-    let p = c.before.before.before.requires in
-    let t = c.loop-test.true in
+    let p = c.requires in
+    let t = c.loop-g-test.true in
     (omega (arith, t, p.1), p.0, omega (arith, t, p.2))
 
-returns : tie.Need-returns invariant-loop decreases-loop
+returns : tie.Need-returns-then-not-stands invariant-loop decreases-loop
 returns c =
     let t = c.before in
-    let fails = not-true t.stands.result c.if1.true in (
+    let fails = c.if-not-stands.true in (
       λ e. absurd (subst T (sym e) tt),
-      λ all. sym fails ∙ t.stands.ensures.1 (all t.before.before.loop.g t.before.loop-test.true),
+      λ all. sym fails ∙ t.stands.ensures.1 (all t.loop-g.g t.loop-g-test.true),
     )
 
-add-g : tie.Need-overflow-add-g invariant-loop decreases-loop
+add-g : tie.Need-overflow_add-g invariant-loop decreases-loop
 add-g c = search rules
 
-loop-less : tie.Need-loop-smaller invariant-loop decreases-loop
+loop-less : tie.Need-loop-g-smaller invariant-loop decreases-loop
 loop-less c = search rules
 
-loop-again : tie.Need-loop-preserved invariant-loop decreases-loop
+loop-again : tie.Need-loop-g-preserved invariant-loop decreases-loop
 loop-again c =
     let t = c.before in
     let h = t.before.before in
-    let a = h.before.before.args in (
-      add-one-le t.before.loop-test.true,
-      one_more (Stands a.n a.page.now) h.loop.g h.loop.invariant.1 (t.stands.ensures.0 (not-false t.stands.result c.if1.false)),
+    let a = h.args in (
+      add-one-le t.loop-g-test.true,
+      one_more (Stands a.n a.page.now) h.loop-g.g h.loop-g.invariant.1 (t.stands.ensures.0 (c.if-not-stands.false)),
     )
 
-returns-2 : tie.Need-returns-2 invariant-loop decreases-loop
-returns-2 c = (λ _ k h. c.before.loop.invariant.1 k (omega (arith, h, c.loop-test.false)), λ _. refl)
+returns-2 : tie.Need-returns invariant-loop decreases-loop
+returns-2 c = (λ _ k h. c.loop-g.invariant.1 k (omega (arith, h, c.loop-g-test.false)), λ _. refl)
 
-pub all-stand-spec : {M : Type 1} → statement M
-all-stand-spec = tie.close (tie.spec invariant-loop decreases-loop loop-holds stands-requires returns add-g loop-less loop-again returns-2)
+pub all_stand_spec : {M : Type 1} → statement M
+all_stand_spec = tie.close (tie.spec invariant-loop decreases-loop loop-holds stands-requires returns add-g loop-less loop-again returns-2)

@@ -8,5 +8,5 @@ returns : tie.Need-returns
 unfolding binary64
 returns c = refl
 
-pub binary64-spec : {M : Type 1} → statement M
-binary64-spec = tie.close (tie.spec returns)
+pub binary64_spec : {M : Type 1} → statement M
+binary64_spec = tie.close (tie.spec returns)

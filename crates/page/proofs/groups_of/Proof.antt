@@ -8,5 +8,5 @@ returns : tie.Need-returns
 unfolding ceil_div
 returns c = search rules
 
-pub groups-of-spec : {M : Type 1} → statement M
-groups-of-spec = tie.close (tie.spec (λ c. search rules) returns)
+pub groups_of_spec : {M : Type 1} → statement M
+groups_of_spec = tie.close (tie.spec (λ c. search rules) returns)

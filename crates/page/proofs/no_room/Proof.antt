@@ -11,30 +11,30 @@ use Rattle.page.proofs.Opening.{trailer-most}
 use Rattle.page.proofs.no_room.Statement.{statement}
 use Rattle.page.proofs.no_room.Tie as tie
 
-returns : tie.Need-returns
+returns : tie.Need-returns-then-room-n
 unfolding page_length ceil_div
-returns c = let a = c.before.args in sym (lt-ltb a.room (page_length a.n) (omega (arith, c.if1.true)))
+returns c = let a = c.args in sym (lt-ltb a.room (page_length a.n) (omega (arith, c.if-room-n.true)))
 
-mul-result : tie.Need-overflow-mul-result
+mul-result : tie.Need-overflow_mul-result
 unfolding ceil_div
 mul-result c = omega (arith, c.groups_of.ensures)
 
-add-result : tie.Need-overflow-add-result
+add-result : tie.Need-overflow_add-result
 unfolding ceil_div
 add-result c =
     let g = c.before in
-    omega (arith, g.groups_of.ensures, c.trailer-length.ensures, trailer-most g.before.before.args.n)
+    omega (arith, g.groups_of.ensures, c.trailer_length.ensures, trailer-most g.args.n)
 
-returns-2 : tie.Need-returns-2
+returns-2 : tie.Need-returns
 unfolding page_length ceil_div
 returns-2 c =
-    let a = c.before.before.before.args in
-    let g = c.before.groups_of in
-    let t = c.trailer-length in
+    let a = c.args in
+    let g = c.groups_of in
+    let t = c.trailer_length in
     same_test (a.room - 8 * a.n) (12 * g.result + t.result) a.room (page_length a.n)
     (λ h. omega (arith, h, g.ensures, t.ensures)) (λ h. omega (arith, h, g.ensures, t.ensures))
 
-pub no-room-spec : {M : Type 1} → statement M
-no-room-spec =
+pub no_room_spec : {M : Type 1} → statement M
+no_room_spec =
     tie.close
     (tie.spec returns (λ c. search rules) (λ c. search rules) (λ c κs. search rules) mul-result (λ c κs. search rules) add-result returns-2)

@@ -16,51 +16,51 @@ use Rattle.page.proofs.Numbers.{bounds64}
 use Rattle.page.proofs.noted.Statement.{statement}
 use Rattle.page.proofs.noted.Tie as tie
 
-abbrev start : tie.After-operand → tie.Start
+abbrev start : tie.After-operand-o → tie.Start
 start o = o.before.before.before
 
-operand-requires : tie.Need-operand-requires
-operand-requires c κs = rw c.before.binary64.ensures bounds64
+operand-requires : tie.Need-operand-o-requires
+operand-requires c κs = rw c.binary64.ensures bounds64
 
-item-of-requires : tie.Need-item-of-requires
+item-of-requires : tie.Need-item_of-requires
 item-of-requires c κs =
     operand-bounded binary64 bounds64 no_settings (start c).args.x _
-    (sym (rw (c.before.before.binary64.ensures, c.before.no-settings.ensures) at c.operand.ensures.0))
+    (sym (rw (c.binary64.ensures, c.no_settings.ensures) at c.operand-o.ensures.0))
 
 -- the value's item
-item-is : (t : tie.After-item-of) → t.item_of.result ≡ item_of (item binary64 no_settings value (start t.before).args.x)
+item-is : (t : tie.After-item_of) → t.item_of.result ≡ item_of (item binary64 no_settings value (start t.before).args.x)
 unfolding item
 item-is t =
     let o = t.before in
-    t.item_of.ensures ∙ rw (o.operand.ensures.0, o.before.before.binary64.ensures, o.before.no-settings.ensures)
+    t.item_of.ensures ∙ rw (o.operand-o.ensures.0, o.binary64.ensures, o.no_settings.ensures)
 
-set : (t : tie.After-item-of) (i : Item) → t.item_of.result ≡ i
+set : (t : tie.After-item_of) (i : Item) → t.item_of.result ≡ i
     → also i (start t.before).args.s ≡ both (start t.before).args.s (seen_of ((start t.before).args.x ∷ []))
 set t i e =
     let a = (start t.before).args in
     ap (λ (i : Item). also i a.s) (sym e ∙ item-is t) ∙ also-is (item binary64 no_settings value a.x) a.s
 
-returns : tie.Need-returns
-returns c = set c.before.before _ c.enum_told.given.1
+returns : tie.Need-returns-in-Nan
+returns c = set c.before _ c.in-Nan.is
 
-returns-2 : tie.Need-returns-2
-returns-2 c = set c.before.before _ c.enum-told2.given.1
+returns-2 : tie.Need-returns-in-Invalid
+returns-2 c = set c.before _ c.in-Invalid.is
 
-returns-3 : tie.Need-returns-3
-returns-3 c = set c.before.before _ c.enum-told3.given.1
+returns-3 : tie.Need-returns-in-Infinite
+returns-3 c = set c.before _ c.in-Infinite.is
 
-returns-4 : tie.Need-returns-4
-returns-4 c = set c.before.before _ c.enum-told4.given.1
+returns-4 : tie.Need-returns-in-Zero
+returns-4 c = set c.before _ c.in-Zero.is
 
-returns-5 : tie.Need-returns-5
+returns-5 : tie.Need-returns-in-Top
 returns-5 c =
-    let t = c.before.before in
-    let m = t.before.before in
+    let t = c.before in
+    let m = t.before in
     let s = (start m.before).args.s in
-    ap (λ (n : ℕ). record { top = n; nan = s.nan; infinite = s.infinite; zero = s.zero }) c.larger.ensures ∙ set m _ t.at.given.1
+    ap (λ (n : ℕ). record { top = n; nan = s.nan; infinite = s.infinite; zero = s.zero }) c.larger.ensures ∙ set m _ t.in-Top.is
 
-pub noted-spec : {M : Type 1} → statement M
-noted-spec =
+pub noted_spec : {M : Type 1} → statement M
+noted_spec =
     tie.close
     (tie.spec
     (λ c κs. search rules)

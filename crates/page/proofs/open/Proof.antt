@@ -17,82 +17,82 @@ use Rattle.page.proofs.open.Statement.{statement}
 use Rattle.page.proofs.open.Tie as tie
 
 -- the page, and the number that its trailer tells
-abbrev told : tie.After-known-told → tie.After-counted
-told k = k.before.before.before
+abbrev told : tie.In-Count → tie.After-counted
+told k = k.before
 
-abbrev page : tie.After-known-told → List ℕ
-page k = let b = (told k).before in b.before.args.page.now
+abbrev page : tie.In-Count → List ℕ
+page k = let b = (told k).before in b.args.page.now
 
-abbrev n : tie.After-known-told → ℕ
-n k = k.before.n.given.0.0
+abbrev n : tie.In-Count → ℕ
+n k = k.in-Count.n
 
-trails : (k : tie.After-known-told) → Trails (page k) (n k)
-trails k = subst (Counts (Trails (page k))) k.before.n.given.1 (told k).counted.ensures
+trails : (k : tie.In-Count) → Trails (page k) (n k)
+trails k = subst (Counts (Trails (page k))) k.in-Count.is (told k).counted.ensures
 
-count : (k : tie.After-known-told) → count_in (page k) ≡ n k
+count : (k : tie.In-Count) → count_in (page k) ≡ n k
 count k = trailer-count (n k) (page k) (trails k).0 (trails k).1
 
 -- of a page that opens
-parts : (k : tie.After-known-told) → opens (page k) ≡ true → Parts (n k) (page k)
+parts : (k : tie.In-Count) → opens (page k) ≡ true → Parts (n k) (page k)
 parts k o = subst (λ (m : ℕ). Parts m (page k)) (count k) (open-parts (page k) o)
 
-groups-few : (g : tie.After-groups-of) → g.groups_of.result ≤ 4194304
+groups-few : (g : tie.After-groups_of-groups) → g.groups_of-groups.result ≤ 4194304
 unfolding ceil_div
-groups-few g = omega (arith, (trails g.before).0, g.groups_of.ensures)
+groups-few g = omega (arith, (trails g.before).0, g.groups_of-groups.ensures)
 
-groups-of-requires : tie.Need-groups-of-requires
+groups-of-requires : tie.Need-groups_of-groups-requires
 groups-of-requires c κs = omega (arith, (trails c).0)
 
-mul-if1 : tie.Need-overflow-mul-if1
+mul-if1 : tie.Need-overflow_mul-n
 mul-if1 c = record { fits = omega (arith, (trails c.before).0) }
 
-mul-if1-2 : tie.Need-overflow-mul-if1-2
+mul-if1-2 : tie.Need-overflow_mul-groups
 mul-if1-2 c = record { fits = omega (arith, groups-few c) }
 
-add-if1 : tie.Need-overflow-add-if1
+add-if1 : tie.Need-overflow_add-n
 add-if1 c = record { fits = omega (arith, (trails c.before).0, groups-few c) }
 
-add-if1-2 : tie.Need-overflow-add-if1-2
+add-if1-2 : tie.Need-overflow_add-n-in-Count
 add-if1-2 c =
     let g = c.before in
-    record { fits = omega (arith, (trails g.before).0, groups-few g, c.trailer-length.ensures, trailer-most (n g.before)) }
+    record { fits = omega (arith, (trails g.before).0, groups-few g, c.trailer_length.ensures, trailer-most (n g.before)) }
 
-returns : tie.Need-returns
+returns : tie.Need-returns-then-page-n
 unfolding page_length
 returns c =
     let t = c.before in
     let g = t.before in
     let k = g.before in
-    not-open (page k) (λ o. c.if1.true (omega (arith, (parts k o).long, g.groups_of.ensures, t.trailer-length.ensures)))
+    not-open (page k) (λ o. c.if-page-n.true (omega (arith, (parts k o).long, g.groups_of-groups.ensures, t.trailer_length.ensures)))
 
-all-stand-requires : tie.Need-all-stand-requires
+all-stand-requires : tie.Need-all_stand-requires
 unfolding ceil_div
 all-stand-requires c κs =
     let t = c.before in
     let g = t.before in
     let k = g.before in (
       (trails k).0,
-      omega (arith, g.groups_of.ensures),
-      omega (arith, c.if1.false, t.trailer-length.ensures, trailer-least (n k)),
+      omega (arith, g.groups_of-groups.ensures),
+      omega (arith, c.if-page-n.false, t.trailer_length.ensures, trailer-least (n k)),
     )
 
-returns-2 : tie.Need-returns-2
+returns-2 : tie.Need-returns-then-not-all_stand
 returns-2 c =
     let b = c.before in
     let g = b.before.before.before in
     let k = g.before in
     not-open (page k) (λ o.
-    let told = b.all-stand.ensures.1 (λ i h. (parts k o).stands i (subst (λ (m : ℕ). i < m) g.groups_of.ensures h)) in
-    subst T (sym told ∙ not-true b.all-stand.result c.if2.true) tt)
+    let told = b.all_stand.ensures.1 (λ i h. (parts k o).stands i (subst (λ (m : ℕ). i < m) g.groups_of-groups.ensures h)) in
+    subst T (sym told ∙ c.if-not-all_stand.true) tt)
 
-returns-3 : tie.Need-returns-3
+returns-3 : tie.Need-returns-in-Nothing
 returns-3 c =
-    let r = c.before.before in
-    let p = r.before.before.args.page.now in
-    let none = subst (Counts (Trails p)) c.enum_told.given.1 r.counted.ensures in
+    let r = c.before in
+    let p = r.args.page.now in
+    let none = subst (Counts (Trails p)) c.in-Nothing.is r.counted.ensures in
     not-open p (λ o. none (count_in p) ((open-parts p o).few, open-trails p o))
 
-returns-4 : tie.Need-returns-4
+returns-4 : tie.Need-returns-else-not-all_stand
 unfolding page_length
 returns-4 c =
     let b = c.before in
@@ -103,11 +103,11 @@ returns-4 c =
     let p = page k in
     let d : Parts (n k) p = record {
       few = (trails k).0;
-      long = omega (arith, e.if1.false, g.groups_of.ensures, t.trailer-length.ensures);
+      long = omega (arith, e.if-page-n.false, g.groups_of-groups.ensures, t.trailer_length.ensures);
       trails = (trails k).1;
-      stands = λ i h. b.all-stand.ensures.0 (not-false b.all-stand.result c.if2.false) i (subst (λ (m : ℕ). i < m) (sym g.groups_of.ensures) h);
+      stands = λ i h. b.all_stand.ensures.0 (c.if-not-all_stand.false) i (subst (λ (m : ℕ). i < m) (sym g.groups_of-groups.ensures) h);
     } in
-    let bytes : AllBytes p = λ i. omega (arith, (told k).before.shared-slice-known.given i) in
+    let bytes : AllBytes p = λ i. omega (arith, (told k).shared_slice_known-1.given i) in
     (parts-open p bytes (subst (λ (m : ℕ). Parts m p) (sym (count k)) d), sym (count k))
 
 pub open_spec : {M : Type 1} → statement M

@@ -4,5 +4,5 @@ use Rattle.page.proofs.Opening.{short-length, long-length}
 use Rattle.page.proofs.trailer_length.Statement.{statement}
 use Rattle.page.proofs.trailer_length.Tie as tie
 
-pub trailer-length-spec : {M : Type 1} → statement M
-trailer-length-spec = tie.close (tie.spec (λ c. sym (long-length _ c.if1.true)) (λ c. sym (short-length _ c.if1.false)))
+pub trailer_length_spec : {M : Type 1} → statement M
+trailer_length_spec = tie.close (tie.spec (λ c. sym (long-length _ c.if-n-gt-SHORT_MOST.true)) (λ c. sym (short-length _ c.if-n-gt-SHORT_MOST.false)))

@@ -7,29 +7,29 @@ use Rattle.scan.proofs.nan_decides.Statement.{statement}
 use Rattle.scan.proofs.nan_decides.Tie as tie
 
 -- where there is a NaN
-abbrev entry : tie.Else1 → tie.Start
+abbrev entry : tie.Else-not-n → tie.Start
 entry k = k.before.before.before
 
-some : (k : tie.Else1) → (entry k).args.s.nan.some ≡ true
-some k = not-false _ k.if1.false
+some : (k : tie.Else-not-n) → (entry k).args.s.nan.some ≡ true
+some k = not-false _ k.if-not-n.false
 
-returns : tie.Need-returns
-returns c = let s = c.before.before.before.args in no_nan s.infinity_first s.s (not-true _ c.if1.true)
+returns : tie.Need-returns-then-not-n
+returns c = let s = c.args in no_nan s.infinity_first s.s (not-true _ c.if-not-n.true)
 
-returns-2 : tie.Need-returns-2
-returns-2 c = let s = (entry c.before).args in nan-alone s.infinity_first s.s (some c.before) (not-true _ c.if2.true)
+returns-2 : tie.Need-returns-then-not-infinity_first
+returns-2 c = let s = (entry c.before).args in nan-alone s.infinity_first s.s (some c.before) (c.if-not-infinity_first.true)
 
-returns-3 : tie.Need-returns-3
+returns-3 : tie.Need-returns-then-s
 returns-3 c =
     let k = c.before.before in
     let s = (entry k).args in
-    nan-signals s.infinity_first s.s (some k) (not-false _ c.before.if2.false) c.if3.true
+    nan-signals s.infinity_first s.s (some k) (c.if-not-infinity_first.false) c.if-s.true
 
-returns-4 : tie.Need-returns-4
+returns-4 : tie.Need-returns
 returns-4 c =
     let e = c.before.before in
     let s = (entry e.before).args in
-    nan-quiet s.infinity_first s.s (some e.before) (not-false _ e.if2.false) c.before.if3.false
+    nan-quiet s.infinity_first s.s (some e.before) (e.if-not-infinity_first.false) c.if-s.false
 
-pub nan-decides-spec : {M : Type 1} → statement M
-nan-decides-spec = tie.close (tie.spec returns returns-2 returns-3 returns-4)
+pub nan_decides_spec : {M : Type 1} → statement M
+nan_decides_spec = tie.close (tie.spec returns returns-2 returns-3 returns-4)

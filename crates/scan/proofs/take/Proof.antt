@@ -20,11 +20,11 @@ env s = settings_of s.args.c
 abbrev u : tie.Start → Summand
 u s = summand_of s.args.u
 
-item-of-requires : tie.Need-item-of-requires
+item-of-requires : tie.Need-item_of-requires
 item-of-requires c κs =
     let o = c.before in
     let s = o.before in
-    operand-bounded (form s) s.requires (env s) s.args.b _ (sym o.operand.ensures.0)
+    operand-bounded (form s) s.requires (env s) s.args.b _ (sym o.operand-o.ensures.0)
 
 returns : tie.Need-returns
 unfolding terms.item
@@ -32,9 +32,9 @@ returns c =
     let r = c.before.before in
     let o = r.before in
     let s = o.before in
-    let e = o.operand.ensures in
-    list-taken (form s) (env s) (u s) s.args.b s.args.s r.read.result _
-    (rw (e.0, e.1) at r.read.ensures) (c.item.ensures ∙ rw (c.before.item_of.ensures, e.0))
+    let e = o.operand-o.ensures in
+    list-taken (form s) (env s) (u s) s.args.b s.args.s r.read-t.result _
+    (rw (e.0, e.1) at r.read-t.ensures) (c.item.ensures ∙ rw (c.item_of.ensures, e.0))
 
 pub take_spec : {M : Type 1} → statement M
 take_spec = tie.close (tie.spec (λ c κs. search rules) (λ c κs. search rules) item-of-requires (λ c κs. search rules) returns)

@@ -17,12 +17,12 @@ form s = format_of s.args.f
 abbrev env : tie.Start → Settings
 env s = settings_of s.args.c
 
-pair-of-requires : tie.Need-pair-of-requires
+pair-of-requires : tie.Need-pair_of-requires
 pair-of-requires c κs =
     let o = c.before.before in
     let s = o.before.before in (
-      operand-bounded (form s) s.requires (env s) s.args.x _ (sym o.before.operand.ensures.0),
-      operand-bounded (form s) s.requires (env s) s.args.y _ (sym o.operand2.ensures.0),
+      operand-bounded (form s) s.requires (env s) s.args.x _ (sym o.operand-a.ensures.0),
+      operand-bounded (form s) s.requires (env s) s.args.y _ (sym o.operand-b.ensures.0),
     )
 
 returns : tie.Need-returns
@@ -32,14 +32,14 @@ returns c =
     let t = q.before in
     let o = t.before in
     let s = o.before.before in
-    let v = o.before.operand.ensures in
-    let w = o.operand2.ensures in
-    pair-taken (form s) (env s) s.args.x s.args.y s.args.s t.read.result q.read2.result _
-    (rw (v.0, v.1) at t.read.ensures) (rw (w.0, w.1) at q.read2.ensures)
-    (c.item.ensures ∙ rw (c.before.pair_of.ensures, v.0, w.0))
+    let v = o.operand-a.ensures in
+    let w = o.operand-b.ensures in
+    pair-taken (form s) (env s) s.args.x s.args.y s.args.s t.read-t.result q.read-r.result _
+    (rw (v.0, v.1) at t.read-t.ensures) (rw (w.0, w.1) at q.read-r.ensures)
+    (c.item.ensures ∙ rw (c.pair_of.ensures, v.0, w.0))
 
-pub take-pair-spec : {M : Type 1} → statement M
-take-pair-spec =
+pub take_pair_spec : {M : Type 1} → statement M
+take_pair_spec =
     tie.close
     (tie.spec
     (λ c κs. search rules)

@@ -8,14 +8,14 @@ use borrow.Author.Rules.{rules}
 use Rattle.window.proofs.multiple.Statement.{statement}
 use Rattle.window.proofs.multiple.Tie as tie
 
-returns : tie.Need-returns
+returns : tie.Need-returns-then-up
 returns c =
     let s = c.before.before.before in
-    rw (c.before.if1.true, c.increment.ensures, c.before.before.shr.ensures)
+    rw (c.if-up.true, c.increment.ensures, c.shr-kept.ensures)
     (one_more (value s.args.magnitude) s.args.rest s.requires (value-lt (words 12 s.args.magnitude _ s.well_formed.0)))
 
-returns-2 : tie.Need-returns-2
-returns-2 c = rw c.if1.false (c.before.shr.ensures ∙ sym (add-zero _))
+returns-2 : tie.Need-returns
+returns-2 c = rw c.if-up.false (c.shr-kept.ensures ∙ sym (add-zero _))
 
-pub multiple-spec : {M : Type 1} → statement M
-multiple-spec = tie.close (tie.spec (λ c κs. search rules) (λ c κs. search rules) returns returns-2)
+pub multiple_spec : {M : Type 1} → statement M
+multiple_spec = tie.close (tie.spec (λ c κs. search rules) (λ c κs. search rules) returns returns-2)

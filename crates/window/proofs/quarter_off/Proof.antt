@@ -12,5 +12,5 @@ returns c =
     let w = s.args.w in
     record { sign = refl; sticky = refl; position = refl; is = two-words w (words 12 w _ s.well_formed.1.0).fit s.requires.1 }
 
-pub quarter-off-spec : {M : Type 1} → statement M
-quarter-off-spec = tie.close (tie.spec (λ c. search rules) (λ c. search rules) (λ c. search rules) returns)
+pub quarter_off_spec : {M : Type 1} → statement M
+quarter_off_spec = tie.close (tie.spec (λ c. search rules) (λ c. search rules) (λ c. search rules) returns)

@@ -3,13 +3,13 @@ use borrow.Author.Rules.{rules}
 use Rattle.window.proofs.set_boundary.Statement.{statement}
 use Rattle.window.proofs.set_boundary.Tie as tie
 
-add-t7 : tie.Need-overflow-add-t7
+add-t7 : tie.Need-overflow_add-result
 add-t7 c = search rules
 
-sub-t8 : tie.Need-overflow-sub-t8
+sub-t8 : tie.Need-overflow_sub-result
 sub-t8 c = search rules
 
-add-t9 : tie.Need-overflow-add-t9
+add-t9 : tie.Need-overflow_add-result-2
 add-t9 c = search rules
 
 multiple-requires : tie.Need-multiple-requires
@@ -18,5 +18,5 @@ multiple-requires c κs = search rules
 returns : tie.Need-returns
 returns c = search rules
 
-pub set-boundary-spec : {M : Type 1} → statement M
-set-boundary-spec = tie.close (tie.spec add-t7 sub-t8 add-t9 multiple-requires returns)
+pub set_boundary_spec : {M : Type 1} → statement M
+set_boundary_spec = tie.close (tie.spec add-t7 sub-t8 add-t9 multiple-requires returns)

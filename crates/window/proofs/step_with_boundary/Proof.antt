@@ -5,27 +5,27 @@ use borrow.Author.Rules.{rules}
 use Rattle.window.proofs.step_with_boundary.Statement.{statement}
 use Rattle.window.proofs.step_with_boundary.Tie as tie
 
-returns : tie.Need-returns
+returns : tie.Need-returns-then-lost-eq0
 returns c =
     let s = c.before.before in
     let a = s.args in
-    λ p. on-follows p a.c a.s a.n a.lost _ s.requires.1 s.requires.2 c.before.if1.true c.done-beside.ensures
+    λ p. on-follows p a.c a.s a.n a.lost _ s.requires.1 s.requires.2 c.if-lost-eq0.true c.done_beside.ensures
 
-returns-2 : tie.Need-returns-2
+returns-2 : tie.Need-returns-then-n-lt66
 returns-2 c =
     let e = c.before.before in
     let s = e.before in
     let a = s.args in
-    λ p. again-follows p a.c a.s a.n a.lost _ s.requires.1 s.requires.2 e.if1.false (omega arith) c.go_on.ensures
+    λ p. again-follows p a.c a.s a.n a.lost _ s.requires.1 s.requires.2 e.if-lost-eq0.false (omega arith) c.go_on.ensures
 
-returns-3 : tie.Need-returns-3
+returns-3 : tie.Need-returns
 returns-3 c =
     let s = c.before.before.before in
     let a = s.args in
-    λ p. beside-follows p a.c a.s a.n a.lost _ s.requires.1 s.requires.2 (omega arith) c.done-beside2.ensures
+    λ p. beside-follows p a.c a.s a.n a.lost _ s.requires.1 s.requires.2 (omega arith) c.done_beside-2.ensures
 
-pub step-with-boundary-spec : {M : Type 1} → statement M
-step-with-boundary-spec =
+pub step_with_boundary_spec : {M : Type 1} → statement M
+step_with_boundary_spec =
     tie.close
     (tie.spec
     (λ c κs. search rules)

@@ -80,7 +80,7 @@ stands t =
     (sym (tens-at (settings_of a.c) (summand_of a.u) (left e) (right e) (alike e) (eqb a.u 3) (head t).loop.i (rw (long e) k)))
     (rw (tens-first a.count a.left.now _ e.requires.0 k, tens-first a.count a.right.now _ e.requires.1 k) at t.term-at.ensures)
 
-turn : (k : Cut) → Turn (head (taken k)).loop.inv (taken k).term-at.result k.before.window-part.result k.larger.result
+turn : (k : Cut) → Turn (head (taken k)).loop.invariant (taken k).term-at.result k.before.window-part.result k.larger.result
 turn k = record {
   inside = (taken k).before.loop-test.taken;
   stands = stands (taken k);

@@ -50,7 +50,7 @@ here e =
     let a = s.args in
     e.element.ensures ∙ element-is a.source a.words.now a.bytes.now _ _ e.before.if1.true (straight-place s.requires.2 (head e).loop.i)
 
-turn : (k : Cut) → Turn (head (taken k)).loop.inv k.before.before.hundred-term.result k.before.window-part.result k.larger.result
+turn : (k : Cut) → Turn (head (taken k)).loop.invariant k.before.before.hundred-term.result k.before.window-part.result k.larger.result
 turn k = record {
   inside = (taken k).before.if1.taken;
   stands = element-stands _ _ _ (taken k).before.if1.taken (here (taken k)) _ _ k.before.before.hundred-term.ensures;

@@ -45,7 +45,7 @@ entry h = let e = h.before.before in e.before.before.before.before
 place : (k : Cut) → let s = (entry (head k)).args.source in (head k).loop.i ≡ s.start + (head k).loop.i * s.step
 place k = straight-place (entry (head k)).requires.3 (head k).loop.i
 
-turn : (k : Cut) → Turn (head k).loop.inv k.before.before.pair-term.result k.before.window-part.result k.larger.result
+turn : (k : Cut) → Turn (head k).loop.invariant k.before.before.pair-term.result k.before.window-part.result k.larger.result
 turn k = record {
   inside = (taken k).before.before.if1.taken;
   stands =

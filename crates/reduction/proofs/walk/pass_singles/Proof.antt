@@ -79,7 +79,7 @@ less : (t : tie.After-element-term invariant-loop decreases-loop) → let s = (e
     end - ((head t).loop.place + s.step) < end - (head t).loop.place
 less t = let s = entry (head t) in end-nearer s.args.source s.requires.1 t.before.before.loop-test.true
 
-turn : (k : Cut) → Turn (head (made k)).loop.inv.so_far (made k).element-term.result k.before.window-part.result k.larger.result
+turn : (k : Cut) → Turn (head (made k)).loop.invariant.so_far (made k).element-term.result k.before.window-part.result k.larger.result
 turn k = record {
   inside = inside (made k);
   stands = element-stands _ _ _ (inside (made k)) (here (made k)) _ _ (made k).element-term.ensures.0;

@@ -6,12 +6,12 @@ use borrow.Author.Rules.{rules}
 use Rattle.scan.proofs.Scan.new.Statement.{statement}
 use Rattle.scan.proofs.Scan.new.Tie as tie
 
-none-requires : tie.Need-none-requires
+none-requires : tie.Need-none-n-requires
 none-requires c κs = search rules
 
 returns : tie.Need-returns
 returns c =
-    let none = ap (λ (n : Nan). n.some) c.none.ensures in
+    let none = ap (λ (n : Nan). n.some) c.none-n.ensures in
     (λ f s u. gathered_none _ none f s, λ f s. gathered_none _ none f s)
 
 pub new_spec : {M : Type 1} → statement M

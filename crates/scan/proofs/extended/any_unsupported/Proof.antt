@@ -13,47 +13,47 @@ use Rattle.totals_spec.proofs.Walk.{none-next, none-all, first_some}
 use Rattle.scan.proofs.extended.any_unsupported.Statement.{statement}
 use Rattle.scan.proofs.extended.any_unsupported.Tie as tie
 
-abbrev invariant-loop : tie.invariant-loop
+abbrev invariant-loop : tie.invariant-loop-i
 invariant-loop values n i₀ i = (i ≤ n) × (any unsupported (take i (tens_in values)) ≡ false)
 
-abbrev decreases-loop : tie.decreases-loop
+abbrev decreases-loop : tie.decreases-loop-i
 decreases-loop values n i₀ i = n - i
 
 -- once the value i is tested
 abbrev Tested : Type 0
-Tested = tie.After-is-unsupported invariant-loop decreases-loop
+Tested = tie.After-is_unsupported invariant-loop decreases-loop
 
-abbrev head : Tested → tie.At-loop invariant-loop decreases-loop
+abbrev head : Tested → tie.At-loop-i invariant-loop decreases-loop
 head t = t.before.before.before
 
-abbrev entry : tie.At-loop invariant-loop decreases-loop → tie.Start invariant-loop decreases-loop
+abbrev entry : tie.At-loop-i invariant-loop decreases-loop → tie.Start invariant-loop decreases-loop
 entry h = h.before.before
 
-there : (t : Tested) → (head t).loop.i < length (tens_in (entry (head t)).args.values.now)
+there : (t : Tested) → (head t).loop-i.i < length (tens_in (entry (head t)).args.values.now)
 there t = omega (arith, (tens-values (entry (head t)).args.values.now).0)
 
-here : (t : Tested) → t.is-unsupported.result ≡ unsupported (get_or (tens_in (entry (head t)).args.values.now) (head t).loop.i 0)
-here t = t.is-unsupported.ensures ∙ ap unsupported t.before.ten-at.ensures.0
+here : (t : Tested) → t.is_unsupported.result ≡ unsupported (get_or (tens_in (entry (head t)).args.values.now) (head t).loop-i.i 0)
+here t = t.is_unsupported.ensures ∙ ap unsupported t.ten_at.ensures.0
 
-returns : tie.Need-returns invariant-loop decreases-loop
+returns : tie.Need-returns-then-is_unsupported invariant-loop decreases-loop
 returns c =
     let t = c.before in
-    sym (first_some unsupported _ (head t).loop.i 0 (there t) (head t).loop.invariant.1 (sym (here t) ∙ c.if1.true))
+    sym (first_some unsupported _ (head t).loop-i.i 0 (there t) (head t).loop-i.invariant.1 (sym (here t) ∙ c.if-is_unsupported.true))
 
-loop-again : tie.Need-loop-preserved invariant-loop decreases-loop
+loop-again : tie.Need-loop-i-preserved invariant-loop decreases-loop
 loop-again c =
     let t = c.before in (
-      add-one-le t.before.before.loop-test.true,
-      none-next unsupported _ (head t).loop.i 0 _ (there t) refl (head t).loop.invariant.1 (sym (here t) ∙ c.if1.false),
+      add-one-le t.loop-i-test.true,
+      none-next unsupported _ (head t).loop-i.i 0 _ (there t) refl (head t).loop-i.invariant.1 (sym (here t) ∙ c.if-is_unsupported.false),
     )
 
-returns-2 : tie.Need-returns-2 invariant-loop decreases-loop
+returns-2 : tie.Need-returns invariant-loop decreases-loop
 returns-2 c =
     let h = c.before in
-    sym (none-all unsupported _ h.loop.i (omega (arith, (tens-values (entry h).args.values.now).0)) h.loop.invariant.1)
+    sym (none-all unsupported _ h.loop-i.i (omega (arith, (tens-values (entry h).args.values.now).0)) h.loop-i.invariant.1)
 
-pub any-unsupported-spec : {M : Type 1} → statement M
-any-unsupported-spec =
+pub any_unsupported_spec : {M : Type 1} → statement M
+any_unsupported_spec =
     tie.close
     (tie.spec
     invariant-loop

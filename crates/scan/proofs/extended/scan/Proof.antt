@@ -16,11 +16,11 @@ use Rattle.scan.proofs.Tens.{SoFar, tens-start, tens-next, tens-done}
 use Rattle.scan.proofs.extended.scan.Statement.{statement}
 use Rattle.scan.proofs.extended.scan.Tie as tie
 
-abbrev invariant-loop : tie.invariant-loop
+abbrev invariant-loop : tie.invariant-loop-i
 invariant-loop c u count left right s₀ i₀ s i =
     (i ≤ count) × SoFar (settings_of c) (summand_of u) (wide_from 10 count left) (wide_from 10 count right) (eqb u 3) i s
 
-abbrev decreases-loop : tie.decreases-loop
+abbrev decreases-loop : tie.decreases-loop-i
 decreases-loop c u count left right s₀ i₀ s i = count - i
 
 -- at the entry: the two lists
@@ -39,24 +39,24 @@ long e = wide-length 10 e.args.count e.args.left.now
 alike : (e : Entry) → length (right e) ≡ length (left e)
 alike e = wide-length 10 e.args.count e.args.right.now ∙ sym (long e)
 
-abbrev entry : tie.At-loop invariant-loop decreases-loop → Entry
+abbrev entry : tie.At-loop-i invariant-loop decreases-loop → Entry
 entry h = let n = h.before in n.before.before.before
 
-loop-holds : tie.Need-loop-init invariant-loop decreases-loop
+loop-holds : tie.Need-loop-i-init invariant-loop decreases-loop
 loop-holds c =
     let e = c.before.before.before in
     let a = e.args in
-    (search rules, tens-start (settings_of a.c) (summand_of a.u) (left e) (right e) (eqb a.u 3) _ c.new.ensures)
+    (search rules, tens-start (settings_of a.c) (summand_of a.u) (left e) (right e) (eqb a.u 3) _ c.new-s.ensures)
 
-loop-again : tie.Need-loop-preserved invariant-loop decreases-loop
+loop-again : tie.Need-loop-i-preserved invariant-loop decreases-loop
 loop-again c =
     let h = c.before.before in
     let e = entry h in
     let a = e.args in
-    let k = c.before.loop-test.true in (
+    let k = c.loop-i-test.true in (
       add-one-le k,
-      tens-next (settings_of a.c) (summand_of a.u) (left e) (right e) (alike e) (eqb a.u 3) _ _ _ (rw (long e) k) h.loop.invariant.1
-          (rw (tens-first a.count a.left.now _ e.requires.0 k, tens-first a.count a.right.now _ e.requires.1 k) at c.take_at.ensures),
+      tens-next (settings_of a.c) (summand_of a.u) (left e) (right e) (alike e) (eqb a.u 3) _ _ _ (rw (long e) k) h.loop-i.invariant.1
+          (rw (tens-first a.count a.left.now _ e.requires.0 k, tens-first a.count a.right.now _ e.requires.1 k) at c.take_at-s.ensures),
     )
 
 returns : tie.Need-returns invariant-loop decreases-loop
@@ -64,10 +64,10 @@ returns c =
     let h = c.before in
     let e = entry h in
     let a = e.args in
-    tens-done (settings_of a.c) (summand_of a.u) (left e) (right e) (alike e) (eqb a.u 3) h.loop.i _ (omega (arith, long e)) h.loop.invariant.1
+    tens-done (settings_of a.c) (summand_of a.u) (left e) (right e) (alike e) (eqb a.u 3) h.loop-i.i _ (omega (arith, long e)) h.loop-i.invariant.1
 
-pub scan-spec : {M : Type 1} → statement M
-scan-spec =
+pub scan_spec : {M : Type 1} → statement M
+scan_spec =
     tie.close
     (tie.spec
     invariant-loop

@@ -13,24 +13,24 @@ use Rattle.scan.proofs.extended.take_at.Statement.{statement}
 use Rattle.scan.proofs.extended.take_at.Tie as tie
 
 -- what is to be shown, of a pair or of one value
-abbrev Is : tie.After-ten-at → Scan → Bool → Type 0
+abbrev Is : tie.After-ten_at-x → Scan → Bool → Type 0
 Is x r b =
-    let a = x.before.before.before.args in
+    let a = x.args in
     TakesTens b (settings_of a.c) (summand_of a.u) (get_or (tens_in a.left.now) a.i 0) (get_or (tens_in a.right.now) a.i 0) a.s r
 
-returns : tie.Need-returns
+returns : tie.Need-returns-then-u-eq3
 returns c =
     let y = c.before in
     let x = y.before.before in
-    subst (Is x c.take-pair.result) (sym (eq-eqb _ 3 y.before.if1.true))
-    (rw (x.ten-at.ensures.0, y.ten-at2.ensures.0) at c.take-pair.ensures)
+    subst (Is x c.take_pair.result) (sym (eq-eqb _ 3 y.if-u-eq3.true))
+    (rw (x.ten_at-x.ensures.0, y.ten_at.ensures.0) at c.take_pair.ensures)
 
-returns-2 : tie.Need-returns-2
+returns-2 : tie.Need-returns
 returns-2 c =
     let x = c.before.before in
-    subst (Is x c.take.result) (sym (ne_eqb _ 3 c.before.if1.false)) (rw x.ten-at.ensures.0 at c.take.ensures)
+    subst (Is x c.take.result) (sym (ne_eqb _ 3 c.if-u-eq3.false)) (rw x.ten_at-x.ensures.0 at c.take.ensures)
 
-pub take-at-spec : {M : Type 1} → statement M
-take-at-spec =
+pub take_at_spec : {M : Type 1} → statement M
+take_at_spec =
     tie.close
     (tie.spec (λ c κs. search rules) (λ c κs. search rules) (λ c κs. search rules) returns (λ c κs. search rules) returns-2)

@@ -9,10 +9,10 @@ use borrow.Author.Rules.{rules}
 use Rattle.scan.proofs.extended.take_pair.Statement.{statement}
 use Rattle.scan.proofs.extended.take_pair.Tie as tie
 
-pair-of-requires : tie.Need-pair-of-requires
+pair-of-requires : tie.Need-pair_of-requires
 pair-of-requires c κs =
     let o = c.before.before in
-    (extended-bounded _ _ _ (sym o.before.operand.ensures.0), extended-bounded _ _ _ (sym o.operand2.ensures.0))
+    (extended-bounded _ _ _ (sym o.operand-a.ensures.0), extended-bounded _ _ _ (sym o.operand-b.ensures.0))
 
 returns : tie.Need-returns
 unfolding extended_pair
@@ -20,14 +20,14 @@ returns c =
     let q = c.before.before in
     let t = q.before in
     let o = t.before in
-    let a = o.before.before.args in
-    let v = o.before.operand.ensures in
-    let w = o.operand2.ensures in
-    ten-pair-taken (settings_of a.c) (ten_of a.x) (ten_of a.y) a.s t.read.result q.read2.result _
-    (rw (v.0, v.1) at t.read.ensures) (rw (w.0, w.1) at q.read2.ensures) (c.item.ensures ∙ rw (c.before.pair_of.ensures, v.0, w.0))
+    let a = o.args in
+    let v = o.operand-a.ensures in
+    let w = o.operand-b.ensures in
+    ten-pair-taken (settings_of a.c) (ten_of a.x) (ten_of a.y) a.s t.read-t.result q.read-r.result _
+    (rw (v.0, v.1) at t.read-t.ensures) (rw (w.0, w.1) at q.read-r.ensures) (c.item.ensures ∙ rw (c.pair_of.ensures, v.0, w.0))
 
-pub take-pair-spec : {M : Type 1} → statement M
-take-pair-spec =
+pub take_pair_spec : {M : Type 1} → statement M
+take_pair_spec =
     tie.close
     (tie.spec
     (λ c κs. search rules)

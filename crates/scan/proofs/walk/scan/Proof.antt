@@ -33,17 +33,17 @@ known s w e =
     let a = s.args in
     subst (λ (v : Bool). Known v (form s) × TensThere v a.k.source a.left_bytes.now a.right_bytes.now) e s.requires.0
 
-abbrev entry : tie.After-struct-known → tie.Start
+abbrev entry : tie.After-struct_known-1 → tie.Start
 entry k = let s = k.before.before.before in s.before.before.before
 
 -- of kind 4
-ten : (t : tie.Then1) → wide (form (entry t.before)) ≡ true
-ten t = lt-ltb 64 _ t.if1.true
+ten : (t : tie.Then-f-gt64) → wide (form (entry t.before)) ≡ true
+ten t = lt-ltb 64 _ t.if-f-gt64.true
 
 scan-requires : tie.Need-scan-requires
 scan-requires c κs = (known (entry c.before) true (ten c)).1
 
-returns : tie.Need-returns
+returns : tie.Need-returns-then-f-gt64
 returns c =
     let t = c.before in
     let s = entry t.before in
@@ -51,30 +51,30 @@ returns c =
     by s r true _ (ten t) refl (subst (Is s r true (is_dot s.args.k)) (sym (known s true (ten t)).0) c.scan.ensures)
 
 -- of another
-abbrev begun : tie.After-struct-known2 → tie.Start
+abbrev begun : tie.After-struct_known-2-1 → tie.Start
 begun k = entry k.before.before
 
-word : (k : tie.After-struct-known2) → wide (form (begun k)) ≡ false
-word k = le-ltb 64 _ k.before.if1.false
+word : (k : tie.After-struct_known-2-1) → wide (form (begun k)) ≡ false
+word k = le-ltb 64 _ k.if-f-gt64.false
 
 -- pairs stand side by side
-scan-pairs-requires : tie.Need-scan-pairs-requires
+scan-pairs-requires : tie.Need-scan_pairs-requires
 scan-pairs-requires c κs =
     let s = begun c.before in
-    ((known s false (word c.before)).0, s.requires.1.0, s.requires.1.1, s.requires.1.2 (omega (arith, c.if2.true)))
+    ((known s false (word c.before)).0, s.requires.1.0, s.requires.1.1, s.requires.1.2 (omega (arith, c.if-k-eq3.true)))
 
-returns-2 : tie.Need-returns-2
+returns-2 : tie.Need-returns-then-k-eq3
 returns-2 c =
     let t = c.before in
-    by (begun t.before) _ false true (word t.before) (eq-eqb _ 3 t.if2.true) c.scan-pairs.ensures
+    by (begun t.before) _ false true (word t.before) (eq-eqb _ 3 t.if-k-eq3.true) c.scan_pairs.ensures
 
-scan-list-requires : tie.Need-scan-list-requires
+scan-list-requires : tie.Need-scan_list-requires
 scan-list-requires c κs = let s = begun c.before in ((known s false (word c.before)).0, s.requires.1.0)
 
-returns-3 : tie.Need-returns-3
+returns-3 : tie.Need-returns
 returns-3 c =
     let t = c.before in
-    by (begun t.before) _ false false (word t.before) (ne_eqb _ 3 t.if2.false) c.scan-list.ensures
+    by (begun t.before) _ false false (word t.before) (ne_eqb _ 3 t.if-k-eq3.false) c.scan_list.ensures
 
-pub scan-spec : {M : Type 1} → statement M
-scan-spec = tie.close (tie.spec scan-requires returns scan-pairs-requires returns-2 scan-list-requires returns-3)
+pub scan_spec : {M : Type 1} → statement M
+scan_spec = tie.close (tie.spec scan-requires returns scan-pairs-requires returns-2 scan-list-requires returns-3)

@@ -36,13 +36,13 @@ returns c =
     let a = (entry h).args in
     let l = h.loop in
     let bad = sym t.digit.ensures ∙ c.if1.true in
-    ap line_of (sym (so-far-bad a.input.now a.at l.i l.x (omega arith) (omega arith) l.inv.1 bad))
+    ap line_of (sym (so-far-bad a.input.now a.at l.i l.x (omega arith) (omega arith) l.invariant.1 bad))
 
 mul-x : tie.Need-overflow-mul-x invariant-loop decreases-loop
 mul-x c =
     let t = c.before in
     let l = (head t).loop in
-    omega (arith, room l.i l.x (turn t).loop-test.true l.inv.1.small)
+    omega (arith, room l.i l.x (turn t).loop-test.true l.invariant.1.small)
 
 add-x : tie.Need-overflow-add-x invariant-loop decreases-loop
 add-x c =
@@ -51,7 +51,7 @@ add-x c =
     let a = (entry h).args in
     let l = h.loop in
     let small = digit-small (get_or a.input.now (a.at + l.i) 0) t.digit.result t.digit.ensures c.if1.false in
-    omega (arith, room l.i l.x (turn t).loop-test.true l.inv.1.small, small)
+    omega (arith, room l.i l.x (turn t).loop-test.true l.invariant.1.small, small)
 
 loop-again : tie.Need-loop-preserved invariant-loop decreases-loop
 loop-again c =
@@ -59,7 +59,7 @@ loop-again c =
     let a = (entry h).args in
     let l = h.loop in
     let d = c.before.digit in
-    (search rules, so-far-next a.input.now a.at l.i l.x (omega arith) (omega arith) l.inv.1 d.result d.ensures c.if1.false)
+    (search rules, so-far-next a.input.now a.at l.i l.x (omega arith) (omega arith) l.invariant.1 d.result d.ensures c.if1.false)
 
 returns-2 : tie.Need-returns-2 invariant-loop decreases-loop
 returns-2 c =

@@ -40,7 +40,7 @@ returns-2 c =
     let a = (entry h).args in
     let l = h.loop in
     let e = sym t.line_at_lem.ensures ∙ c.enum_told.given.1 in
-    ended-bad a.input.now a.values.now l.values l.n l.at l.inv (omega arith) (omega arith) (told-bad _ e)
+    ended-bad a.input.now a.values.now l.values l.n l.at l.invariant (omega arith) (omega arith) (told-bad _ e)
 
 loop-again : tie.Need-loop-preserved invariant-loop decreases-loop
 loop-again c =
@@ -49,7 +49,7 @@ loop-again c =
     let a = (entry h).args in
     let l = h.loop in
     let e = sym t.line_at_lem.ensures ∙ c.before.line.given.1 in
-    rw (add-one l.n) (filled_more a.input.now a.values.now l.values l.n l.at l.inv (omega arith) (omega arith) _ (told-value _ _ e))
+    rw (add-one l.n) (filled_more a.input.now a.values.now l.values l.n l.at l.invariant (omega arith) (omega arith) _ (told-value _ _ e))
 
 returns-3 : tie.Need-returns-3 invariant-loop decreases-loop
 returns-3 c =
