@@ -190,7 +190,7 @@ running-end {l} {w = w} {i = i} {lost = lost} {q = q} h e =
 -- ---- what a call of `add_word` gives: a `Sum`, whose word fits, and what the contract says of it
 
 abbrev Owned : Sum → Type 0
-Owned r = shadow ((row the_type).own r (val the_type the_laws r ∷ []))
+Owned r = shadow ((row the_type).own_val r (val the_type the_laws r ∷ []))
 
 fits : (r : Sum) → Owned r → r.word < 2 ^ 64
 fits r h = omega arith

@@ -21,11 +21,11 @@ use Rattle.reduction.proofs.Tens.{tens-at}
 use Rattle.reduction.proofs.extended.pass.Statement.{statement}
 use Rattle.reduction.proofs.extended.pass.Tie as tie
 
-abbrev invariant-loop : tie.invariant-loop
+abbrev invariant-loop : tie.invariant-loop-i
 invariant-loop c u count left right w total₀ lost₀ i₀ total lost i =
     Running (tens_items (eqb u 3) (settings_of c) (summand_of u) (wide_from 10 count left) (wide_from 10 count right)) count w i total lost
 
-abbrev decreases-loop : tie.decreases-loop
+abbrev decreases-loop : tie.decreases-loop-i
 decreases-loop c u count left right w total₀ lost₀ i₀ total lost i = count - i
 
 -- ---- at the entry: the two lists, and their items
@@ -54,70 +54,70 @@ many e = let a = e.args in tens-length (settings_of a.c) (summand_of a.u) (left 
 -- ---- the places of a turn: its term is taken and cut, its words are settled and added
 
 abbrev Cut : Type 0
-Cut = tie.After-larger invariant-loop decreases-loop
+Cut = tie.After-larger-lost invariant-loop decreases-loop
 
-abbrev taken : Cut → tie.After-term-at invariant-loop decreases-loop
+abbrev taken : Cut → tie.After-term_at-t invariant-loop decreases-loop
 taken k = k.before.before
 
-abbrev head : tie.After-term-at invariant-loop decreases-loop → tie.At-loop invariant-loop decreases-loop
+abbrev head : tie.After-term_at-t invariant-loop decreases-loop → tie.At-loop-i invariant-loop decreases-loop
 head t = t.before.before
 
-abbrev cut : tie.After-settle invariant-loop decreases-loop → Cut
+abbrev cut : tie.After-settle-q invariant-loop decreases-loop → Cut
 cut q = q.before.before.before
 
-abbrev settled : tie.After-goes-on invariant-loop decreases-loop → tie.After-settle invariant-loop decreases-loop
+abbrev settled : tie.After-goes_on invariant-loop decreases-loop → tie.After-settle-q invariant-loop decreases-loop
 settled g = let x = g.before.before.before in x.before.before.before
 
-abbrev entry : tie.At-loop invariant-loop decreases-loop → Entry
+abbrev entry : tie.At-loop-i invariant-loop decreases-loop → Entry
 entry h = let s = h.before in s.before.before.before
 
-stands : (t : tie.After-term-at invariant-loop decreases-loop) → StandsFor t.term-at.result (get_or (items (entry (head t))) (head t).loop.i nan_item)
+stands : (t : tie.After-term_at-t invariant-loop decreases-loop) → StandsFor t.term_at-t.result (get_or (items (entry (head t))) (head t).loop-i.i nan_item)
 stands t =
     let e = entry (head t) in
     let a = e.args in
-    let k = t.before.loop-test.true in
-    subst (StandsFor t.term-at.result)
-    (sym (tens-at (settings_of a.c) (summand_of a.u) (left e) (right e) (alike e) (eqb a.u 3) (head t).loop.i (rw (long e) k)))
-    (rw (tens-first a.count a.left.now _ e.requires.0 k, tens-first a.count a.right.now _ e.requires.1 k) at t.term-at.ensures)
+    let k = t.loop-i-test.true in
+    subst (StandsFor t.term_at-t.result)
+    (sym (tens-at (settings_of a.c) (summand_of a.u) (left e) (right e) (alike e) (eqb a.u 3) (head t).loop-i.i (rw (long e) k)))
+    (rw (tens-first a.count a.left.now _ e.requires.0 k, tens-first a.count a.right.now _ e.requires.1 k) at t.term_at-t.ensures)
 
-turn : (k : Cut) → Turn (head (taken k)).loop.invariant (taken k).term-at.result k.before.window-part.result k.larger.result
+turn : (k : Cut) → Turn (head (taken k)).loop-i.invariant (taken k).term_at-t.result k.window_part-p.result k.larger-lost.result
 turn k = record {
-  inside = (taken k).before.loop-test.taken;
+  inside = (taken k).loop-i-test.true;
   stands = stands (taken k);
-  part = k.before.window-part.ensures;
-  larger = k.larger.ensures;
+  part = k.window_part-p.ensures;
+  larger = k.larger-lost.ensures;
 }
 
 -- ---- the needs
 
-loop-holds : tie.Need-loop-init invariant-loop decreases-loop
-loop-holds c = running-start (many c.before.before.before) c.start.ensures
+loop-holds : tie.Need-loop-i-init invariant-loop decreases-loop
+loop-holds c = running-start (many c.before.before.before) c.start-total.ensures
 
-window-part-requires : tie.Need-window-part-requires invariant-loop decreases-loop
-window-part-requires c κs = cuttable _ (get_or (items (entry (head c))) (head c).loop.i nan_item) (stands c)
+window-part-requires : tie.Need-window_part-p-requires invariant-loop decreases-loop
+window-part-requires c κs = cuttable _ (get_or (items (entry (head c))) (head c).loop-i.i nan_item) (stands c)
 
-loop-again : tie.Need-loop-preserved invariant-loop decreases-loop
-loop-again c = turn-none (turn c.before.before) c.if1.true
+loop-again : tie.Need-loop-i-preserved-then-not-p invariant-loop decreases-loop
+loop-again c = turn-none (turn c.before.before) c.if-not-p.true
 
-loop-again-2 : tie.Need-loop-preserved-2 invariant-loop decreases-loop
+loop-again-2 : tie.Need-loop-i-preserved-then-not-q invariant-loop decreases-loop
 loop-again-2 c =
     let q = c.before.before in
-    turn-past (turn (cut q)) q.settle.ensures c.if2.true
+    turn-past (turn (cut q)) q.settle-q.ensures c.if-not-q.true
 
-loop-again-3 : tie.Need-loop-preserved-3 invariant-loop decreases-loop
-loop-again-3 c = turn_moved (turn (cut (settled c.before.before))) (words 12 _ _ c.move-term.type-inv) c.move-term.ensures
+loop-again-3 : tie.Need-loop-i-preserved-then-goes_on invariant-loop decreases-loop
+loop-again-3 c = turn_moved (turn (cut (settled c.before.before))) (words 12 _ _ c.move_term-next.type_inv) c.move_term-next.ensures
 
-loop-again-4 : tie.Need-loop-preserved-4 invariant-loop decreases-loop
+loop-again-4 : tie.Need-loop-i-preserved invariant-loop decreases-loop
 loop-again-4 c =
     let g = c.before in
-    let x = g.before.before.before.add-word in
-    let y = g.before.before.add-word2 in
-    let z = g.before.add-word3 in
-    turn_three (turn (cut (settled g))) (x.type-inv, x.ensures) (y.type-inv, y.ensures) (z.type-inv, z.ensures) (settled g).settle.ensures g.goes_on.ensures
-    c.if3.false
+    let x = g.add_word-x in
+    let y = g.add_word-y in
+    let z = g.add_word-z in
+    turn_three (turn (cut (settled g))) (x.type_inv, x.ensures) (y.type_inv, y.ensures) (z.type_inv, z.ensures) (settled g).settle-q.ensures g.goes_on.ensures
+    c.if-goes_on.false
 
 returns : tie.Need-returns invariant-loop decreases-loop
-returns c = let h = c.before.before in running-end h.loop.invariant c.before.loop-test.false c.finished.ensures
+returns c = let h = c.before.before in running-end h.loop-i.invariant c.loop-i-test.false c.finished.ensures
 
 pub pass_spec : {M : Type 1} → statement M
 pass_spec =

@@ -14,25 +14,25 @@ use Rattle.reduction.proofs.extended.term_at.Statement.{statement}
 use Rattle.reduction.proofs.extended.term_at.Tie as tie
 
 -- what is to be shown, of a pair or of one value
-abbrev Is : tie.After-ten-at → Term → Bool → Type 0
+abbrev Is : tie.After-ten_at-x → Term → Bool → Type 0
 Is x t b =
-    let a = x.before.before.before.args in
+    let a = x.args in
     StandsFor t (tens_item b (settings_of a.c) (summand_of a.u) (get_or (tens_in a.left.now) a.i 0) (get_or (tens_in a.right.now) a.i 0))
 
-returns : tie.Need-returns
+returns : tie.Need-returns-then-u-eq3
 returns c =
     let y = c.before in
     let x = y.before.before in
-    subst (Is x c.ten-pair.result) (sym (eq-eqb _ 3 y.before.if1.true))
-    (rw (x.ten-at.ensures.0, y.ten-at2.ensures.0) at c.ten-pair.ensures)
+    subst (Is x c.ten_pair.result) (sym (eq-eqb _ 3 y.if-u-eq3.true))
+    (rw (x.ten_at-x.ensures.0, y.ten_at.ensures.0) at c.ten_pair.ensures)
 
-returns-2 : tie.Need-returns-2
+returns-2 : tie.Need-returns
 returns-2 c =
     let x = c.before.before in
-    subst (Is x c.ten-term.result) (sym (ne_eqb _ 3 c.before.if1.false)) (rw x.ten-at.ensures.0 at c.ten-term.ensures)
+    subst (Is x c.ten_term.result) (sym (ne_eqb _ 3 c.if-u-eq3.false)) (rw x.ten_at-x.ensures.0 at c.ten_term.ensures)
 
-pub term-at-spec : {M : Type 1} → statement M
-term-at-spec =
+pub term_at_spec : {M : Type 1} → statement M
+term_at_spec =
     tie.close
     (tie.spec
     (λ c κs. search rules)

@@ -8,7 +8,7 @@ use Rattle.reduction.proofs.pass.finished.Statement.{statement}
 use Rattle.reduction.proofs.pass.finished.Tie as tie
 
 returns : tie.Need-returns
-returns c = (c.sub.ensures ∙ ap (λ (l : List ℕ). minus (value c.before.before.args.total) (value l)) c.before.start.ensures, refl)
+returns c = (c.sub-t.ensures ∙ ap (λ (l : List ℕ). minus (value c.args.total) (value l)) c.start.ensures, refl)
 
-pub finished-spec : {M : Type 1} → statement M
-finished-spec = tie.close (tie.spec (λ c κs. search rules) (λ c κs. search rules) returns)
+pub finished_spec : {M : Type 1} → statement M
+finished_spec = tie.close (tie.spec (λ c κs. search rules) (λ c κs. search rules) returns)

@@ -7,17 +7,17 @@ use Rattle.reduction.proofs.Gather.{hundred-stands}
 use Rattle.reduction.proofs.pass.hundred_term.Statement.{statement}
 use Rattle.reduction.proofs.pass.hundred_term.Tie as tie
 
-plain-hundred-requires : tie.Need-plain-hundred-requires
+plain-hundred-requires : tie.Need-plain_hundred-requires
 plain-hundred-requires c κs =
     let s = c.before.before in
-    (s.requires, (plainly (format_of s.args.f) s.args.x (sym c.before.is_plain.ensures ∙ c.if1.true)).some)
+    (s.requires, (plainly (format_of s.args.f) s.args.x (sym c.is_plain.ensures ∙ c.if-is_plain.true)).some)
 
-returns : tie.Need-returns
+returns : tie.Need-returns-then-is_plain
 returns c =
     let p = c.before.before in
-    let a = p.before.args in
-    hundred-stands (format_of a.f) (settings_of a.c) a.x _ (sym p.is_plain.ensures ∙ c.before.if1.true) c.plain-hundred.ensures
+    let a = p.args in
+    hundred-stands (format_of a.f) (settings_of a.c) a.x _ (sym p.is_plain.ensures ∙ c.if-is_plain.true) c.plain_hundred.ensures
 
-pub hundred-term-spec : {M : Type 1} → statement M
-hundred-term-spec =
-    tie.close (tie.spec (λ c κs. search rules) plain-hundred-requires returns (λ c κs. search rules) (λ c. c.looked-hundred.ensures))
+pub hundred_term_spec : {M : Type 1} → statement M
+hundred_term_spec =
+    tie.close (tie.spec (λ c κs. search rules) plain-hundred-requires returns (λ c κs. search rules) (λ c. c.looked_hundred.ensures))

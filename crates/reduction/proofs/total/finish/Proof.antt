@@ -34,17 +34,17 @@ env s = settings_of s.args.c
 abbrev total : tie.Start → Signed
 total s = on_grid (form s) s.args.products (settled (outcome_of s.args.e))
 
-abbrev entry : tie.After-round-sum → tie.Start
+abbrev entry : tie.After-round_sum-r → tie.Start
 entry t = t.before.before.before
 
 range : (s : tie.Start) → RangeBounds (form s)
 range s = known-range (form s) (wide (form s)) s.requires.0
 
-rounded : (t : tie.After-round-sum) → let s = entry t in RoundedSum (form s) (env s) (grid (form s) s.args.products) (total s) t.round-sum.result
+rounded : (t : tie.After-round_sum-r) → let s = entry t in RoundedSum (form s) (env s) (grid (form s) s.args.products) (total s) t.round_sum-r.result
 rounded t =
     let u = t.before in
     let s = entry t in
-    moved _ u.before.grid.ensures.0 u.rise.ensures.0 (t.round-sum.ensures (digits (form s)) (settled (outcome_of s.args.e)) s.requires.3)
+    moved _ u.grid.ensures.0 u.rise.ensures.0 (t.round_sum-r.ensures (digits (form s)) (settled (outcome_of s.args.e)) s.requires.3)
 
 grid-requires : tie.Need-grid-requires
 grid-requires c κs = range c
@@ -52,7 +52,7 @@ grid-requires c κs = range c
 rise-requires : tie.Need-rise-requires
 rise-requires c κs = range c.before
 
-round-sum-requires : tie.Need-round-sum-requires
+round-sum-requires : tie.Need-round_sum-r-requires
 round-sum-requires c κs =
     let g = c.before in
     let s = g.before in
@@ -67,11 +67,11 @@ round-sum-requires c κs =
       few = omega (arith, c.rise.ensures.1);
     }
 
-encoded-requires : tie.Need-encoded-requires
+encoded-requires : tie.Need-encoded-b-requires
 encoded-requires c κs = ((entry c).requires.0, (rounded c).encodes)
 
 -- once the edge is known, in the chain's units and above the bit worth 1
-abbrev behind : tie.After-fall → tie.After-round-sum
+abbrev behind : tie.After-fall → tie.After-round_sum-r
 behind t = let h = t.before in h.before.before
 
 abbrev fallen : tie.After-origin → tie.After-fall
@@ -86,25 +86,25 @@ far t = omega (arith, t.origin.ensures.1)
 fall-requires : tie.Need-fall-requires
 fall-requires c κs = range (entry c.before.before)
 
-add-position-of : tie.Need-overflow-add-position-of
+add-position-of : tie.Need-overflow_add-h
 add-position-of c = omega (arith, low c.before)
 
 origin-requires : tie.Need-origin-requires
 origin-requires c κs = range (entry (behind c.before))
 
-position-of-requires : tie.Need-position-of-requires
+position-of-requires : tie.Need-position_of-last_edge-requires
 position-of-requires c κs = (low (fallen c), far c)
 
-recorded-requires : tie.Need-recorded-requires
+recorded-requires : tie.Need-recorded-answer-requires
 recorded-requires c κs = (rounded (behind (fallen c.before))).flags
 
-edge-is : (t : tie.After-position-of) → let s = entry (behind (fallen t.before)) in
-    to_z w64 (of_z w64 t.position-of.result) ≡ last_edge_of (form s) s.args.products s.args.e.chain.edge
+edge-is : (t : tie.After-position_of-last_edge) → let s = entry (behind (fallen t.before)) in
+    to_z w64 (of_z w64 t.position_of-last_edge.result) ≡ last_edge_of (form s) s.args.products s.args.e.chain.edge
 edge-is t =
     let o = t.before in
     let d = fallen o in
     let at = (entry (behind d)).args.e.chain.edge in
-    let p = t.position-of in
+    let p = t.position_of-last_edge in
     let fits : SFits w64 p.result = record {
       sfits = subst (λ (z : ℤ). mag z < 2 ^ 63) (sym p.ensures) (position-fits (at + d.fall.result) o.origin.result (low d) (far o));
     } in
@@ -113,7 +113,7 @@ edge-is t =
 returns : tie.Need-returns
 unfolding reported
 returns c =
-    let q = c.recorded.ensures in
+    let q = c.recorded-answer.ensures in
     let d = fallen c.before.before in
     let t = behind d in
     let b = d.before.before in
@@ -122,7 +122,7 @@ returns c =
     let w = wide (form s) in
     λ i. record {
       result =
-          (ap (λ (a : Answer). words_as w b.encoded.result.head a.result) q ∙ b.encoded.ensures
+          (ap (λ (a : Answer). words_as w b.encoded-b.result.head a.result) q ∙ b.encoded-b.ensures
           ∙ ap (λ (x : Rounded). written_as w (encode (form s) x.value)) r.equal) i;
       flags = (ap (λ (a : Answer). a.flags) q ∙ ap (λ (x : Rounded). flag 128 s.args.subnormal + x.flags) r.equal) i;
       passes = (q i).passes;

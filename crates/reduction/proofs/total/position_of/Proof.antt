@@ -15,11 +15,11 @@ difference s = positions s.args.at s.args.origin s.requires.0 s.requires.1
 fits : (s : tie.Start) → SFits w64 (sub_ℕ s.args.at s.args.origin)
 fits s = record { sfits = position-fits s.args.at s.args.origin s.requires.0 s.requires.1 }
 
-sub-result : tie.Need-overflow-sub-result
+sub-result : tie.Need-overflow_sub-result
 sub-result c = rw (difference c) (fits c)
 
 returns : tie.Need-returns
 returns c = rw (difference c) (to_z-of_z w64 _ (fits c))
 
-pub position-of-spec : {M : Type 1} → statement M
-position-of-spec = tie.close (tie.spec (λ c. search rules) (λ c. search rules) sub-result returns)
+pub position_of_spec : {M : Type 1} → statement M
+position_of_spec = tie.close (tie.spec (λ c. search rules) (λ c. search rules) sub-result returns)

@@ -33,21 +33,21 @@ env s = settings_of s.args.c
 abbrev start : tie.After-lift → tie.Start
 start g = g.before.before
 
-abbrev placed : tie.After-round-sum → tie.After-lift
+abbrev placed : tie.After-round_sum-r → tie.After-lift
 placed t = t.before.before.before
 
-abbrev entry : tie.After-round-sum → tie.Start
+abbrev entry : tie.After-round_sum-r → tie.Start
 entry t = start (placed t)
 
-rounded : (t : tie.After-round-sum) (x : Signed) → let s = entry t in LeftOf (digits (list s)) x s.args.v
-    → RoundedSum (target s) (env s) (target_grid (list s) (target s)) (on_target (list s) (target s) x) t.round-sum.result
+rounded : (t : tie.After-round_sum-r) (x : Signed) → let s = entry t in LeftOf (digits (list s)) x s.args.v
+    → RoundedSum (target s) (env s) (target_grid (list s) (target s)) (on_target (list s) (target s) x) t.round_sum-r.result
 rounded t x l =
     let d = t.before in
     let g = placed t in
-    let grid = ap₂ ◌+◌ g.before.origin.ensures.0 g.lift.ensures.0 in
-    moved _ grid (ap₂ ◌+◌ d.before.depth.ensures.0 d.fall.ensures.0) (t.round-sum.ensures (digits (list (entry t))) x l)
+    let grid = ap₂ ◌+◌ g.origin.ensures.0 g.lift.ensures.0 in
+    moved _ grid (ap₂ ◌+◌ d.depth.ensures.0 d.fall.ensures.0) (t.round_sum-r.ensures (digits (list (entry t))) x l)
 
-round-sum-requires : tie.Need-round-sum-requires
+round-sum-requires : tie.Need-round_sum-r-requires
 round-sum-requires c κs =
     let d = c.before in
     let g = d.before in
@@ -59,13 +59,13 @@ round-sum-requires c κs =
       format = h.format.range;
       settings = h.settings;
       enough = h.digits_le;
-      grid = omega (arith, g.before.origin.ensures.1, g.lift.ensures.1);
+      grid = omega (arith, g.origin.ensures.1, g.lift.ensures.1);
       few = omega (arith, d.depth.ensures.1, c.fall.ensures.1);
     }
 
 -- some sum is rounded
-once : (t : tie.After-round-sum) → let s = entry t in
-    RoundedSum (target s) (env s) (target_grid (list s) (target s)) (on_target (list s) (target s) s.requires.sum) t.round-sum.result
+once : (t : tie.After-round_sum-r) → let s = entry t in
+    RoundedSum (target s) (env s) (target_grid (list s) (target s)) (on_target (list s) (target s) s.requires.sum) t.round_sum-r.result
 once t = rounded t (entry t).requires.sum (entry t).requires.left
 
 encode-requires : tie.Need-encode-requires
@@ -86,14 +86,14 @@ returns c x h l passes edge =
       result = (ap (λ (a : Answer). a.result) q ∙ b.encode.ensures ∙ ap (λ (y : Rounded). encode (target s) y.value) r.equal) i;
       flags = (ap (λ (a : Answer). a.flags) q ∙ ap (λ (y : Rounded). flag 128 s.args.subnormal + y.flags) r.equal) i;
       passes = (ap (λ (a : Answer). a.passes) q ∙ passes) i;
-      last_edge = (ap (λ (a : Answer). a.last_edge) q ∙ to_z-of_z w64 s.args.last_edge s.fits.last_edge ∙ edge) i;
+      last_edge = (ap (λ (a : Answer). a.last_edge) q ∙ to_z-of_z w64 s.args.last_edge s.ranges.last_edge ∙ edge) i;
       refusal = (q i).refusal;
       place = (q i).place;
       side = (ap (λ (a : Answer). a.side) q ∙ leans (target s) (env s) _ (on_target (list s) (target s) x) _ s.requires.format.range s.requires.settings r) i;
     }
 
-pub print-spec : {M : Type 1} → statement M
-print-spec =
+pub print_spec : {M : Type 1} → statement M
+print_spec =
     tie.close
     (tie.spec
     (λ c κs. search rules)

@@ -9,7 +9,7 @@ use Rattle.reduction.proofs.total.print_zero.Tie as tie
 abbrev form : tie.Start → Format
 form s = format_of s.args.t
 
-special-requires : tie.Need-special-requires
+special-requires : tie.Need-special-w-requires
 special-requires c κs = let s = c.before in (narrow-known (form s) s.requires, tt, tt)
 
 returns : tie.Need-returns
@@ -17,7 +17,7 @@ returns c =
     let p = c.before in
     let z = p.before in
     let s = z.before in
-    rw (narrow (form s) s.requires, z.zero-sum-sign.ensures) at p.special.ensures
+    rw (narrow (form s) s.requires, z.zero_sum_sign-negative.ensures) at p.special-w.ensures
 
-pub print-zero-spec : {M : Type 1} → statement M
-print-zero-spec = tie.close (tie.spec (λ c κs. search rules) special-requires returns)
+pub print_zero_spec : {M : Type 1} → statement M
+print_zero_spec = tie.close (tie.spec (λ c κs. search rules) special-requires returns)

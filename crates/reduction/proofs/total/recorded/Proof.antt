@@ -12,14 +12,14 @@ returns c =
     let s = f.before in
     let a = s.args in
     λ i. record {
-      result = a.result;
+      result = a.res;
       flags = (f.flag.ensures.0 i) + a.r.flags;
       passes = a.passes;
       last_edge = to_z-of_z w64 a.last_edge s.ranges.last_edge i;
       refusal = 0;
       place = 0;
-      side = c.side-of.ensures i;
+      side = c.side_of.ensures i;
     }
 
-pub recorded-spec : {M : Type 1} → statement M
-recorded-spec = tie.close (tie.spec (λ c κs. search rules) (λ c. search rules) (λ c κs. search rules) returns)
+pub recorded_spec : {M : Type 1} → statement M
+recorded_spec = tie.close (tie.spec (λ c κs. search rules) (λ c. search rules) (λ c κs. search rules) returns)

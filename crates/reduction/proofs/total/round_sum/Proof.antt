@@ -25,23 +25,23 @@ abbrev env : tie.Start → Settings
 env s = settings_of s.args.c
 
 -- where nothing is left
-returns : tie.Need-returns
+returns : tie.Need-returns-then-is_nothing
 unfolding sum_rounded raised
 returns c p x l =
     let t = c.before in
-    let s = t.before.before.args in
-    let z = l.none (eqb-true _ 0 (sym t.before.is-nothing.ensures ∙ t.if1.true)) in
+    let s = t.args in
+    let z = l.none (eqb-true _ 0 (sym t.is_nothing.ensures ∙ t.if-is_nothing.true)) in
     rw (z, zero-mul (2 ^ s.up))
-    (record { equal = λ i. record { value = zero_of (c.zero-sum-is-negative.ensures i); flags = 0 }; encodes = tt; flags = omega arith })
+    (record { equal = λ i. record { value = zero_of (c.zero_sum_is_negative.ensures i); flags = 0 }; encodes = tt; flags = omega arith })
 
 -- where something is
-abbrev entry : tie.Else1 → tie.Start
+abbrev entry : tie.Else-is_nothing → tie.Start
 entry e = e.before.before
 
-some : (e : tie.Else1) → 0 < significand_of (entry e).args.v
-some e = pos_of_ne-zero (eqb-false _ 0 (sym e.before.is-nothing.ensures ∙ e.if1.false))
+some : (e : tie.Else-is_nothing) → 0 < significand_of (entry e).args.v
+some e = pos_of_ne-zero (eqb-false _ 0 (sym e.is_nothing.ensures ∙ e.if-is_nothing.false))
 
-add-w : tie.Need-overflow-add-w
+add-w : tie.Need-overflow_add-w
 add-w c = let e = c.before in let s = entry e in omega (arith, (s.requires.left.some (some e)).low, s.requires.few)
 
 round-requires : tie.Need-round-requires
@@ -51,7 +51,7 @@ round-requires c κs =
     let h = s.requires in
     left-rounds h.decided h.sum s.args.v (some e) (h.left.some (some e)) (form s) (env s) _ _ h.format h.settings h.enough h.grid h.few
 
-returns-2 : tie.Need-returns-2
+returns-2 : tie.Need-returns
 returns-2 c p x l =
     let e = c.before.before in
     let s = entry e in
@@ -62,5 +62,5 @@ returns-2 c p x l =
       flags = o.flags;
     }
 
-pub round-sum-spec : {M : Type 1} → statement M
-round-sum-spec = tie.close (tie.spec (λ c κs. search rules) (λ c κs. search rules) returns add-w round-requires returns-2)
+pub round_sum_spec : {M : Type 1} → statement M
+round_sum_spec = tie.close (tie.spec (λ c κs. search rules) (λ c κs. search rules) returns add-w round-requires returns-2)

@@ -15,7 +15,7 @@ use Rattle.reduction.proofs.total.special.Tie as tie
 abbrev form : tie.Start → Format
 form s = format_of s.args.f
 
-encoded-requires : tie.Need-encoded-requires
+encoded-requires : tie.Need-encoded-b-requires
 encoded-requires c κs = search rules
 
 flag-requires : tie.Need-flag-requires
@@ -24,7 +24,7 @@ flag-requires c κs = search rules
 flag-requires-2 : tie.Need-flag-requires-2
 flag-requires-2 c κs = search rules
 
-side-of-requires : tie.Need-side-of-requires
+side-of-requires : tie.Need-side_of-requires
 side-of-requires c κs = search rules
 
 returns : tie.Need-returns
@@ -34,14 +34,14 @@ returns c =
     let e = g.before.before in
     let s = e.before in
     λ i. record {
-      result = e.encoded.ensures i;
-      flags = (g.before.flag.ensures.0 i) + (g.flag2.ensures.0 i);
+      result = e.encoded-b.ensures i;
+      flags = (g.flag.ensures.0 i) + (g.flag-2.ensures.0 i);
       passes = 0;
       last_edge = pos 0;
       refusal = 0;
       place = 0;
-      side = (c.side-of.ensures ∙ sym (told (form s) (known-range (form s) (wide (form s)) s.requires.0) s.args.v s.requires.1 s.requires.2)) i;
+      side = (c.side_of.ensures ∙ sym (told (form s) (known-range (form s) (wide (form s)) s.requires.0) s.args.v s.requires.1 s.requires.2)) i;
     }
 
-pub special-spec : {M : Type 1} → statement M
-special-spec = tie.close (tie.spec encoded-requires flag-requires flag-requires-2 (λ c. search rules) side-of-requires returns)
+pub special_spec : {M : Type 1} → statement M
+special_spec = tie.close (tie.spec encoded-requires flag-requires flag-requires-2 (λ c. search rules) side-of-requires returns)

@@ -13,10 +13,10 @@ use Rattle.reduction.proofs.Items.{added-base}
 use Rattle.reduction.proofs.walk.exact.Statement.{statement}
 use Rattle.reduction.proofs.walk.exact.Tie as tie
 
-abbrev invariant-loop : tie.invariant-loop
+abbrev invariant-loop : tie.invariant-loop-o
 invariant-loop f c k lw lb rw' rb p top at₀ at = Walked p (terms.terms (added_in (format_of f) (settings_of c) k lw lb rw' rb)) at
 
-abbrev decreases-loop : tie.decreases-loop
+abbrev decreases-loop : tie.decreases-loop-o
 decreases-loop f c k lw lb rw' rb p top at₀ at = at.edge
 
 -- at the entry: the terms, and what the loop may count on
@@ -43,48 +43,48 @@ base s =
     (wide f) h.0.0 (right ∙ sym left) (rw left h.1.0.2) (is_dot a.k) (is_hundred a.k) (rw h.1.1.0 at h.1.1.1)
 
 -- once the chain is begun, and in a turn after its pass
-abbrev entry : tie.After-start invariant-loop decreases-loop → Entry
+abbrev entry : tie.After-start-at invariant-loop decreases-loop → Entry
 entry d = let s = d.before.before in s.before.before.before
 
-abbrev begun : tie.After-pass invariant-loop decreases-loop → tie.After-start invariant-loop decreases-loop
+abbrev begun : tie.After-pass-q invariant-loop decreases-loop → tie.After-start-at invariant-loop decreases-loop
 begun t = t.before.before
 
-turn : (t : tie.After-pass invariant-loop decreases-loop) → Base (entry (begun t)).args.p (ts (entry (begun t)))
+turn : (t : tie.After-pass-q invariant-loop decreases-loop) → Base (entry (begun t)).args.p (ts (entry (begun t)))
 turn t = base (entry (begun t))
 
-start-requires : tie.Need-start-requires invariant-loop decreases-loop
+start-requires : tie.Need-start-at-requires invariant-loop decreases-loop
 start-requires c κs =
     let e = c.before.before in
     let s = e.before.before in
     rw s.requires.1.1.0 (loop-start (base s))
 
-loop-holds : tie.Need-loop-init invariant-loop decreases-loop
-loop-holds c = let s = entry c in loop-holds-at (base s) _ s.requires.1.1.0 c.start.ensures
+loop-holds : tie.Need-loop-o-init invariant-loop decreases-loop
+loop-holds c = let s = entry c in loop-holds-at (base s) _ s.requires.1.1.0 c.start-at.ensures
 
-advance-requires : tie.Need-advance-requires invariant-loop decreases-loop
-advance-requires c κs = loop-ready (turn c) _ _ c.before.loop.invariant c.pass.ensures
+advance-requires : tie.Need-advance-s-requires invariant-loop decreases-loop
+advance-requires c κs = loop-ready (turn c) _ _ c.loop-o.invariant c.pass-q.ensures
 
-loop-less : tie.Need-loop-smaller invariant-loop decreases-loop
+loop-less : tie.Need-loop-o-smaller invariant-loop decreases-loop
 loop-less c =
-    let s = c.before.before.before in
+    let s = c.before.before in
     let t = s.before in
-    (loop-next (turn t) _ _ t.before.loop.invariant t.pass.ensures _ s.advance.ensures c.enum_told.given.1).falls
+    (loop-next (turn t) _ _ t.loop-o.invariant t.pass-q.ensures _ s.advance-s.ensures c.in_default.is).falls
 
-loop-again : tie.Need-loop-preserved invariant-loop decreases-loop
+loop-again : tie.Need-loop-o-preserved invariant-loop decreases-loop
 loop-again c =
-    let s = c.before.before.before in
+    let s = c.before.before in
     let t = s.before in
-    (loop-next (turn t) _ _ t.before.loop.invariant t.pass.ensures _ s.advance.ensures c.enum_told.given.1).walked
+    (loop-next (turn t) _ _ t.loop-o.invariant t.pass-q.ensures _ s.advance-s.ensures c.in_default.is).walked
 
 returns : tie.Need-returns invariant-loop decreases-loop
 returns c =
-    let v = c.before in
-    let s = v.before.before.before in
+    let v = c in
+    let s = v.before.before in
     let t = s.before in
-    loop-done (turn t) _ _ t.before.loop.invariant t.pass.ensures _ _ s.advance.ensures v.v.given.1
+    loop-done (turn t) _ _ t.loop-o.invariant t.pass-q.ensures _ _ s.advance-s.ensures v.in-Done.is
 
-pub exact-spec : {M : Type 1} → statement M
-exact-spec =
+pub exact_spec : {M : Type 1} → statement M
+exact_spec =
     tie.close
     (tie.spec
     invariant-loop

@@ -18,7 +18,7 @@ use Rattle.reduction.proofs.walk.pass.Statement.{statement}
 use Rattle.reduction.proofs.walk.pass.Tie as tie
 
 -- at the entry: the two lists, and the items by the width of the format, and by whether they are of pairs
-abbrev entry : tie.After-struct-known → tie.Start
+abbrev entry : tie.After-struct_known-1 → tie.Start
 entry k = let s = k.before.before.before in s.before.before.before
 
 abbrev form : tie.Start → Format
@@ -53,36 +53,36 @@ by s w r b t e g p =
     subst (λ (v : Bool). PassedBy s r v (is_dot k) (is_hundred k)) (sym w) (subst₂ (PassedBy s r false) (sym e) (sym g) p)
 
 -- for pence
-pence : (t : tie.Then1) → wide (form (entry t.before)) ≡ false
-pence t = (entry t.before).requires.0.2 (eq-eqb _ 4 t.if1.true)
+pence : (t : tie.Then-k-eq-HUNDREDFOLD) → wide (form (entry t.before)) ≡ false
+pence t = (entry t.before).requires.0.2 (eq-eqb _ 4 t.if-k-eq-HUNDREDFOLD.true)
 
-pass-hundreds-requires : tie.Need-pass-hundreds-requires
-pass-hundreds-requires c κs = let s = entry c.before in (bounds s (pence c), s.requires.1.0, s.requires.1.2 (omega (arith, c.if1.true)))
+pass-hundreds-requires : tie.Need-pass_hundreds-requires
+pass-hundreds-requires c κs = let s = entry c.before in (bounds s (pence c), s.requires.1.0, s.requires.1.2 (omega (arith, c.if-k-eq-HUNDREDFOLD.true)))
 
-returns : tie.Need-returns
+returns : tie.Need-returns-then-k-eq-HUNDREDFOLD
 returns c =
     let t = c.before in
     let s = entry t.before in
     let u = s.args.k.summand in
-    let e : u ≡ 4 = t.if1.true in
+    let e : u ≡ 4 = t.if-k-eq-HUNDREDFOLD.true in
     let other : u ≡ 3 → ⊥ = λ g. omega (arith, e, g) in
-    by s (pence t) _ false true (ne_eqb u 3 other) (eq-eqb u 4 e) c.pass-hundreds.ensures
+    by s (pence t) _ false true (ne_eqb u 3 other) (eq-eqb u 4 e) c.pass_hundreds.ensures
 
 -- not for pence
-abbrev begun : tie.After-struct-known2 → tie.Start
+abbrev begun : tie.After-struct_known-2-1 → tie.Start
 begun d = entry d.before.before
 
-plain : (d : tie.After-struct-known2) → is_hundred (begun d).args.k ≡ false
-plain d = ne_eqb _ 4 d.before.if1.false
+plain : (d : tie.After-struct_known-2-1) → is_hundred (begun d).args.k ≡ false
+plain d = ne_eqb _ 4 d.if-k-eq-HUNDREDFOLD.false
 
 -- of kind 4
-ten : (t : tie.Then2) → wide (form (begun t.before)) ≡ true
-ten t = lt-ltb 64 _ t.if2.true
+ten : (t : tie.Then-f-gt64) → wide (form (begun t.before)) ≡ true
+ten t = lt-ltb 64 _ t.if-f-gt64.true
 
 pass-requires : tie.Need-pass-requires
 pass-requires c κs = (known (begun c.before) true (ten c)).1
 
-returns-2 : tie.Need-returns-2
+returns-2 : tie.Need-returns-then-f-gt64
 returns-2 c =
     let t = c.before in
     let s = begun t.before in
@@ -90,55 +90,55 @@ returns-2 c =
     subst (λ (v : Bool). PassedBy s c.pass.result v (is_dot k) (is_hundred k)) (sym (ten t)) c.pass.ensures
 
 -- of another
-abbrev first : tie.After-struct-known3 → tie.After-struct-known2
+abbrev first : tie.After-struct_known-3-1 → tie.After-struct_known-2-1
 first d = d.before.before
 
-word : (d : tie.After-struct-known3) → wide (form (begun (first d))) ≡ false
-word d = le-ltb 64 _ d.before.if2.false
+word : (d : tie.After-struct_known-3-1) → wide (form (begun (first d))) ≡ false
+word d = le-ltb 64 _ d.if-f-gt64.false
 
-pass-pairs-requires : tie.Need-pass-pairs-requires
+pass-pairs-requires : tie.Need-pass_pairs-requires
 pass-pairs-requires c κs =
     let d = c.before in
     let s = begun (first d) in
-    (bounds s (word d), s.requires.1.0, s.requires.1.1, s.requires.1.2 (omega (arith, c.if3.true)))
+    (bounds s (word d), s.requires.1.0, s.requires.1.1, s.requires.1.2 (omega (arith, c.if-k-eq3.true)))
 
-returns-3 : tie.Need-returns-3
+returns-3 : tie.Need-returns-then-k-eq3
 returns-3 c =
     let d = c.before.before in
-    by (begun (first d)) (word d) _ true false (eq-eqb _ 3 c.before.if3.true) (plain (first d)) c.pass-pairs.ensures
+    by (begun (first d)) (word d) _ true false (eq-eqb _ 3 c.if-k-eq3.true) (plain (first d)) c.pass_pairs.ensures
 
 -- nor of pairs
-abbrev second : tie.After-struct-known4 → tie.After-struct-known3
+abbrev second : tie.After-struct_known-4-1 → tie.After-struct_known-3-1
 second d = d.before.before
 
-single : (d : tie.After-struct-known4) → is_dot (begun (first (second d))).args.k ≡ false
-single d = ne_eqb _ 3 d.before.if3.false
+single : (d : tie.After-struct_known-4-1) → is_dot (begun (first (second d))).args.k ≡ false
+single d = ne_eqb _ 3 d.if-k-eq3.false
 
-pass-singles-requires : tie.Need-pass-singles-requires
+pass-singles-requires : tie.Need-pass_singles-requires
 pass-singles-requires c κs =
     let d = second c.before in
     let s = begun (first d) in
-    (bounds s (word d), s.requires.1.0, c.if4.true)
+    (bounds s (word d), s.requires.1.0, c.if-k-lt2.true)
 
-returns-4 : tie.Need-returns-4
+returns-4 : tie.Need-returns-then-k-lt2
 returns-4 c =
     let e = c.before.before in
     let d = second e in
-    by (begun (first d)) (word d) _ false false (single e) (plain (first d)) c.pass-singles.ensures
+    by (begun (first d)) (word d) _ false false (single e) (plain (first d)) c.pass_singles.ensures
 
-pass-squares-requires : tie.Need-pass-squares-requires
+pass-squares-requires : tie.Need-pass_squares-requires
 pass-squares-requires c κs =
     let d = second c.before in
     let s = begun (first d) in
-    (bounds s (word d), s.requires.1.0, s.requires.1.2 (omega (arith, c.if4.false)))
+    (bounds s (word d), s.requires.1.0, s.requires.1.2 (omega (arith, c.if-k-lt2.false)))
 
-returns-5 : tie.Need-returns-5
+returns-5 : tie.Need-returns
 returns-5 c =
     let e = c.before.before in
     let d = second e in
     let s = begun (first d) in
     by s (word d) _ false false (single e) (plain (first d))
-    (rw (square-of s.args.k.summand (omega (arith, c.before.if4.false))) c.pass-squares.ensures)
+    (rw (square-of s.args.k.summand (omega (arith, c.if-k-lt2.false))) c.pass_squares.ensures)
 
 pub pass_spec : {M : Type 1} → statement M
 pass_spec =

@@ -15,95 +15,95 @@ use Rattle.reduction.proofs.Items.{element-items, element-stands, blank-hundred}
 use Rattle.reduction.proofs.walk.pass_hundreds.Statement.{statement}
 use Rattle.reduction.proofs.walk.pass_hundreds.Tie as tie
 
-abbrev invariant-loop : tie.invariant-loop
+abbrev invariant-loop : tie.invariant-loop-i
 invariant-loop f c source words bytes w total₀ lost₀ i₀ total lost i =
     Running (map (hundred_item (format_of f) (settings_of c)) (elements source words bytes)) source.count w i total lost
 
-abbrev decreases-loop : tie.decreases-loop
+abbrev decreases-loop : tie.decreases-loop-i
 decreases-loop f c source words bytes w total₀ lost₀ i₀ total lost i = source.count - i
 
 -- ---- the places of a turn: its element is taken and cut, its words are settled and added
 
 abbrev Cut : Type 0
-Cut = tie.After-larger invariant-loop decreases-loop
+Cut = tie.After-larger-lost invariant-loop decreases-loop
 
-abbrev taken : Cut → tie.After-element invariant-loop decreases-loop
+abbrev taken : Cut → tie.After-element-a invariant-loop decreases-loop
 taken k = let t = k.before.before in t.before.before.before
 
-abbrev head : tie.After-element invariant-loop decreases-loop → tie.At-loop invariant-loop decreases-loop
+abbrev head : tie.After-element-a invariant-loop decreases-loop → tie.At-loop-i invariant-loop decreases-loop
 head e = e.before.before.before
 
-abbrev cut : tie.After-settle invariant-loop decreases-loop → Cut
+abbrev cut : tie.After-settle-q invariant-loop decreases-loop → Cut
 cut q = q.before.before.before
 
-abbrev settled : tie.After-goes-on invariant-loop decreases-loop → tie.After-settle invariant-loop decreases-loop
+abbrev settled : tie.After-goes_on invariant-loop decreases-loop → tie.After-settle-q invariant-loop decreases-loop
 settled g = let x = g.before.before.before in x.before.before.before
 
-abbrev entry : tie.At-loop invariant-loop decreases-loop → tie.Start invariant-loop decreases-loop
+abbrev entry : tie.At-loop-i invariant-loop decreases-loop → tie.Start invariant-loop decreases-loop
 entry h = let e = h.before.before in e.before.before
 
 -- the element stands at its index
-here : (e : tie.After-element invariant-loop decreases-loop) → let a = (entry (head e)).args in
-    e.element.result ≡ get_or (elements a.source a.words.now a.bytes.now) (head e).loop.i 0
+here : (e : tie.After-element-a invariant-loop decreases-loop) → let a = (entry (head e)).args in
+    e.element-a.result ≡ get_or (elements a.source a.words.now a.bytes.now) (head e).loop-i.i 0
 here e =
     let s = entry (head e) in
     let a = s.args in
-    e.element.ensures ∙ element-is a.source a.words.now a.bytes.now _ _ e.before.if1.true (straight-place s.requires.2 (head e).loop.i)
+    e.element-a.ensures ∙ element-is a.source a.words.now a.bytes.now _ _ e.loop-i-test.true (straight-place s.requires.2 (head e).loop-i.i)
 
-turn : (k : Cut) → Turn (head (taken k)).loop.invariant k.before.before.hundred-term.result k.before.window-part.result k.larger.result
+turn : (k : Cut) → Turn (head (taken k)).loop-i.invariant k.hundred_term-t.result k.window_part-p.result k.larger-lost.result
 turn k = record {
-  inside = (taken k).before.if1.taken;
-  stands = element-stands _ _ _ (taken k).before.if1.taken (here (taken k)) _ _ k.before.before.hundred-term.ensures;
-  part = k.before.window-part.ensures;
-  larger = k.larger.ensures;
+  inside = (taken k).loop-i-test.true;
+  stands = element-stands _ _ _ (taken k).loop-i-test.true (here (taken k)) _ _ k.hundred_term-t.ensures;
+  part = k.window_part-p.ensures;
+  larger = k.larger-lost.ensures;
 }
 
 -- ---- the needs
 
-loop-holds : tie.Need-loop-init invariant-loop decreases-loop
-loop-holds c = running-start (element-items _ _ _ _) c.start.ensures
+loop-holds : tie.Need-loop-i-init invariant-loop decreases-loop
+loop-holds c = running-start (element-items _ _ _ _) c.start-total.ensures
 
-element-requires : tie.Need-element-requires invariant-loop decreases-loop
+element-requires : tie.Need-element-a-requires invariant-loop decreases-loop
 element-requires c κs =
     let h = c.before.before in
     let s = entry h in
-    element-there s.args.source _ _ _ _ c.if1.true (straight-place s.requires.2 h.loop.i) s.requires.1
+    element-there s.args.source _ _ _ _ c.loop-i-test.true (straight-place s.requires.2 h.loop-i.i) s.requires.1
 
-window-part-requires : tie.Need-window-part-requires invariant-loop decreases-loop
-window-part-requires c κs = cuttable _ (hundred_item _ _ _) c.hundred-term.ensures
+window-part-requires : tie.Need-window_part-p-requires invariant-loop decreases-loop
+window-part-requires c κs = cuttable _ (hundred_item _ _ _) c.hundred_term-t.ensures
 
-loop-again : tie.Need-loop-preserved invariant-loop decreases-loop
+loop-again : tie.Need-loop-i-preserved-then-is_blank invariant-loop decreases-loop
 loop-again c =
     let b = c.before in
     let e = b.before.before.before in
-    turn-over (head e).loop.invariant e.before.if1.true
-    (blank-hundred _ _ _ _ _ e.before.if1.true (here e) b.is-blank.ensures c.if3.true)
+    turn-over (head e).loop-i.invariant e.loop-i-test.true
+    (blank-hundred _ _ _ _ _ e.loop-i-test.true (here e) b.is_blank.ensures c.if-is_blank.true)
 
-loop-again-2 : tie.Need-loop-preserved-2 invariant-loop decreases-loop
-loop-again-2 c = turn-none (turn c.before.before) c.if4.true
+loop-again-2 : tie.Need-loop-i-preserved-then-not-p invariant-loop decreases-loop
+loop-again-2 c = turn-none (turn c.before.before) c.if-not-p.true
 
-loop-again-3 : tie.Need-loop-preserved-3 invariant-loop decreases-loop
+loop-again-3 : tie.Need-loop-i-preserved-then-not-q invariant-loop decreases-loop
 loop-again-3 c =
     let q = c.before.before in
-    turn-past (turn (cut q)) q.settle.ensures c.if5.true
+    turn-past (turn (cut q)) q.settle-q.ensures c.if-not-q.true
 
-loop-again-4 : tie.Need-loop-preserved-4 invariant-loop decreases-loop
-loop-again-4 c = turn_moved (turn (cut (settled c.before.before))) (words 12 _ _ c.move-term.type-inv) c.move-term.ensures
+loop-again-4 : tie.Need-loop-i-preserved-then-goes_on invariant-loop decreases-loop
+loop-again-4 c = turn_moved (turn (cut (settled c.before.before))) (words 12 _ _ c.move_term-next.type_inv) c.move_term-next.ensures
 
-loop-again-5 : tie.Need-loop-preserved-5 invariant-loop decreases-loop
+loop-again-5 : tie.Need-loop-i-preserved invariant-loop decreases-loop
 loop-again-5 c =
     let g = c.before in
-    let x = g.before.before.before.add-word in
-    let y = g.before.before.add-word2 in
-    let z = g.before.add-word3 in
-    turn_three (turn (cut (settled g))) (x.type-inv, x.ensures) (y.type-inv, y.ensures) (z.type-inv, z.ensures) (settled g).settle.ensures g.goes_on.ensures
-    c.if6.false
+    let x = g.add_word-x in
+    let y = g.add_word-y in
+    let z = g.add_word-z in
+    turn_three (turn (cut (settled g))) (x.type_inv, x.ensures) (y.type_inv, y.ensures) (z.type_inv, z.ensures) (settled g).settle-q.ensures g.goes_on.ensures
+    c.if-goes_on.false
 
 returns : tie.Need-returns invariant-loop decreases-loop
-returns c = let h = c.before.before.before in running-end h.loop.invariant c.before.if1.false c.finished.ensures
+returns c = let h = c.before.before.before in running-end h.loop-i.invariant c.loop-i-test.false c.finished.ensures
 
-pub pass-hundreds-spec : {M : Type 1} → statement M
-pass-hundreds-spec =
+pub pass_hundreds_spec : {M : Type 1} → statement M
+pass_hundreds_spec =
     tie.close
     (tie.spec
     invariant-loop
