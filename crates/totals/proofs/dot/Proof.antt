@@ -14,23 +14,23 @@ use Rattle.totals.proofs.dot.Tie as tie
 abbrev numbers : tie.Start → ℕ
 numbers s = dot_numbers (format_of s.args.f) (settings_of s.args.c) (length s.args.left.now) (length s.args.right.now)
 
-passed : (e : tie.Else1) → let t = e.before in numbers t.before.before.before ≡ 0
-passed e = sym e.before.dot-refusal.ensures ∙ e.if1.false
+passed : (e : tie.Else-number-ne0) → let t = e.before in numbers t.before.before.before ≡ 0
+passed e = sym e.dot_refusal-number.ensures ∙ e.if-number-ne0.false
 
-dot-refusal-requires : tie.Need-dot-refusal-requires
+dot-refusal-requires : tie.Need-dot_refusal-number-requires
 dot-refusal-requires c κs = search rules
 
 refused-requires : tie.Need-refused-requires
 refused-requires c κs = search rules
 
-returns : tie.Need-returns
-returns c = let t = c.before in c.refused.ensures ∙ dot-stopped _ _ _ _ _ _ refl refl _ t.before.dot-refusal.ensures t.if1.true
+returns : tie.Need-returns-then-number-ne0
+returns c = let t = c.before in c.refused.ensures ∙ dot-stopped _ _ _ _ _ _ refl refl _ t.dot_refusal-number.ensures t.if-number-ne0.true
 
 words-requires : tie.Need-words-requires
 words-requires c κs = let e = alike _ _ _ _ (passed c) in (omega (arith, e), rw e at (passed c))
 
-returns-2 : tie.Need-returns-2
+returns-2 : tie.Need-returns
 returns-2 c = c.words.ensures
 
-pub dot-spec : {M : Type 1} → statement M
-dot-spec = tie.close (tie.spec dot-refusal-requires refused-requires returns words-requires returns-2)
+pub dot_spec : {M : Type 1} → statement M
+dot_spec = tie.close (tie.spec dot-refusal-requires refused-requires returns words-requires returns-2)

@@ -13,23 +13,23 @@ use Rattle.totals.proofs.sum.Tie as tie
 abbrev numbers : tie.Start → ℕ
 numbers s = sum_numbers (format_of s.args.f) (settings_of s.args.c) s.args.u (length s.args.values.now)
 
-passed : (e : tie.Else1) → numbers e.before.before.before ≡ 0
-passed e = sym e.before.sum-refusal.ensures ∙ e.if1.false
+passed : (e : tie.Else-number-ne0) → numbers e.before.before.before ≡ 0
+passed e = sym e.sum_refusal-number.ensures ∙ e.if-number-ne0.false
 
-sum-refusal-requires : tie.Need-sum-refusal-requires
+sum-refusal-requires : tie.Need-sum_refusal-number-requires
 sum-refusal-requires c κs = search rules
 
 refused-requires : tie.Need-refused-requires
 refused-requires c κs = search rules
 
-returns : tie.Need-returns
-returns c = let t = c.before in c.refused.ensures ∙ sum-stopped _ _ _ _ _ refl _ t.before.sum-refusal.ensures t.if1.true
+returns : tie.Need-returns-then-number-ne0
+returns c = let t = c.before in c.refused.ensures ∙ sum-stopped _ _ _ _ _ refl _ t.sum_refusal-number.ensures t.if-number-ne0.true
 
 words-requires : tie.Need-words-requires
 words-requires c κs = (refl, sum-asked _ _ _ _ (passed c))
 
-returns-2 : tie.Need-returns-2
+returns-2 : tie.Need-returns
 returns-2 c = c.words.ensures ∙ sum_told _ _ _ _ (passed c.before) _ _
 
-pub sum-spec : {M : Type 1} → statement M
-sum-spec = tie.close (tie.spec sum-refusal-requires refused-requires returns words-requires returns-2)
+pub sum_spec : {M : Type 1} → statement M
+sum_spec = tie.close (tie.spec sum-refusal-requires refused-requires returns words-requires returns-2)

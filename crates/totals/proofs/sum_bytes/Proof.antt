@@ -14,23 +14,23 @@ use Rattle.totals.proofs.sum_bytes.Tie as tie
 abbrev numbers : tie.Start → ℕ
 numbers s = sum_numbers (format_of s.args.f) (settings_of s.args.c) s.args.u (length s.args.values.now / 8)
 
-passed : (e : tie.Else1) → numbers e.before.before.before ≡ 0
-passed e = sym e.before.sum-refusal.ensures ∙ e.if1.false
+passed : (e : tie.Else-number-ne0) → numbers e.before.before.before ≡ 0
+passed e = sym e.sum_refusal-number.ensures ∙ e.if-number-ne0.false
 
-sum-refusal-requires : tie.Need-sum-refusal-requires
+sum-refusal-requires : tie.Need-sum_refusal-number-requires
 sum-refusal-requires c κs = search rules
 
 refused-requires : tie.Need-refused-requires
 refused-requires c κs = search rules
 
-returns : tie.Need-returns
-returns c = let t = c.before in c.refused.ensures ∙ sum-stopped _ _ _ _ _ (values_length _) _ t.before.sum-refusal.ensures t.if1.true
+returns : tie.Need-returns-then-number-ne0
+returns c = let t = c.before in c.refused.ensures ∙ sum-stopped _ _ _ _ _ (values_length _) _ t.sum_refusal-number.ensures t.if-number-ne0.true
 
 bytes-requires : tie.Need-bytes-requires
 bytes-requires c κs = (refl, sum-asked _ _ _ _ (passed c))
 
-returns-2 : tie.Need-returns-2
+returns-2 : tie.Need-returns
 returns-2 c = c.bytes.ensures ∙ sum_told _ _ _ _ (passed c.before) _ _
 
-pub sum-bytes-spec : {M : Type 1} → statement M
-sum-bytes-spec = tie.close (tie.spec sum-refusal-requires refused-requires returns bytes-requires returns-2)
+pub sum_bytes_spec : {M : Type 1} → statement M
+sum_bytes_spec = tie.close (tie.spec sum-refusal-requires refused-requires returns bytes-requires returns-2)

@@ -11,17 +11,17 @@ returns c =
     let r = x.before in
     let t = r.before in
     let s = t.before in
-    let e = r.in_three.ensures in
-    let a = s.before.target_at.ensures in
-    let b = s.target-at2.ensures in
-    let d = t.target-at3.ensures in (
-      at_told _ _ _ _ _ _ _ _ _ _ a.0 a.1 e.0 x.named-answer.ensures,
-      at_told _ _ _ _ _ _ _ _ _ _ b.0 b.1 e.1 y.named-answer2.ensures,
-      at_told _ _ _ _ _ _ _ _ _ _ d.0 d.1 e.2 c.named-answer3.ensures,
+    let e = r.in_three-r.ensures in
+    let a = s.target_at-a.ensures in
+    let b = s.target_at-b.ensures in
+    let d = t.target_at-c.ensures in (
+      at_told _ _ _ _ _ _ _ _ _ _ a.0 a.1 e.0 x.named_answer-first.ensures,
+      at_told _ _ _ _ _ _ _ _ _ _ b.0 b.1 e.1 y.named_answer-second.ensures,
+      at_told _ _ _ _ _ _ _ _ _ _ d.0 d.1 e.2 c.named_answer-third.ensures,
     )
 
-pub answers-spec : {M : Type 1} → statement M
-answers-spec =
+pub answers_spec : {M : Type 1} → statement M
+answers_spec =
     tie.close
     (tie.spec
     (λ c κs. search rules)

@@ -8,51 +8,51 @@ use Rattle.totals.proofs.entry.enter.Statement.{statement}
 use Rattle.totals.proofs.entry.enter.Tie as tie
 
 -- at the test of the refusal: the record
-abbrev answer : tie.After-struct-known → Answer
-answer t = answer_of t.before.before.args.a
+abbrev answer : tie.After-struct_known-1 → Answer
+answer t = answer_of t.args.a
 
 -- the words that were written before
-abbrev first : tie.After-struct-known5 → tie.After-put-word
+abbrev first : tie.After-struct_known-3-1 → tie.After-put_word
 first t = let k = t.before.before in k.before.before.before
 
-abbrev second : tie.After-put-word3 → tie.After-put-word2
+abbrev second : tie.After-put_word-3 → tie.After-put_word-2
 second t = let k = t.before.before in k.before.before
 
-mul-result : tie.Need-overflow-mul-result
+mul-result : tie.Need-overflow_mul-result
 mul-result c = search rules
 
-add-result : tie.Need-overflow-add-result
+add-result : tie.Need-overflow_add-result
 add-result c = search rules
 
-returns : tie.Need-returns
-returns c = let t = c.before.before in enters-refused (answer t.before) _ (λ e. omega (arith, e, t.if1.true))
+returns : tie.Need-returns-then-a-ne0
+returns c = let t = c.before.before in enters-refused (answer t.before) _ (λ e. omega (arith, e, t.if-a-ne0.true))
 
-put-word-requires : tie.Need-put-word-requires
+put-word-requires : tie.Need-put_word-requires
 put-word-requires c κs = search rules
 
-mul-put-word : tie.Need-overflow-mul-put-word
+mul-put-word : tie.Need-overflow_mul-a
 mul-put-word c = search rules
 
-add-put-word : tie.Need-overflow-add-put-word
+add-put-word : tie.Need-overflow_add-a
 add-put-word c = search rules
 
-put-word-requires-2 : tie.Need-put-word-requires-2
+put-word-requires-2 : tie.Need-put_word-requires-2
 put-word-requires-2 c κs = search rules
 
-put-word-requires-3 : tie.Need-put-word-requires-3
+put-word-requires-3 : tie.Need-put_word-requires-3
 put-word-requires-3 c κs = search rules
 
-same_length : tie.Need-same-length
+same_length : tie.Need-shape_of-answer
 same_length c = search rules
 
-returns-2 : tie.Need-returns-2
+returns-2 : tie.Need-returns
 returns-2 c =
     let t = c.before.before in
     let r = second t in
     let q = first r.before in
     let e = q.before.before in
-    enters-written (answer e.before) _ _ _ _ (omega (arith, e.if1.left)) e.before.before.before.requires.flags q.put_word.ensures
-    r.put-word2.ensures t.put-word3.ensures
+    enters-written (answer e.before) _ _ _ _ (omega (arith, e.if-a-ne0.false)) e.requires.flags q.put_word.ensures
+    r.put_word-2.ensures t.put_word-3.ensures
 
 pub enter_spec : {M : Type 1} → statement M
 enter_spec =

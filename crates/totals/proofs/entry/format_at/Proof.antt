@@ -15,13 +15,13 @@ returns c =
     let s = b.before in
     let t = s.before in
     let w = t.before in
-    rw (s.signed_word.ensures, t.word-at2.ensures, w.word_at.ensures, b.word-at3.ensures, d.word-at4.ensures, e.word-at5.ensures) at
-    (c.format-with.ensures
-    ∙ ap (format_with b.word-at3.result d.word-at4.result e.word-at5.result (eqb w.word_at.result 1))
-    (read s.signed_word.result (search rules)))
+    rw (s.signed_word-bias.ensures, t.word_at.ensures, w.word_at-named.ensures, b.word_at-2.ensures, d.word_at-3.ensures, e.word_at-4.ensures) at
+    (c.format_with.ensures
+    ∙ ap (format_with b.word_at-2.result d.word_at-3.result e.word_at-4.result (eqb w.word_at-named.result 1))
+    (read s.signed_word-bias.result (search rules)))
 
-pub format-at-spec : {M : Type 1} → statement M
-format-at-spec =
+pub format_at_spec : {M : Type 1} → statement M
+format_at_spec =
     tie.close
     (tie.spec
     (λ c. search rules)

@@ -6,14 +6,14 @@ use Rattle.totals.specs.Entered.{biased_from}
 use Rattle.totals.proofs.entry.format_with.Statement.{statement}
 use Rattle.totals.proofs.entry.format_with.Tie as tie
 
-returns : tie.Need-returns
+returns : tie.Need-returns-then-named
 returns c =
     let s = c.before in
     let a = s.args in
-    rw c.if1.true (ap (biased_from a.kind a.exponent_bits a.width) (read a.bias s.well_formed.1.1.1.1.0))
+    rw c.if-named.true (ap (biased_from a.kind a.exponent_bits a.width) (read a.bias s.well_formed.1.1.1.1.0))
 
-returns-2 : tie.Need-returns-2
-returns-2 c = rw c.if1.false
+returns-2 : tie.Need-returns
+returns-2 c = rw c.if-named.false
 
-pub format-with-spec : {M : Type 1} → statement M
-format-with-spec = tie.close (tie.spec returns returns-2)
+pub format_with_spec : {M : Type 1} → statement M
+format_with_spec = tie.close (tie.spec returns returns-2)

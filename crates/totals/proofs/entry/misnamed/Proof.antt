@@ -14,14 +14,14 @@ or-false : (b : Bool) → b ≡ (b || false)
 or-false true = refl
 or-false false = refl
 
-returns : tie.Need-returns
+returns : tie.Need-returns-then-bias_named-eq0
 returns c =
     let t = c.before in
     let s = t.before in
-    rw t.if1.true (ap (λ (n : ℕ). not (eqb n 0)) (c.magnitude.ensures ∙ ap nat_abs (read s.args.bias s.ranges.bias.sfits)))
+    rw t.if-bias_named-eq0.true (ap (λ (n : ℕ). not (eqb n 0)) (c.magnitude.ensures ∙ ap nat_abs (read s.args.bias s.ranges.bias.sfits)))
 
-returns-2 : tie.Need-returns-2
-returns-2 c = rw (ne_eqb _ 0 c.if1.false) (or-false _)
+returns-2 : tie.Need-returns
+returns-2 c = rw (ne_eqb _ 0 c.if-bias_named-eq0.false) (or-false _)
 
-pub misnamed-spec : {M : Type 1} → statement M
-misnamed-spec = tie.close (tie.spec (λ c κs. search rules) returns returns-2)
+pub misnamed_spec : {M : Type 1} → statement M
+misnamed_spec = tie.close (tie.spec (λ c κs. search rules) returns returns-2)

@@ -9,7 +9,7 @@ use Rattle.totals.proofs.entry.named_answer.Statement.{statement}
 use Rattle.totals.proofs.entry.named_answer.Tie as tie
 
 -- once the target's own naming is looked at
-abbrev asked : tie.After-misnamed → tie.Else1
+abbrev asked : tie.After-misnamed → tie.Else-bad
 asked m = let t = m.before.before in t.before.before
 
 abbrev entry : tie.After-misnamed → tie.Start
@@ -20,23 +20,23 @@ naming m =
     let s = m.before in
     let t = s.before in
     m.misnamed.ensures
-    ∙ ap₂ misnamed t.before.word_at.ensures
-    (read s.signed_word.result (search rules) ∙ s.signed_word.ensures ∙ ap signed_word t.word-at2.ensures)
+    ∙ ap₂ misnamed t.word_at-named.ensures
+    (read s.signed_word-bias.result (search rules) ∙ s.signed_word-bias.ensures ∙ ap signed_word t.word_at.ensures)
 
-returns : tie.Need-returns
-returns c = rw c.before.if1.true c.refused.ensures
+returns : tie.Need-returns-then-bad
+returns c = rw c.if-bad.true c.refused.ensures
 
-returns-2 : tie.Need-returns-2
+returns-2 : tie.Need-returns-then-misnamed
 returns-2 c =
     let t = c.before in
     let m = t.before in
-    rw ((asked m).if1.false, sym (naming m) ∙ t.if2.true) c.refused2.ensures
+    rw ((asked m).if-bad.false, sym (naming m) ∙ t.if-misnamed.true) c.refused-then-misnamed.ensures
 
-returns-3 : tie.Need-returns-3
-returns-3 c = let m = c.before in rw ((asked m).if1.false, sym (naming m) ∙ c.if2.false)
+returns-3 : tie.Need-returns
+returns-3 c = let m = c.before in rw ((asked m).if-bad.false, sym (naming m) ∙ c.if-misnamed.false)
 
-pub named-answer-spec : {M : Type 1} → statement M
-named-answer-spec =
+pub named_answer_spec : {M : Type 1} → statement M
+named_answer_spec =
     tie.close
     (tie.spec
     (λ c κs. search rules)

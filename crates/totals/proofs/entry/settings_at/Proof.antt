@@ -15,17 +15,17 @@ returns c =
     let w = t.before in
     rw (
       w.word_at.ensures,
-      t.word-at2.ensures,
-      b.word-at3.ensures,
-      d.word-at4.ensures,
-      e.word-at5.ensures,
-      f.word-at6.ensures,
-      g.word-at7.ensures,
-      h.word-at8.ensures,
+      t.word_at-2.ensures,
+      b.word_at-3.ensures,
+      d.word_at-4.ensures,
+      e.word_at-5.ensures,
+      f.word_at-6.ensures,
+      g.word_at-7.ensures,
+      h.word_at-8.ensures,
     ) at c.settings.ensures
 
-pub settings-at-spec : {M : Type 1} → statement M
-settings-at-spec =
+pub settings_at_spec : {M : Type 1} → statement M
+settings_at_spec =
     tie.close
     (tie.spec
     (λ c. search rules)

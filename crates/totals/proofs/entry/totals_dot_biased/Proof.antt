@@ -4,7 +4,7 @@ use Rattle.limbs.proofs.Signs.{read}
 use Rattle.totals.proofs.entry.totals_dot_biased.Statement.{statement}
 use Rattle.totals.proofs.entry.totals_dot_biased.Tie as tie
 
-abbrev entry : tie.After-enter-dot → tie.Start
+abbrev entry : tie.After-enter_dot → tie.Start
 entry t = let f = t.before.before.before in f.before.before
 
 -- the bias is the number that its 64 bits are read as
@@ -12,7 +12,7 @@ returns : tie.Need-returns
 returns c =
     let t = c.before.before in
     let s = entry t in
-    rw (read s.args.bias s.well_formed.1.1.1.0) at t.enter-dot.ensures
+    rw (read s.args.bias s.well_formed.1.1.1.0) at t.enter_dot.ensures
 
-pub totals-dot-biased-spec : {M : Type 1} → statement M
-totals-dot-biased-spec = tie.close (tie.spec (λ c κs. search rules) (λ c. search rules) returns)
+pub totals_dot_biased_spec : {M : Type 1} → statement M
+totals_dot_biased_spec = tie.close (tie.spec (λ c κs. search rules) (λ c. search rules) returns)

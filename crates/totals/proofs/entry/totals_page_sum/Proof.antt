@@ -18,42 +18,42 @@ unfolding binary64
 format = refl
 
 -- where the span is not refused
-abbrev entry : tie.Else2 → tie.Start
+abbrev entry : tie.Else-number-ne0 → tie.Start
 entry e = let t = e.before.before in t.before.before.before
 
-none : (e : tie.Else2) → let a = (entry e).args in page_refusal a.page.now a.start a.end ≡ 0
-none e = sym e.before.span-refusal.ensures ∙ e.if2.false
+none : (e : tie.Else-number-ne0) → let a = (entry e).args in page_refusal a.page.now a.start a.end ≡ 0
+none e = sym e.span_refusal-number.ensures ∙ e.if-number-ne0.false
 
-returns : tie.Need-returns
-returns c = page-short _ _ _ _ _ _ c.if1.true
+returns : tie.Need-returns-then-answer-lt24
+returns c = page-short _ _ _ _ _ _ c.if-answer-lt24.true
 
-returns-2 : tie.Need-returns-2
-returns-2 c = let t = c.before in page-refused _ _ _ _ _ _ t.before.if1.false _ t.span-refusal.ensures c.if2.true
+returns-2 : tie.Need-returns-then-number-ne0
+returns-2 c = let t = c.before in page-refused _ _ _ _ _ _ t.if-answer-lt24.false _ t.span_refusal-number.ensures c.if-number-ne0.true
 
-mul-from : tie.Need-overflow-mul-from
+mul-from : tie.Need-overflow_mul-from
 mul-from c = record { fits = omega (arith, span-order _ _ _ (none c), span-few _ _ _ (none c)) }
 
-mul-to : tie.Need-overflow-mul-to
+mul-to : tie.Need-overflow_mul-to
 mul-to c = record { fits = omega (arith, span-few _ _ _ (none c)) }
 
-sub-enter-sum : tie.Need-overflow-sub-enter-sum
+sub-enter-sum : tie.Need-slice_bounds-enter_sum-count
 sub-enter-sum c = omega (arith, span-order _ _ _ (none c))
 
-part-enter-sum-start : tie.Need-slice-bounds-enter-sum-start
+part-enter-sum-start : tie.Need-slice_bounds-enter_sum-start
 part-enter-sum-start c = omega (arith, span-order _ _ _ (none c))
 
-part-enter-sum-end : tie.Need-slice-bounds-enter-sum-end
+part-enter-sum-end : tie.Need-slice_bounds-enter_sum-end
 part-enter-sum-end c = span-long _ _ _ (none c)
 
-returns-3 : tie.Need-returns-3
+returns-3 : tie.Need-returns
 returns-3 c =
     let t = c.before.before in
     let e = t.before.before.before in
-    let p = sum-apart 0 11 64 false (pos 0) _ _ _ _ _ _ (λ k. omega (arith, k)) t.enter-sum.ensures in
-    span-enters _ _ _ (none e) _ _ _ format _ e.before.before.if1.false _ _ p
+    let p = sum-apart 0 11 64 false (pos 0) _ _ _ _ _ _ (λ k. omega (arith, k)) t.enter_sum.ensures in
+    span-enters _ _ _ (none e) _ _ _ format _ e.if-answer-lt24.false _ _ p
 
-pub totals-page-sum-spec : {M : Type 1} → statement M
-totals-page-sum-spec =
+pub totals_page_sum_spec : {M : Type 1} → statement M
+totals_page_sum_spec =
     tie.close
     (tie.spec
     returns

@@ -25,60 +25,60 @@ bias-read : (s : tie.Start) → to_z w64 (of_z w64 s.args.bias) ≡ s.args.bias
 bias-read s = read s.args.bias s.ranges.bias.sfits
 
 -- where the bias is named as it should be
-named : (e : tie.Else1) → let a = (entry e.before).args in misnamed a.bias_named a.bias ≡ false
-named e = ap (misnamed (entry e.before).args.bias_named) (sym (bias-read (entry e.before))) ∙ sym e.before.misnamed.ensures ∙ e.if1.false
+named : (e : tie.Else-misnamed) → let a = (entry e.before).args in misnamed a.bias_named a.bias ≡ false
+named e = ap (misnamed (entry e.before).args.bias_named) (sym (bias-read (entry e.before))) ∙ sym e.misnamed.ensures ∙ e.if-misnamed.false
 
-abbrev begun : tie.After-pence-of-sum → tie.Else1
+abbrev begun : tie.After-pence_of_sum-p → tie.Else-misnamed
 begun t = t.before.before
 
-pence-is : (t : tie.After-pence-of-sum) → let a = (entry (begun t).before).args in
-    pence_record t.pence-of-sum.result ≡ sum_pence (format_by a.kind a.exponent_bits a.width a.bias_named a.bias) a.values.now
+pence-is : (t : tie.After-pence_of_sum-p) → let a = (entry (begun t).before).args in
+    pence_record t.pence_of_sum-p.result ≡ sum_pence (format_by a.kind a.exponent_bits a.width a.bias_named a.bias) a.values.now
 pence-is t =
     let s = entry (begun t).before in
     let a = s.args in
-    t.pence-of-sum.ensures
+    t.pence_of_sum-p.ensures
     ∙ ap (λ (f : Format). sum_pence f a.values.now)
-    (t.before.format-with.ensures ∙ ap (format_with a.kind a.exponent_bits a.width (eqb a.bias_named 1)) (bias-read s))
+    (t.format_with-f.ensures ∙ ap (format_with a.kind a.exponent_bits a.width (eqb a.bias_named 1)) (bias-read s))
 
-small : (t : tie.After-pence-of-sum) → (t.pence-of-sum.result.refusal < 256) × (t.pence-of-sum.result.place < 4294967296)
+small : (t : tie.After-pence_of_sum-p) → (t.pence_of_sum-p.result.refusal < 256) × (t.pence_of_sum-p.result.place < 4294967296)
 small t =
     let a = (entry (begun t).before).args in
     code-small a.kind a.exponent_bits a.width a.bias_named a.bias a.values.now a.figure.now (named (begun t)) _ (pence-is t)
 
-returns : tie.Need-returns
+returns : tie.Need-returns-then-misnamed
 returns c =
     let s = entry c.before in
     let a = s.args in
     misnamed-entry a.kind a.exponent_bits a.width a.bias_named a.bias a.values.now a.figure.now
-    (ap (misnamed a.bias_named) (sym (bias-read s)) ∙ sym c.before.misnamed.ensures ∙ c.if1.true)
+    (ap (misnamed a.bias_named) (sym (bias-read s)) ∙ sym c.misnamed.ensures ∙ c.if-misnamed.true)
 
-mul-result : tie.Need-overflow-mul-result
+mul-result : tie.Need-overflow_mul-result
 mul-result c = omega (arith, (small c.before.before.before).1)
 
-add-result : tie.Need-overflow-add-result
+add-result : tie.Need-overflow_add-result
 add-result c = let t = c.before.before.before.before in omega (arith, (small t).0, (small t).1)
 
-returns-2 : tie.Need-returns-2
+returns-2 : tie.Need-returns-then-p-ne0
 returns-2 c =
     let r = c.before.before in
     let t = r.before.before in
     let a = (entry (begun t).before).args in
     refused-entry a.kind a.exponent_bits a.width a.bias_named a.bias a.values.now a.figure.now (named (begun t)) _ (pence-is t)
-    r.if2.true
+    r.if-p-ne0.true
 
-returns-3 : tie.Need-returns-3
+returns-3 : tie.Need-returns
 returns-3 c =
     let r = c.before in
     let t = r.before.before in
     let a = (entry (begun t).before).args in
-    let n = t.pence-of-sum.result.figure in
+    let n = t.pence_of_sum-p.result.figure in
     subst (EntersFigure (pence_entry a.kind a.exponent_bits a.width a.bias_named a.bias a.values.now a.figure.now) 0)
     (sym (read n (search rules)))
     (accepted-entry a.kind a.exponent_bits a.width a.bias_named a.bias a.values.now a.figure.now (named (begun t)) _ (pence-is t)
-    r.if2.false)
+    r.if-p-ne0.false)
 
-pub totals-pence-spec : {M : Type 1} → statement M
-totals-pence-spec =
+pub totals_pence_spec : {M : Type 1} → statement M
+totals_pence_spec =
     tie.close
     (tie.spec
     (λ c κs. search rules)

@@ -40,59 +40,59 @@ settings s =
     a.precision
 
 -- once the table is worked out
-abbrev made : tie.After-table → tie.After-settings
+abbrev made : tie.After-table-grand → tie.After-settings-c
 made t = t.before.before.before
 
-abbrev begun : tie.After-table → tie.Start
+abbrev begun : tie.After-table-grand → tie.Start
 begun t = let f = (made t).before in entry f.before.before
 
-format : (t : tie.After-table) → let a = (begun t).args in
-    format_of (made t).before.format-with.result ≡ format_by a.kind a.exponent_bits a.width a.bias_named a.bias
+format : (t : tie.After-table-grand) → let a = (begun t).args in
+    format_of (made t).format_with-f.result ≡ format_by a.kind a.exponent_bits a.width a.bias_named a.bias
 format t =
     let s = begun t in
     let a = s.args in
-    (made t).before.format-with.ensures ∙ ap (format_with a.kind a.exponent_bits a.width (eqb a.bias_named 1)) (bias-read s)
+    (made t).format_with-f.ensures ∙ ap (format_with a.kind a.exponent_bits a.width (eqb a.bias_named 1)) (bias-read s)
 
-module _ (t : tie.After-table) (r k : List ℕ) where
+module _ (t : tie.After-table-grand) (r k : List ℕ) where
   -- the table in a format and under settings
   abbrev In : Format → Settings → Type 0
   In f c =
       let a = (begun t).args in
-      Tables (table_answer f c a.rows a.columns a.cells.now a.row_totals.now a.column_totals.now) t.table.result r k
+      Tables (table_answer f c a.rows a.columns a.cells.now a.row_totals.now a.column_totals.now) t.table-grand.result r k
 
-  tabled : In (format_of (made t).before.format-with.result) (settings_of (made t).settings.result)
+  tabled : In (format_of (made t).format_with-f.result) (settings_of (made t).settings-c.result)
       → let a = (begun t).args in In (format_by a.kind a.exponent_bits a.width a.bias_named a.bias) (settings (begun t))
-  tabled = subst₂ In (format t) (made t).settings.ensures
+  tabled = subst₂ In (format t) (made t).settings-c.ensures
 
 -- and its record is to be written
-abbrev worked : tie.After-enter-arg → tie.After-table
+abbrev worked : tie.After-enter-arg-1 → tie.After-table-grand
 worked a = let k = a.before.before in k.before.before.before
 
-returns : tie.Need-returns
-returns c = table-short _ _ _ _ _ _ _ _ _ _ _ _ c.if1.true
+returns : tie.Need-returns-then-answer-lt24
+returns c = table-short _ _ _ _ _ _ _ _ _ _ _ _ c.if-answer-lt24.true
 
-returns-2 : tie.Need-returns-2
-returns-2 c = let m = c.before in table-misnamed _ _ _ _ _ _ _ _ _ _ _ _ m.before.if1.false (naming m _ c.if2.true)
+returns-2 : tie.Need-returns-then-misnamed
+returns-2 c = let m = c.before in table-misnamed _ _ _ _ _ _ _ _ _ _ _ _ m.if-answer-lt24.false (naming m _ c.if-misnamed.true)
 
 enter-requires : tie.Need-enter-requires
 enter-requires c κs =
     let t = worked c in
-    let is = sym (tabled t _ _ t.table.ensures).grand-is in
+    let is = sym (tabled t _ _ t.table-grand.ensures).grand-is in
     let small = subst Small is (table-small _ _ _ _ _ _ _) in
     let fields = subst Fields is (table-fields _ _ _ _ _ _ _) in
     let m = (made t).before.before.before in
-    record { room = m.before.if1.left; number = small.number; place = small.place; flags = fields.flags; side = fields.side }
+    record { room = m.if-answer-lt24.false; number = small.number; place = small.place; flags = fields.flags; side = fields.side }
 
-returns-3 : tie.Need-returns-3
+returns-3 : tie.Need-returns
 returns-3 c =
     let n = c.before.before in
     let t = worked n.before in
     let e = (made t).before.before in
-    table-enters _ _ _ _ _ _ _ _ _ _ _ _ e.before.before.if1.left (naming e.before _ e.if2.left) _ _ _
-    (tabled t _ _ t.table.ensures) _ _ n.enter.ensures
+    table-enters _ _ _ _ _ _ _ _ _ _ _ _ e.if-answer-lt24.false (naming e.before _ e.if-misnamed.false) _ _ _
+    (tabled t _ _ t.table-grand.ensures) _ _ n.enter.ensures
 
-pub totals-table-spec : {M : Type 1} → statement M
-totals-table-spec =
+pub totals_table_spec : {M : Type 1} → statement M
+totals_table_spec =
     tie.close
     (tie.spec
     returns

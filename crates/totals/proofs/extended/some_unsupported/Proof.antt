@@ -27,23 +27,23 @@ told s =
     any-tens unsupported (left s) (right s) ((tens-values s.args.left.now).0 ∙ sym s.requires ∙ sym (tens-values s.args.right.now).0)
     (eqb s.args.u 3)
 
-abbrev entry : tie.After-any-unsupported → tie.Start
+abbrev entry : tie.After-any_unsupported → tie.Start
 entry t = t.before.before.before
 
-returns : tie.Need-returns
-returns c = let t = c.before in sym (told (entry t) ∙ rw (sym t.any-unsupported.ensures ∙ c.if1.true))
+returns : tie.Need-returns-then-any_unsupported
+returns c = let t = c.before in sym (told (entry t) ∙ rw (sym t.any_unsupported.ensures ∙ c.if-any_unsupported.true))
 
-returns-2 : tie.Need-returns-2
+returns-2 : tie.Need-returns-then-u-ne3
 returns-2 c =
     let e = c.before in
     let t = e.before in
-    sym (told (entry t) ∙ rw (sym t.any-unsupported.ensures ∙ e.if1.false, ne_eqb _ 3 c.if2.true))
+    sym (told (entry t) ∙ rw (sym t.any_unsupported.ensures ∙ e.if-any_unsupported.false, ne_eqb _ 3 c.if-u-ne3.true))
 
-returns-3 : tie.Need-returns-3
+returns-3 : tie.Need-returns
 returns-3 c =
     let e = c.before.before in
     let t = e.before in
-    c.any-unsupported2.ensures ∙ sym (told (entry t) ∙ rw (sym t.any-unsupported.ensures ∙ e.if1.false, eq-eqb _ 3 c.before.if2.false))
+    c.any_unsupported-2.ensures ∙ sym (told (entry t) ∙ rw (sym t.any_unsupported.ensures ∙ e.if-any_unsupported.false, eq-eqb _ 3 c.if-u-ne3.false))
 
-pub some-unsupported-spec : {M : Type 1} → statement M
-some-unsupported-spec = tie.close (tie.spec (λ c κs. search rules) returns returns-2 (λ c κs. search rules) returns-3)
+pub some_unsupported_spec : {M : Type 1} → statement M
+some_unsupported_spec = tie.close (tie.spec (λ c κs. search rules) returns returns-2 (λ c κs. search rules) returns-3)

@@ -17,7 +17,7 @@ use Rattle.totals.proofs.Tens.{special-asks, special-told, unsupported-told, ten
 use Rattle.totals.proofs.extended.total.Statement.{statement}
 use Rattle.totals.proofs.extended.total.Tie as tie
 
-abbrev entry : tie.After-some-unsupported → tie.Start
+abbrev entry : tie.After-some_unsupported → tie.Start
 entry t = t.before.before.before
 
 abbrev left : tie.Start → List ℕ
@@ -26,43 +26,43 @@ left s = tens_in s.args.left.now
 abbrev right : tie.Start → List ℕ
 right s = tens_in s.args.right.now
 
-scan-requires : tie.Need-scan-requires
+scan-requires : tie.Need-scan-s-requires
 scan-requires c κs = (omega arith, omega (arith, (entry c.before).requires.0))
 
 -- some element is subnormal
-subnormal : (t : tie.After-scan) → let s = entry t.before.before in
-    t.scan.result.subnormal ≡ any subnormal_extended (all_tens (eqb s.args.u 3) (left s) (right s))
+subnormal : (t : tie.After-scan-s) → let s = entry t.before.before in
+    t.scan-s.result.subnormal ≡ any subnormal_extended (all_tens (eqb s.args.u 3) (left s) (right s))
 subnormal t =
     let s = entry t.before.before in
-    rw (tens-all _ s.args.left.now refl, tens-all _ s.args.right.now (sym s.requires.0)) at t.scan.ensures.subnormal
+    rw (tens-all _ s.args.left.now refl, tens-all _ s.args.right.now (sym s.requires.0)) at t.scan-s.ensures.subnormal
 
-abbrev scanned : tie.After-default-nan → tie.After-scan
+abbrev scanned : tie.After-default_nan → tie.After-scan-s
 scanned d = d.before.before
 
 special-requires : tie.Need-special-requires
 special-requires c κs =
     let s = entry (scanned c).before.before in
-    special-asks (format_of c.before.extended.result) c.before.extended.ensures (settings_of s.args.c) _ c.default-nan.ensures
+    special-asks (format_of c.extended.result) c.extended.ensures (settings_of s.args.c) _ c.default_nan.ensures
 
-returns : tie.Need-returns
+returns : tie.Need-returns-then-some_unsupported
 returns c =
     let d = c.before in
     let t = scanned d in
     let u = t.before in
     let s = entry u.before in
     let env = settings_of s.args.c in
-    special-told (format_of d.before.extended.result) d.before.extended.ensures env _ d.default-nan.ensures _ _ c.special.ensures
+    special-told (format_of d.extended.result) d.extended.ensures env _ d.default_nan.ensures _ _ c.special.ensures
     ∙ ap (λ (b : Bool). with_spread (special extended b (default_nan_of env) true)) (subnormal t)
-    ∙ unsupported-told env (summand_of s.args.u) (left s) (right s) (eqb s.args.u 3) (sym u.before.some-unsupported.ensures ∙ u.if1.taken)
+    ∙ unsupported-told env (summand_of s.args.u) (left s) (right s) (eqb s.args.u 3) (sym u.some_unsupported.ensures ∙ u.if-some_unsupported.true)
 
 tens-requires : tie.Need-tens-requires
-tens-requires c κs = let s = entry c.before in (s.requires.0, (sym c.before.some-unsupported.ensures ∙ c.if1.false, s.requires.1))
+tens-requires c κs = let s = entry c.before in (s.requires.0, (sym c.some_unsupported.ensures ∙ c.if-some_unsupported.false, s.requires.1))
 
-returns-2 : tie.Need-returns-2
+returns-2 : tie.Need-returns
 returns-2 c = c.tens.ensures
 
-pub total-spec : {M : Type 1} → statement M
-total-spec =
+pub total_spec : {M : Type 1} → statement M
+total_spec =
     tie.close
     (tie.spec
     (λ c κs. search rules)

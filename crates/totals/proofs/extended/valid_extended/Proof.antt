@@ -5,19 +5,19 @@ use Rattle.totals_spec.specs.Extended.{valid_extended}
 use Rattle.totals.proofs.extended.valid_extended.Statement.{statement}
 use Rattle.totals.proofs.extended.valid_extended.Tie as tie
 
-returns : tie.Need-returns
+returns : tie.Need-returns-then-f-ne-EXPONENT_BITS
 unfolding valid_extended
-returns c = rw (ne_eqb _ 15 c.if1.true)
+returns c = rw (ne_eqb _ 15 c.if-f-ne-EXPONENT_BITS.true)
 
-returns-2 : tie.Need-returns-2
+returns-2 : tie.Need-returns-then-f-ne-WIDTH
 unfolding valid_extended
-returns-2 c = rw (eq-eqb _ 15 c.before.before.if1.false, ne_eqb _ 80 c.if2.true)
+returns-2 c = rw (eq-eqb _ 15 c.if-f-ne-EXPONENT_BITS.false, ne_eqb _ 80 c.if-f-ne-WIDTH.true)
 
-returns-3 : tie.Need-returns-3
+returns-3 : tie.Need-returns
 unfolding valid_extended
 returns-3 c =
     let t = c.before in
-    rw (eq-eqb _ 15 t.before.before.if1.false, eq-eqb _ 80 t.if2.false) c.unnamed.ensures
+    rw (eq-eqb _ 15 t.if-f-ne-EXPONENT_BITS.false, eq-eqb _ 80 t.if-f-ne-WIDTH.false) c.unnamed.ensures
 
-pub valid-extended-spec : {M : Type 1} → statement M
-valid-extended-spec = tie.close (tie.spec returns returns-2 (λ c κs. search rules) returns-3)
+pub valid_extended_spec : {M : Type 1} → statement M
+valid_extended_spec = tie.close (tie.spec returns returns-2 (λ c κs. search rules) returns-3)

@@ -30,7 +30,7 @@ gives-right s w = let b = s.args.right.now in whole-gives 1 w b (sym (values_len
 bounds : (s : tie.Start) → FormatBounds (format_of s.args.f)
 bounds s = walk-format (eqb s.args.u 3) (format_of s.args.f) (settings_of s.args.c) s.args.u _ s.requires.1
 
-abbrev entry : tie.After-listed-arg → tie.Start
+abbrev entry : tie.After-listed-arg-1 → tie.Start
 entry t = let k = t.before.before in k.before.before
 
 listed-requires : tie.Need-listed-requires
@@ -50,9 +50,9 @@ returns c =
     let r = c.before in
     let l = r.before in
     let s = entry l.before in
-    c.answer-of.ensures ∙ ap (answer_in false) r.report-of.ensures
+    c.answer_of.ensures ∙ ap (answer_in false) r.report_of.ensures
     ∙ total-told (format_of s.args.f) (settings_of s.args.c) s.args.u (length s.args.left.now / 8) s.requires.1 _ _ _
     (rw (narrow (format_of s.args.f) (bounds s), (gives_left s _).are, (gives-right s _).are) at l.listed.ensures.0)
 
-pub bytes-spec : {M : Type 1} → statement M
-bytes-spec = tie.close (tie.spec (λ c. search rules) (λ c. search rules) listed-requires (λ c κs. search rules) (λ c κs. search rules) returns)
+pub bytes_spec : {M : Type 1} → statement M
+bytes_spec = tie.close (tie.spec (λ c. search rules) (λ c. search rules) listed-requires (λ c κs. search rules) (λ c κs. search rules) returns)

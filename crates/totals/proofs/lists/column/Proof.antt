@@ -39,8 +39,8 @@ are s b = column-strided s.args.count s.args.step s.args.first s.args.cells.now
 bounds : (s : tie.Start) → FormatBounds (format_of s.args.f)
 bounds s = walk-format false (format_of s.args.f) (settings_of s.args.c) 0 _ s.requires.1
 
-abbrev entry : tie.After-listed-arg2 → tie.Start
-entry t = t.before.before.before
+abbrev entry : tie.After-listed-arg-4-1 → tie.Start
+entry t = let k = t.before.before.before in k.before.before
 
 listed-requires : tie.Need-listed-requires
 listed-requires c κs =
@@ -55,7 +55,7 @@ returns c =
     let r = c.before in
     let l = r.before in
     let s = entry l.before in
-    c.answer-of.ensures ∙ ap (answer_in false) r.report-of.ensures ∙ rw (narrow (format_of s.args.f) (bounds s), are s _) at l.listed.ensures.0
+    c.answer_of.ensures ∙ ap (answer_in false) r.report_of.ensures ∙ rw (narrow (format_of s.args.f) (bounds s), are s _) at l.listed.ensures.0
 
-pub column-spec : {M : Type 1} → statement M
-column-spec = tie.close (tie.spec (λ c. search rules) (λ c. search rules) listed-requires (λ c κs. search rules) (λ c κs. search rules) returns)
+pub column_spec : {M : Type 1} → statement M
+column_spec = tie.close (tie.spec listed-requires (λ c κs. search rules) (λ c κs. search rules) returns)

@@ -5,12 +5,12 @@ use Rattle.totals.proofs.lists.keep.Tie as tie
 
 returns : tie.Need-returns
 returns c =
-    let s = c.before.args in
+    let s = c.args in
     λ i. record {
       report = s.report;
       rest = s.rest;
       top = s.s.top;
-      special = c.met-special.ensures i;
+      special = c.met_special.ensures i;
       subnormal = s.s.subnormal;
       positive_zero = s.s.positive_zero;
       negative_zero = s.s.negative_zero;

@@ -46,64 +46,64 @@ many-right : (s : tie.Start) → s.args.count ≡ length (right s)
 many-right s = sym (read_length (wide (form s)) (source s) s.args.right_words.now s.args.right_bytes.now)
 
 -- once the walk is searched
-abbrev entry : tie.After-shared-slice-known4 → tie.Start
+abbrev entry : tie.After-shared_slice_known-4-1 → tie.Start
 entry k = k.before.before.before.before
 
-abbrev begun : tie.After-walk-stray → tie.Start
+abbrev begun : tie.After-walk_stray → tie.Start
 begun t = entry t.before
 
-walk-stray-requires : tie.Need-walk-stray-requires
+walk-stray-requires : tie.Need-walk_stray-requires
 walk-stray-requires c κs =
     let s = entry c in
     let b = known-range (form s) (wide (form s)) s.requires.0.0 in
     (omega (arith, b.w-ge), (s.requires.1.0.0, s.requires.1.0.1))
 
-found : (t : tie.After-walk-stray) → let s = begun t in FoundBy (wide (form s)) (eqb (u s) 3) t.walk-stray.result (form s).W (left s) (right s)
+found : (t : tie.After-walk_stray) → let s = begun t in FoundBy (wide (form s)) (eqb (u s) 3) t.walk_stray.result (form s).W (left s) (right s)
 found t = go (wide (form (begun t))) refl
   where
-    go : (w : Bool) → let s = begun t in wide (form s) ≡ w → FoundBy w (eqb (u s) 3) t.walk-stray.result (form s).W
+    go : (w : Bool) → let s = begun t in wide (form s) ≡ w → FoundBy w (eqb (u s) 3) t.walk_stray.result (form s).W
         (read_as w (source s) s.args.left_words.now s.args.left_bytes.now)
         (read_as w (source s) s.args.right_words.now s.args.right_bytes.now)
-    go true e = t.walk-stray.ensures.1 (omega (arith, ltb-true 64 (form (begun t)).W e))
-    go false e = t.walk-stray.ensures.0
+    go true e = t.walk_stray.ensures.1 (omega (arith, ltb-true 64 (form (begun t)).W e))
+    go false e = t.walk_stray.ensures.0
 
 total-requires : tie.Need-total-requires
 total-requires c κs =
-    let t = c.before.before in
+    let t = c.before in
     let s = begun t in (
       s.requires.0,
       (
         s.requires.1.0,
         list-asks (form s) (env s) (u s) (left s) (right s) (many-left s) (many-right s) (eqb (u s) 4) (wide (form s)) refl s.requires.1.1 _ (found t)
-            c.enum_told.given.1,
+            c.in-Nothing.is,
       ),
     )
 
-returns : tie.Need-returns
+returns : tie.Need-returns-in-At
 returns c =
     let r = c.before in
-    let i = r.before.before in
-    let t = i.before.before in
+    let i = r.before in
+    let t = i.before in
     let s = begun t in
     let told = r.strayed.ensures in
-    rw c.no_Walk.ensures (
+    rw c.no_walk.ensures (
       list-strayed (form s) (env s) (u s) (left s) (right s) (many-left s) (many-right s) (eqb (u s) 4) (wide (form s)) refl s.requires.1.1 _ _ (found t)
-          i.i.given.1 _ told,
+          i.in-At.is _ told,
       λ z w n. absurd (strayed-refused r.strayed.result _ told.0 n),
     )
 
-returns-2 : tie.Need-returns-2
+returns-2 : tie.Need-returns-in-Nothing
 returns-2 c =
     let e = c.before in
-    let t = e.before.before in
+    let t = e.before in
     let s = begun t in (
       list-told (form s) (env s) (u s) (left s) (right s) (many-left s) (many-right s) (eqb (u s) 4) (wide (form s)) refl s.requires.1.1 _ (found t)
-          e.enum_told.given.1 _ c.total.ensures.0,
+          e.in-Nothing.is _ c.total.ensures.0,
       λ z w n. c.total.ensures.1 z w,
     )
 
-pub listed-spec : {M : Type 1} → statement M
-listed-spec =
+pub listed_spec : {M : Type 1} → statement M
+listed_spec =
     tie.close
     (tie.spec
     walk-stray-requires

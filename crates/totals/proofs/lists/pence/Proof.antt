@@ -17,8 +17,8 @@ use Rattle.totals.proofs.lists.pence.Tie as tie
 gives : (s : tie.Start) (b : List ℕ) → Gives (source_of 0 0 1 (length s.args.values.now)) s.args.values.now b s.args.values.now
 gives s b = whole-gives 0 s.args.values.now b refl (omega arith)
 
-abbrev entry : tie.After-listed-arg2 → tie.Start
-entry t = t.before.before.before
+abbrev entry : tie.After-listed-arg-4-1 → tie.Start
+entry t = let k = t.before.before.before in k.before.before
 
 listed-requires : tie.Need-listed-requires
 listed-requires c κs =
@@ -32,7 +32,7 @@ returns c =
     let r = c.before in
     let l = r.before in
     let s = entry l.before in
-    c.pence-of.ensures ∙ ap pence_in r.report-of.ensures ∙ rw (narrow (format_of s.args.f) s.requires.0, (gives s _).are) at l.listed.ensures.0
+    c.pence_of.ensures ∙ ap pence_in r.report_of.ensures ∙ rw (narrow (format_of s.args.f) s.requires.0, (gives s _).are) at l.listed.ensures.0
 
-pub pence-spec : {M : Type 1} → statement M
-pence-spec = tie.close (tie.spec (λ c. search rules) (λ c. search rules) listed-requires (λ c κs. search rules) (λ c κs. search rules) returns)
+pub pence_spec : {M : Type 1} → statement M
+pence_spec = tie.close (tie.spec listed-requires (λ c κs. search rules) (λ c κs. search rules) returns)

@@ -25,7 +25,7 @@ gives s w = let b = s.args.values.now in whole-gives 1 w b (sym (values_length b
 bounds : (s : tie.Start) → FormatBounds (format_of s.args.f)
 bounds s = walk-format false (format_of s.args.f) (settings_of s.args.c) 0 _ s.requires
 
-abbrev entry : tie.After-listed-arg → tie.Start
+abbrev entry : tie.After-listed-arg-1 → tie.Start
 entry t = t.before.before.before
 
 listed-requires : tie.Need-listed-requires
@@ -47,5 +47,5 @@ returns c =
     let o = rw (narrow f (bounds s), (gives s _).are) at c.listed.ensures in
     record { told = o.0; keeps = o.1 refl refl }
 
-pub sum-walk-spec : {M : Type 1} → statement M
-sum-walk-spec = tie.close (tie.spec (λ c. search rules) (λ c. search rules) listed-requires returns)
+pub sum_walk_spec : {M : Type 1} → statement M
+sum_walk_spec = tie.close (tie.spec (λ c. search rules) (λ c. search rules) listed-requires returns)

@@ -13,10 +13,10 @@ use Rattle.totals.specs.Reported.{answer_in}
 use Rattle.totals.proofs.lists.tens.Statement.{statement}
 use Rattle.totals.proofs.lists.tens.Tie as tie
 
-abbrev begun : tie.After-listed-arg → tie.After-extended
+abbrev begun : tie.After-listed-arg-1 → tie.After-extended-f
 begun c = c.before.before
 
-abbrev entry : tie.After-extended → tie.Start
+abbrev entry : tie.After-extended-f → tie.Start
 entry x = x.before.before.before
 
 listed-requires : tie.Need-listed-requires
@@ -24,17 +24,17 @@ listed-requires c κs =
     let x = begun c in
     let s = entry x in
     let a = s.args in
-    let f = format_of x.extended.result in
+    let f = format_of x.extended-f.result in
     let l = a.left.now in
     let r = a.right.now in (
-      tens-there f x.extended.ensures (settings_of a.c) a.u l r s.requires.0,
+      tens-there f x.extended-f.ensures (settings_of a.c) a.u l r s.requires.0,
       (
         (
           tens-within (length l / 10) _ l refl (omega arith),
           tens-within (length l / 10) _ r (sym s.requires.0) (omega arith),
           λ _. whole-straight 1 _,
         ),
-        tens-asked f x.extended.ensures (settings_of a.c) a.u l r s.requires.0 _ s.requires.1.1 s.requires.1.0,
+        tens-asked f x.extended-f.ensures (settings_of a.c) a.u l r s.requires.0 _ s.requires.1.1 s.requires.1.0,
       ),
     )
 
@@ -46,12 +46,12 @@ returns c =
     let s = entry x in
     let a = s.args in
     let (same, head) = c.wide_of.ensures in
-    let whole = sym (heads-alike true r.report-of.result c.wide_of.result (sym same) (sym head)) in
-    whole ∙ ap (answer_in true) r.report-of.ensures
-    ∙ tens-told (format_of x.extended.result) x.extended.ensures (settings_of a.c) a.u a.left.now a.right.now s.requires.0 _ s.requires.1.1 _
+    let whole = sym (heads-alike true r.report_of.result c.wide_of.result (sym same) (sym head)) in
+    whole ∙ ap (answer_in true) r.report_of.ensures
+    ∙ tens-told (format_of x.extended-f.result) x.extended-f.ensures (settings_of a.c) a.u a.left.now a.right.now s.requires.0 _ s.requires.1.1 _
     l.listed.ensures.0
 
-pub tens-spec : {M : Type 1} → statement M
-tens-spec =
+pub tens_spec : {M : Type 1} → statement M
+tens_spec =
     tie.close
     (tie.spec (λ c κs. search rules) (λ c. search rules) (λ c. search rules) listed-requires (λ c κs. search rules) (λ c κs. search rules) returns)

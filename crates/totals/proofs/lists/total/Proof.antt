@@ -42,13 +42,13 @@ entry t = let k = t.before.before in k.before.before.before
 abbrev hundred : tie.Start → Bool
 hundred s = is_hundred s.args.k
 
-seen : (t : tie.After-scan) → let s = entry t.before in Seen (hundred s) (form s) (env s) (u s) (left s) (right s) t.scan.result
-seen t = rw (t.before.scanned.ensures.0, t.before.scanned.ensures.1) at t.scan.ensures
+seen : (t : tie.After-scan-s) → let s = entry t.before in Seen (hundred s) (form s) (env s) (u s) (left s) (right s) t.scan-s.result
+seen t = rw (t.scanned.ensures.0, t.scanned.ensures.1) at t.scan-s.ensures
 
-abbrev begun : tie.After-decided-by → tie.Start
+abbrev begun : tie.After-decided_by → tie.Start
 begun d = entry d.before.before
 
-scan-requires : tie.Need-scan-requires
+scan-requires : tie.Need-scan-s-requires
 scan-requires c κs =
     let s = entry c in
     let same = c.scanned.ensures.0 in (
@@ -60,41 +60,41 @@ scan-requires c κs =
       ),
     )
 
-early-requires : tie.Need-early-requires
+early-requires : tie.Need-early-report-requires
 early-requires c κs =
-    let v = c.before in
-    let d = v.before.before in
+    let v = c in
+    let d = v.before in
     let s = begun d in
-    early-asks (form s) (env s) (u s) (left s) (right s) _ _ _ _ v.v.given.1 (hundred s) s.requires.0.0 (seen d.before) d.decided-by.ensures
+    early-asks (form s) (env s) (u s) (left s) (right s) _ _ _ _ v.in-Given.is (hundred s) s.requires.0.0 (seen d.before) d.decided_by.ensures
 
-returns : tie.Need-returns
+returns : tie.Need-returns-in-Given
 returns c =
     let n = c.before in
     let a = n.before in
-    let v = a.before.before in
-    let d = v.before.before in
+    let v = a.before in
+    let d = v.before in
     let s = begun d in
-    let is = v.v.given.1 in
+    let is = v.in-Given.is in
     rw c.keep.ensures (
-      early-told (form s) (env s) (u s) (left s) (right s) _ _ _ _ is (hundred s) (seen d.before) s.requires.1.1 d.decided-by.ensures _
-          a.early.ensures,
-      λ z w. keeps (form s) (env s) (u s) (left s) (right s) z w _ (seen d.before) _ _ _ d.decided-by.ensures (λ e. given-terms (sym is ∙ e)),
+      early-told (form s) (env s) (u s) (left s) (right s) _ _ _ _ is (hundred s) (seen d.before) s.requires.1.1 d.decided_by.ensures _
+          a.early-report.ensures,
+      λ z w. keeps (form s) (env s) (u s) (left s) (right s) z w _ (seen d.before) _ _ _ d.decided_by.ensures (λ e. given-terms (sym is ∙ e)),
     )
 
 -- where there are terms
-abbrev told : tie.After-enum-told → tie.After-decided-by
-told e = e.before.before
+abbrev told : tie.In-Terms → tie.After-decided_by
+told e = e.before
 
-digits-for-requires : tie.Need-digits-for-requires
+digits-for-requires : tie.Need-digits_for-p-requires
 digits-for-requires c κs = let s = begun (told c) in known-range (form s) (wide (form s)) s.requires.0.0
 
-top-for-requires : tie.Need-top-for-requires
+top-for-requires : tie.Need-top_for-requires
 top-for-requires c κs =
     let d = told c.before in
     let s = begun d in
     top-room (form s) (env s) (u s) (left s) (right s) s.requires.0.0 _ (hundred s) (seen d.before)
 
-exact-requires : tie.Need-exact-requires
+exact-requires : tie.Need-exact-e-requires
 exact-requires c κs =
     let p = c.before in
     let e = p.before in
@@ -110,46 +110,46 @@ exact-requires c κs =
           s.requires.1.0.1,
           rw (read_length (wide f) a.k.source a.left_words.now a.left_bytes.now) at
               (asks-few f (env s) (u s) (left s) (right s) (hundred s) (is_dot a.k) b),
-          rw p.digits-for.ensures (digits-most f (env s) (u s) (left s) (right s) s.requires.0.0 (hundred s)),
+          rw p.digits_for-p.ensures (digits-most f (env s) (u s) (left s) (right s) s.requires.0.0 (hundred s)),
           s.requires.1.0.2,
         ),
-        rw c.top-for.ensures
-            (exact-asks f (env s) (u s) (left s) (right s) _ _ e.enum_told.given.1 (hundred s) refl (seen d.before) b d.decided-by.ensures),
+        rw c.top_for.ensures
+            (exact-asks f (env s) (u s) (left s) (right s) _ _ e.in-Terms.is (hundred s) refl (seen d.before) b d.decided_by.ensures),
       ),
     )
 
 -- the chain's end, at the digits that were counted
-ends : (x : tie.After-exact) → let t = x.before in let s = begun (told t.before.before) in let a = s.args in
+ends : (x : tie.After-exact-e) → let t = x.before in let s = begun (told t.before.before) in let a = s.args in
     Sums (cond (hundred s) 64 (spec.digits (form s)))
-    (terms.terms (added_in (form s) (env s) a.k a.left_words.now a.left_bytes.now a.right_words.now a.right_bytes.now)) x.exact.result
-ends x = rw x.before.before.digits-for.ensures at x.exact.ensures
+    (terms.terms (added_in (form s) (env s) a.k a.left_words.now a.left_bytes.now a.right_words.now a.right_bytes.now)) x.exact-e.result
+ends x = rw x.digits_for-p.ensures at x.exact-e.ensures
 
-left-requires : tie.Need-left-requires
+left-requires : tie.Need-left-rest-requires
 left-requires c κs =
     let p = c.before.before in
     let s = begun (told p.before) in (
-      rw p.digits-for.ensures (digits-most (form s) (env s) (u s) (left s) (right s) s.requires.0.0 (hundred s)),
-      c.exact.ensures.ended,
+      rw p.digits_for-p.ensures (digits-most (form s) (env s) (u s) (left s) (right s) s.requires.0.0 (hundred s)),
+      c.exact-e.ensures.ended,
     )
 
-ended-requires : tie.Need-ended-requires
+ended-requires : tie.Need-ended-report-requires
 ended-requires c κs =
     let x = c.before in
     let s = begun (told x.before.before.before) in
     end-asks (form s) (env s) (u s) (left s) (right s) s.requires.0.0 (hundred s) s.requires.1.1 (ends x)
-    (rw x.before.before.digits-for.ensures at c.left.ensures)
+    (rw x.digits_for-p.ensures at c.left-rest.ensures)
 
 -- there is a term
-some : (e : tie.After-enum-told) → (u (begun (told e)) ≡ 0) → ((told e).before.scan.result.top ≡ 0 → ⊥)
+some : (e : tie.In-Terms) → (u (begun (told e)) ≡ 0) → ((told e).scan-s.result.top ≡ 0 → ⊥)
 some e z n =
     let d = told e in
     let s = begun d in
-    let t = (exact-asks (form s) (env s) (u s) (left s) (right s) _ _ e.enum_told.given.1 (hundred s) refl (seen d.before) s.requires.1.1
-    d.decided-by.ensures).1 in
-    let k : 0 < d.before.scan.result.top = rw z at t in
+    let t = (exact-asks (form s) (env s) (u s) (left s) (right s) _ _ e.in-Terms.is (hundred s) refl (seen d.before) s.requires.1.1
+    d.decided_by.ensures).1 in
+    let k : 0 < d.scan-s.result.top = rw z at t in
     omega (arith, k, n)
 
-returns-2 : tie.Need-returns-2
+returns-2 : tie.Need-returns-in-Terms
 returns-2 c =
     let r = c.before in
     let l = r.before in
@@ -158,16 +158,16 @@ returns-2 c =
     let e = p.before in
     let d = told e in
     let s = begun d in
-    rw c.keep2.ensures (
-      end-told (form s) (env s) (u s) (left s) (right s) _ _ e.enum_told.given.1 (hundred s) refl (seen d.before) s.requires.1.1
-          d.decided-by.ensures _ (ends x) _ r.ended.ensures,
-      λ z w. keeps (form s) (env s) (u s) (left s) (right s) z w _ (seen d.before) _ _ _ d.decided-by.ensures
-          (λ _. chain-ends (form s) (env s) (u s) (left s) (right s) z w _ (seen d.before) _ _ _ _ (rw z at p.digits-for.ensures) x.exact.ensures
-          l.left.ensures r.ended.ensures (some e z)),
+    rw c.keep-in-Terms.ensures (
+      end-told (form s) (env s) (u s) (left s) (right s) _ _ e.in-Terms.is (hundred s) refl (seen d.before) s.requires.1.1
+          d.decided_by.ensures _ (ends x) _ r.ended-report.ensures,
+      λ z w. keeps (form s) (env s) (u s) (left s) (right s) z w _ (seen d.before) _ _ _ d.decided_by.ensures
+          (λ _. chain-ends (form s) (env s) (u s) (left s) (right s) z w _ (seen d.before) _ _ _ _ (rw z at p.digits_for-p.ensures) x.exact-e.ensures
+          l.left-rest.ensures r.ended-report.ensures (some e z)),
     )
 
-pub total-spec : {M : Type 1} → statement M
-total-spec =
+pub total_spec : {M : Type 1} → statement M
+total_spec =
     tie.close
     (tie.spec
     (λ c κs. search rules)

@@ -28,8 +28,8 @@ gives-right s b = whole-gives 0 s.args.right.now b (sym s.requires.0) (omega ari
 bounds : (s : tie.Start) → FormatBounds (format_of s.args.f)
 bounds s = walk-format (eqb s.args.u 3) (format_of s.args.f) (settings_of s.args.c) s.args.u _ s.requires.1
 
-abbrev entry : tie.After-listed-arg2 → tie.Start
-entry t = let k = t.before.before in k.before.before
+abbrev entry : tie.After-listed-arg-4-1 → tie.Start
+entry t = let k = t.before.before.before in k.before.before.before
 
 listed-requires : tie.Need-listed-requires
 listed-requires c κs =
@@ -48,9 +48,9 @@ returns c =
     let r = c.before in
     let l = r.before in
     let s = entry l.before in
-    c.answer-of.ensures ∙ ap (answer_in false) r.report-of.ensures
+    c.answer_of.ensures ∙ ap (answer_in false) r.report_of.ensures
     ∙ total-told (format_of s.args.f) (settings_of s.args.c) s.args.u (length s.args.left.now) s.requires.1 _ _ _
     (rw (narrow (format_of s.args.f) (bounds s), (gives_left s _).are, (gives-right s _).are) at l.listed.ensures.0)
 
-pub words-spec : {M : Type 1} → statement M
-words-spec = tie.close (tie.spec (λ c. search rules) (λ c. search rules) listed-requires (λ c κs. search rules) (λ c κs. search rules) returns)
+pub words_spec : {M : Type 1} → statement M
+words_spec = tie.close (tie.spec listed-requires (λ c κs. search rules) (λ c κs. search rules) returns)

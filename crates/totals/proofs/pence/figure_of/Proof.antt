@@ -11,61 +11,61 @@ use Rattle.totals.proofs.pence.figure_of.Statement.{statement}
 use Rattle.totals.proofs.pence.figure_of.Tie as tie
 
 -- where the value is a finite number
-abbrev Number : tie.After-v → Type 0
-Number t = let n = t.v.given.0 in (n.1.0 < 268435456) × (0 < n.1.1.0)
+abbrev Number : tie.In-Finite → Type 0
+Number t = let n = t.in-Finite in (n.shift < 268435456) × (0 < n.significand)
 
-bounded : (t : tie.After-v) → Number t
-bounded t = subst (λ (x : Unpacked). Bounded (unpacked_of x)) t.v.given.1 t.before.before.requires.1
+bounded : (t : tie.In-Finite) → Number t
+bounded t = subst (λ (x : Unpacked). Bounded (unpacked_of x)) t.in-Finite.is t.requires.1
 
-enum_told : tie.Need-enum-told
+enum_told : tie.Need-enum_told-1
 enum_told c = search rules
 
-in-range-requires : tie.Need-in-range-requires
+in-range-requires : tie.Need-in_range-requires
 in-range-requires c κs = search rules
 
-enum-known-v : tie.Need-enum-known-v
+enum-known-v : tie.Need-enum_known-v
 enum-known-v c = search rules
 
-add-magnitude : tie.Need-overflow-add-magnitude
-add-magnitude c = let v = c.before in omega (arith, (bounded v).0, v.before.before.requires.0)
+add-magnitude : tie.Need-overflow_add-shift
+add-magnitude c = let v = c in omega (arith, (bounded v).0, v.requires.0)
 
 magnitude-requires : tie.Need-magnitude-requires
 magnitude-requires c κs =
-    let v = c.before in
+    let v = c in
     let b = bounded v in
-    (omega (arith, b.0, v.before.before.requires.0), b.1)
+    (omega (arith, b.0, v.requires.0), b.1)
 
-in-range-requires-2 : tie.Need-in-range-requires-2
+in-range-requires-2 : tie.Need-in_range-requires-in-Finite
 in-range-requires-2 c κs = search rules
 
-enum-told-2 : tie.Need-enum-told-2
+enum-told-2 : tie.Need-enum_told-in-Infinity
 enum-told-2 c = search rules
 
 refused-requires : tie.Need-refused-requires
 refused-requires c κs = search rules
 
-enum-told-3 : tie.Need-enum-told-3
+enum-told-3 : tie.Need-enum_told-in-Nan
 enum-told-3 c = search rules
 
-refused-requires-2 : tie.Need-refused-requires-2
+refused-requires-2 : tie.Need-refused-requires-in-Nan
 refused-requires-2 c κs = search rules
 
-returns : tie.Need-returns
-returns c = rw c.before.enum_told.given.1 c.in-range.ensures
+returns : tie.Need-returns-in-Zero
+returns c = rw c.in-Zero.is c.in_range.ensures
 
-returns-2 : tie.Need-returns-2
+returns-2 : tie.Need-returns-in-Finite
 returns-2 c =
-    let v = c.before.before.before.v.given in
-    rw v.1 (c.in-range2.ensures ∙ held v.0.0 _ _ c.before.magnitude.ensures)
+    let v = c.in-Finite in
+    rw v.is (c.in_range-in-Finite.ensures ∙ held v.negative _ _ c.magnitude.ensures)
 
-returns-3 : tie.Need-returns-3
-returns-3 c = rw c.before.enum-told2.given.1 c.refused.ensures
+returns-3 : tie.Need-returns-in-Infinity
+returns-3 c = rw c.in-Infinity.is c.refused.ensures
 
-returns-4 : tie.Need-returns-4
-returns-4 c = rw c.before.enum-told3.given.1 c.refused2.ensures
+returns-4 : tie.Need-returns-in-Nan
+returns-4 c = rw c.in-Nan.is c.refused-in-Nan.ensures
 
-pub figure-of-spec : {M : Type 1} → statement M
-figure-of-spec =
+pub figure_of_spec : {M : Type 1} → statement M
+figure_of_spec =
     tie.close
     (tie.spec
     enum_told

@@ -9,14 +9,14 @@ use Rattle.totals.proofs.pence.in_range.Tie as tie
 refused-requires : tie.Need-refused-requires
 refused-requires c κs = search rules
 
-returns : tie.Need-returns
-returns c = let a = c.before.before.args in c.refused.ensures ∙ beyond-range a.negative a.n (omega arith)
+returns : tie.Need-returns-then-n-ge-TOO_LARGE
+returns c = let a = c.args in c.refused.ensures ∙ beyond-range a.negative a.n (omega arith)
 
 signed-requires : tie.Need-signed-requires
 signed-requires c κs = search rules
 
-returns-2 : tie.Need-returns-2
-returns-2 c = let a = c.before.before.args in within-range a.negative a.n c.signed.result (omega arith) c.signed.ensures
+returns-2 : tie.Need-returns
+returns-2 c = let a = c.args in within-range a.negative a.n c.signed.result (omega arith) c.signed.ensures
 
-pub in-range-spec : {M : Type 1} → statement M
-in-range-spec = tie.close (tie.spec refused-requires returns signed-requires returns-2)
+pub in_range_spec : {M : Type 1} → statement M
+in_range_spec = tie.close (tie.spec refused-requires returns signed-requires returns-2)

@@ -19,40 +19,40 @@ use Rattle.totals.proofs.pence.pence_of.Tie as tie
 abbrev form : tie.Start → Format
 form s = format_of s.args.f
 
-abbrev entry : tie.Else1 → tie.Start
+abbrev entry : tie.Else-not-valid_format → tie.Start
 entry t = t.before.before
 
-valid : (t : tie.Else1) → valid_format (form (entry t)) ≡ true
-valid t = sym t.before.valid-format.ensures ∙ not-false _ t.if1.false
+valid : (t : tie.Else-not-valid_format) → valid_format (form (entry t)) ≡ true
+valid t = sym t.valid_format.ensures ∙ t.if-not-valid_format.false
 
-bounds : (t : tie.Else1) → FormatBounds (form (entry t))
+bounds : (t : tie.Else-not-valid_format) → FormatBounds (form (entry t))
 bounds t = format-bounds _ (T_of (valid t))
 
 -- where the encoding is too
-abbrev first : tie.Else2 → tie.Else1
+abbrev first : tie.Else-b-greatest → tie.Else-not-valid_format
 first e = e.before.before
 
-valid-format-requires : tie.Need-valid-format-requires
+valid-format-requires : tie.Need-valid_format-requires
 valid-format-requires c κs = search rules
 
 refused-requires : tie.Need-refused-requires
 refused-requires c κs = search rules
 
-returns : tie.Need-returns
+returns : tie.Need-returns-then-not-valid_format
 returns c =
     let t = c.before in
-    c.refused.ensures ∙ bad-format _ _ (sym t.before.valid-format.ensures ∙ not-true _ t.if1.true)
+    c.refused.ensures ∙ bad-format _ _ (sym t.valid_format.ensures ∙ t.if-not-valid_format.true)
 
 greatest-requires : tie.Need-greatest-requires
 greatest-requires c κs = width-bounds _ (bounds c)
 
-refused-requires-2 : tie.Need-refused-requires-2
+refused-requires-2 : tie.Need-refused-requires-then-b-greatest
 refused-requires-2 c κs = search rules
 
-returns-2 : tie.Need-returns-2
+returns-2 : tie.Need-returns-then-b-greatest
 returns-2 c =
     let g = c.before.before in
-    c.refused2.ensures ∙ stray-bit _ _ (valid g.before) (stray-is _ _ _ g.greatest.ensures c.before.if2.true)
+    c.refused-then-b-greatest.ensures ∙ stray-bit _ _ (valid g.before) (stray-is _ _ _ g.greatest.ensures c.if-b-greatest.true)
 
 depth-requires : tie.Need-depth-requires
 depth-requires c κs = (bounds (first c)).range
@@ -63,21 +63,21 @@ lift-requires c κs = (bounds (first c.before)).range
 decode-requires : tie.Need-decode-requires
 decode-requires c κs = bounds (first c.before.before)
 
-figure-of-requires : tie.Need-figure-of-requires
+figure-of-requires : tie.Need-figure_of-requires
 figure-of-requires c κs =
     let n = c.before in
     (n.lift.ensures.1, decode-bounded _ _ (bounds (first n.before.before)) _ c.decode.ensures)
 
-returns-3 : tie.Need-returns-3
+returns-3 : tie.Need-returns
 returns-3 c =
-    let v = c.before.decode in
+    let v = c.decode in
     let n = c.before.before in
     let e = n.before.before in
-    c.figure-of.ensures ∙ (λ i. figure_of (n.before.depth.ensures.0 i) (n.lift.ensures.0 i) (v.ensures i))
-    ∙ no-stray-bit _ _ (valid (first e)) (stray-not _ _ _ e.before.greatest.ensures e.if2.false)
+    c.figure_of.ensures ∙ (λ i. figure_of (n.depth.ensures.0 i) (n.lift.ensures.0 i) (v.ensures i))
+    ∙ no-stray-bit _ _ (valid (first e)) (stray-not _ _ _ e.greatest.ensures e.if-b-greatest.false)
 
-pub pence-of-spec : {M : Type 1} → statement M
-pence-of-spec =
+pub pence_of_spec : {M : Type 1} → statement M
+pence_of_spec =
     tie.close
     (tie.spec
     valid-format-requires

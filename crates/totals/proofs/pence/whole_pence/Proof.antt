@@ -13,25 +13,25 @@ use Rattle.exact.specs.Joined.{significand_of}
 use Rattle.totals.proofs.pence.whole_pence.Statement.{statement}
 use Rattle.totals.proofs.pence.whole_pence.Tie as tie
 
-returns : tie.Need-returns
+returns : tie.Need-returns-then-is_nothing
 returns c x l =
     let t = c.before in
-    let f = format_of t.before.before.args.f in
-    c.in-range.ensures ∙ sym (figure-none f)
-    ∙ ap (whole_figure f) (sym (l.none (eqb-true _ 0 (sym t.before.is-nothing.ensures ∙ t.if1.true))))
+    let f = format_of t.args.f in
+    c.in_range.ensures ∙ sym (figure-none f)
+    ∙ ap (whole_figure f) (sym (l.none (eqb-true _ 0 (sym t.is_nothing.ensures ∙ t.if-is_nothing.true))))
 
 -- where something is left
-some : (e : tie.Else1) → 0 < significand_of e.before.before.args.v
-some e = pos_of_ne-zero (eqb-false _ 0 (sym e.before.is-nothing.ensures ∙ e.if1.false))
+some : (e : tie.Else-is_nothing) → 0 < significand_of e.args.v
+some e = pos_of_ne-zero (eqb-false _ 0 (sym e.is_nothing.ensures ∙ e.if-is_nothing.false))
 
 nearest-requires : tie.Need-nearest-requires
 nearest-requires c κs = let s = c.before.before in (s.requires.0, s.requires.1 (some c))
 
-returns-2 : tie.Need-returns-2
+returns-2 : tie.Need-returns
 returns-2 c x l =
     let e = c.before in
     let r = l.some (some e) in
-    c.nearest.ensures x.mag r.stands ∙ ap (λ (n : Bool). whole_figure (format_of e.before.before.args.f) (record { neg = n; mag = x.mag })) r.negative
+    c.nearest.ensures x.mag r.stands ∙ ap (λ (n : Bool). whole_figure (format_of e.args.f) (record { neg = n; mag = x.mag })) r.negative
 
-pub whole-pence-spec : {M : Type 1} → statement M
-whole-pence-spec = tie.close (tie.spec (λ c κs. search rules) (λ c κs. search rules) returns nearest-requires returns-2)
+pub whole_pence_spec : {M : Type 1} → statement M
+whole_pence_spec = tie.close (tie.spec (λ c κs. search rules) (λ c κs. search rules) returns nearest-requires returns-2)

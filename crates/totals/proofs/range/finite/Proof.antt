@@ -9,5 +9,5 @@ returns : tie.Need-returns
 unfolding binary64
 returns c = sym (figure-by-field c.args.b c.ranges.b.fits)
 
-pub finite-spec : {M : Type 1} → statement M
-finite-spec = tie.close (tie.spec returns)
+pub finite_spec : {M : Type 1} → statement M
+finite_spec = tie.close (tie.spec returns)

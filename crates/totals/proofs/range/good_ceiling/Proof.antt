@@ -18,26 +18,26 @@ zero-worth : figure_worth 0 ≡ nothing
 unfolding figure_worth decode binary64
 zero-worth = refl
 
-is_finite : (p : tie.Else1) → good_figure p.before.before.args.z ≡ true
-is_finite p = sym p.before.finite.ensures ∙ not-false _ p.if1.false
+is_finite : (p : tie.Else-not-finite) → good_figure p.args.z ≡ true
+is_finite p = sym p.finite.ensures ∙ p.if-not-finite.false
 
 finite-requires : tie.Need-finite-requires
 finite-requires c κs = search rules
 
-returns : tie.Need-returns
+returns : tie.Need-returns-then-not-finite
 returns c =
-    let z = c.before.before.args.z in
-    sym (ap (λ t. t && at_most nothing (figure_worth z)) (sym c.before.finite.ensures ∙ not-true _ c.if1.true))
+    let z = c.args.z in
+    sym (ap (λ t. t && at_most nothing (figure_worth z)) (sym c.finite.ensures ∙ c.if-not-finite.true))
 
-at-most-requires : tie.Need-at-most-requires
+at-most-requires : tie.Need-at_most-requires
 at-most-requires c κs = (zero-good, subst T (sym (is_finite c)) tt)
 
-returns-2 : tie.Need-returns-2
+returns-2 : tie.Need-returns
 returns-2 c =
-    let z = c.before.before.before.args.z in
+    let z = c.args.z in
     c.at_most.ensures
     ∙ ap (λ w. at_most w (figure_worth z)) zero-worth
     ∙ sym (ap (λ t. t && at_most nothing (figure_worth z)) (is_finite c.before))
 
-pub good-ceiling-spec : {M : Type 1} → statement M
-good-ceiling-spec = tie.close (tie.spec finite-requires returns at-most-requires returns-2)
+pub good_ceiling_spec : {M : Type 1} → statement M
+good_ceiling_spec = tie.close (tie.spec finite-requires returns at-most-requires returns-2)

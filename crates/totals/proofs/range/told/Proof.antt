@@ -9,37 +9,37 @@ use Rattle.totals.proofs.RangeFigures.{known_is, between_is, rest-missing, no_na
 use Rattle.totals.proofs.range.told.Statement.{statement}
 use Rattle.totals.proofs.range.told.Tie as tie
 
-known-good : (p : tie.Then1) → T (spec.good_figure p.before.args.first)
-known-good p = subst (λ a. T (spec.good_amount a)) (known_is _ _ _ p.if1.true) p.before.requires
+known-good : (p : tie.Then-tag-eq0) → T (spec.good_figure p.args.first)
+known-good p = subst (λ a. T (spec.good_amount a)) (known_is _ _ _ p.if-tag-eq0.true) p.requires
 
-both-good : (p : tie.Then2) → let a = p.before.before.args in T (spec.good_figure a.first) × T (spec.good_figure a.second)
+both-good : (p : tie.Then-tag-eq1) → let a = p.args in T (spec.good_figure a.first) × T (spec.good_figure a.second)
 both-good p =
     let s = p.before.before in
     let x = spec.good_figure s.args.first in
     let y = spec.good_figure s.args.second in
-    let h = and_left (x && y) _ (subst (λ a. T (spec.good_amount a)) (between_is _ _ _ p.if2.true) s.requires) in
+    let h = and_left (x && y) _ (subst (λ a. T (spec.good_amount a)) (between_is _ _ _ p.if-tag-eq1.true) s.requires) in
     (and_left x y h, and_right x y h)
 
-float-from-bits-t5 : tie.Need-float-from-bits-t5
+float-from-bits-t5 : tie.Need-float_from_bits-result
 float-from-bits-t5 c = no_nan _ (figure-no-nan _ (known-good c))
 
-returns : tie.Need-returns
-returns c = ap spec.known (written-again _ (omega arith) (figure-no-nan _ (known-good c))) ∙ sym (known_is _ _ _ c.if1.true)
+returns : tie.Need-returns-then-tag-eq0
+returns c = ap spec.known (written-again _ (omega arith) (figure-no-nan _ (known-good c))) ∙ sym (known_is _ _ _ c.if-tag-eq0.true)
 
-float-from-bits-t6 : tie.Need-float-from-bits-t6
+float-from-bits-t6 : tie.Need-float_from_bits-result-then-tag-eq1
 float-from-bits-t6 c = no_nan _ (figure-no-nan _ (both-good c).0)
 
-float-from-bits-t7 : tie.Need-float-from-bits-t7
+float-from-bits-t7 : tie.Need-float_from_bits-result-then-tag-eq1-2
 float-from-bits-t7 c = no_nan _ (figure-no-nan _ (both-good c).1)
 
-returns-2 : tie.Need-returns-2
+returns-2 : tie.Need-returns-then-tag-eq1
 returns-2 c =
     let x = written-again _ (omega arith) (figure-no-nan _ (both-good c).0) in
     let y = written-again _ (omega arith) (figure-no-nan _ (both-good c).1) in
-    ap₂ spec.between x y ∙ sym (between_is _ _ _ c.if2.true)
+    ap₂ spec.between x y ∙ sym (between_is _ _ _ c.if-tag-eq1.true)
 
-returns-3 : tie.Need-returns-3
-returns-3 c = rest-missing _ _ _ c.before.if1.false c.if2.false c.before.before.requires
+returns-3 : tie.Need-returns
+returns-3 c = rest-missing _ _ _ c.if-tag-eq0.false c.if-tag-eq1.false c.requires
 
-pub told-spec : {M : Type 1} → statement M
-told-spec = tie.close (tie.spec float-from-bits-t5 returns float-from-bits-t6 float-from-bits-t7 returns-2 returns-3)
+pub told_spec : {M : Type 1} → statement M
+told_spec = tie.close (tie.spec float-from-bits-t5 returns float-from-bits-t6 float-from-bits-t7 returns-2 returns-3)

@@ -26,19 +26,19 @@ sign-lost b e = ap (λ (z : Bool). cond z 0 b) (sym (eq-eqb b (2 ^ 63) e))
 number-kept : (b : ℕ) → b ≢ 2 ^ 63 → b ≡ plus_zero b
 number-kept b e = ap (λ (z : Bool). cond z 0 b) (sym (ne_eqb b (2 ^ 63) e))
 
-total-is : (t : tie.After-words) → let a = t.before.before.args in t.words.result.result ≡ plain_total binary64 (with_rounding a.rounding) a.l.now
+total-is : (t : tie.After-words-a) → let a = t.args in t.words-a.result.result ≡ plain_total binary64 (with_rounding a.rounding) a.l.now
 unfolding binary64 with_rounding
-total-is t = ap (λ (a : Answer). a.result) t.words.ensures
+total-is t = ap (λ (a : Answer). a.result) t.words-a.ensures
 
-words-requires : tie.Need-words-requires
+words-requires : tie.Need-words-a-requires
 unfolding binary64 with_rounding
 words-requires c κs = (refl, passes _ _ (search rules) (search rules))
 
-returns : tie.Need-returns
-returns c = let t = c.before.before in sign-lost _ (sym (total-is t) ∙ c.if1.true)
+returns : tie.Need-returns-then-a
+returns c = let t = c.before.before in sign-lost _ (sym (total-is t) ∙ c.if-a.true)
 
-returns-2 : tie.Need-returns-2
-returns-2 c = let t = c.before.before in total-is t ∙ number-kept _ (λ e. c.if1.false (total-is t ∙ e))
+returns-2 : tie.Need-returns
+returns-2 c = let t = c.before.before in total-is t ∙ number-kept _ (λ e. c.if-a.false (total-is t ∙ e))
 
-pub toward-spec : {M : Type 1} → statement M
-toward-spec = tie.close (tie.spec words-requires returns returns-2)
+pub toward_spec : {M : Type 1} → statement M
+toward_spec = tie.close (tie.spec words-requires returns returns-2)

@@ -16,54 +16,54 @@ use Rattle.totals.proofs.refusal.dot_refusal.Statement.{statement}
 use Rattle.totals.proofs.refusal.dot_refusal.Tie as tie
 
 -- where the format is valid, and where the settings are too
-abbrev entry : tie.Else1 → tie.Start
+abbrev entry : tie.Else-not-valid_format → tie.Start
 entry t = t.before.before
 
-format : (t : tie.Else1) → valid_format (format_of (entry t).args.f) ≡ true
-format t = sym t.before.valid-format.ensures ∙ not-false _ t.if1.false
+format : (t : tie.Else-not-valid_format) → valid_format (format_of (entry t).args.f) ≡ true
+format t = sym t.valid_format.ensures ∙ t.if-not-valid_format.false
 
-abbrev first : tie.Else2 → tie.Else1
+abbrev first : tie.Else-not-valid_settings → tie.Else-not-valid_format
 first t = t.before.before
 
-settings : (t : tie.Else2) → let a = (entry (first t)).args in valid_settings (format_of a.f) (settings_of a.c) ≡ true
-settings t = sym t.before.valid-settings.ensures ∙ not-false _ t.if2.false
+settings : (t : tie.Else-not-valid_settings) → let a = (entry (first t)).args in valid_settings (format_of a.f) (settings_of a.c) ≡ true
+settings t = sym t.valid_settings.ensures ∙ t.if-not-valid_settings.false
 
 -- and where the lengths are alike
-alike : (t : tie.Else3) → let a = (entry (first t.before)).args in eqb a.n a.m ≡ true
-alike t = let a = (entry (first t.before)).args in eq-eqb a.n a.m (omega (arith, t.if3.false))
+alike : (t : tie.Else-n-m) → let a = (entry (first t.before)).args in eqb a.n a.m ≡ true
+alike t = let a = (entry (first t.before)).args in eq-eqb a.n a.m (omega (arith, t.if-n-m.false))
 
-valid-format-requires : tie.Need-valid-format-requires
+valid-format-requires : tie.Need-valid_format-requires
 valid-format-requires c κs = search rules
 
-returns : tie.Need-returns
+returns : tie.Need-returns-then-not-valid_format
 unfolding dot_numbers
-returns c = rw (sym c.before.valid-format.ensures ∙ not-true _ c.if1.true)
+returns c = rw (sym c.valid_format.ensures ∙ c.if-not-valid_format.true)
 
-valid-settings-requires : tie.Need-valid-settings-requires
+valid-settings-requires : tie.Need-valid_settings-requires
 valid-settings-requires c κs = (format-bounds _ (T_of (format c))).range
 
-returns-2 : tie.Need-returns-2
+returns-2 : tie.Need-returns-then-not-valid_settings
 unfolding dot_numbers
-returns-2 c = let t = c.before in rw (format t.before, sym t.valid-settings.ensures ∙ not-true _ c.if2.true)
+returns-2 c = let t = c.before in rw (format t.before, sym t.valid_settings.ensures ∙ c.if-not-valid_settings.true)
 
-returns-3 : tie.Need-returns-3
+returns-3 : tie.Need-returns-then-n-m
 unfolding dot_numbers
 returns-3 c = let t = c.before in rw (format (first t), settings t, ne_eqb (entry (first t)).args.n (entry (first t)).args.m (λ e. omega (arith, e)))
 
-returns-4 : tie.Need-returns-4
+returns-4 : tie.Need-returns-then-n-gt-LIMIT
 unfolding dot_numbers
 returns-4 c =
     let t = c.before.before in
     rw (format (first t), settings t, alike c.before, lt-ltb limit (entry (first t)).args.n (omega arith))
 
-returns-5 : tie.Need-returns-5
+returns-5 : tie.Need-returns
 unfolding dot_numbers
 returns-5 c =
     let t = c.before.before in
     rw (format (first t), settings t, alike c.before, le-ltb limit (entry (first t)).args.n (omega arith))
 
-pub dot-refusal-spec : {M : Type 1} → statement M
-dot-refusal-spec =
+pub dot_refusal_spec : {M : Type 1} → statement M
+dot_refusal_spec =
     tie.close
     (tie.spec
     valid-format-requires

@@ -8,22 +8,22 @@ use Rattle.totals.proofs.Totalled.{heads-alike}
 use Rattle.totals.proofs.report.early.Statement.{statement}
 use Rattle.totals.proofs.report.early.Tie as tie
 
-returns : tie.Need-returns
+returns : tie.Need-returns-then-u-eq-HUNDREDFOLD
 returns c =
     let p = c.before in
-    rw (eq-eqb _ 4 p.before.if1.true) (c.of-pence.ensures ∙ p.special-pence.ensures)
+    rw (eq-eqb _ 4 p.if-u-eq-HUNDREDFOLD.true) (c.of_pence.ensures ∙ p.special_pence.ensures)
 
 special-requires : tie.Need-special-requires
-special-requires c κs = rw (ne_eqb _ 4 c.if1.false) at c.before.requires
+special-requires c κs = rw (ne_eqb _ 4 c.if-u-eq-HUNDREDFOLD.false) at c.requires
 
-returns-2 : tie.Need-returns-2
+returns-2 : tie.Need-returns
 returns-2 c =
     let p = c.before in
     let s = p.before.before in
-    let (same, head) = c.of-total.ensures in
-    rw (ne_eqb _ 4 p.before.if1.false)
-    (heads-alike (wide (format_of s.args.f)) c.of-total.result p.special.result same head ∙ p.special.ensures)
+    let (same, head) = c.of_total.ensures in
+    rw (ne_eqb _ 4 p.if-u-eq-HUNDREDFOLD.false)
+    (heads-alike (wide (format_of s.args.f)) c.of_total.result p.special.result same head ∙ p.special.ensures)
 
-pub early-spec : {M : Type 1} → statement M
-early-spec =
+pub early_spec : {M : Type 1} → statement M
+early_spec =
     tie.close (tie.spec (λ c κs. search rules) (λ c κs. search rules) returns special-requires (λ c κs. search rules) returns-2)

@@ -24,39 +24,39 @@ abbrev d : tie.Start → ℕ
 d s = s.args.denormals_are_zero
 
 -- once it is tested
-abbrev entry : tie.After-target-refusal → tie.Start
+abbrev entry : tie.After-target_refusal-number → tie.Start
 entry t = let k = t.before in k.before.before
 
-returns : tie.Need-returns
+returns : tie.Need-returns-then-number-ne0
 returns c l many asked =
     let t = c.before.before in
     let s = entry t in
     c.refused.ensures
-    ∙ target-stopped (list s) (d s) l (form s) (env s) (sym many) _ t.target-refusal.ensures c.before.if1.true
+    ∙ target-stopped (list s) (d s) l (form s) (env s) (sym many) _ t.target_refusal-number.ensures c.if-number-ne0.true
 
 -- where no test refuses it
-abbrev begun : tie.Else1 → tie.Start
+abbrev begun : tie.Else-number-ne0 → tie.Start
 begun e = entry e.before
 
-passed : (e : tie.Else1) → let s = begun e in target_numbers (list s) (d s) s.args.n (form s) (env s) ≡ 0
-passed e = sym e.before.target-refusal.ensures ∙ e.if1.false
+passed : (e : tie.Else-number-ne0) → let s = begun e in target_numbers (list s) (d s) s.args.n (form s) (env s) ≡ 0
+passed e = sym e.target_refusal-number.ensures ∙ e.if-number-ne0.false
 
-valid : (e : tie.Else1) → let s = begun e in TargetValid (list s) (d s) s.args.n (form s) (env s)
+valid : (e : tie.Else-number-ne0) → let s = begun e in TargetValid (list s) (d s) s.args.n (form s) (env s)
 valid e = let s = begun e in target-valid (list s) (d s) s.args.n (form s) (env s) (passed e)
 
 -- and the report is looked at
-abbrev tested : tie.After-struct-known → tie.Else1
+abbrev tested : tie.After-struct_known-1 → tie.Else-number-ne0
 tested k = k.before.before
 
-returns-2 : tie.Need-returns-2
+returns-2 : tie.Need-returns-then-r-ne0
 returns-2 c l many asked =
     let t = c.before in
     let e = tested t.before in
     let s = begun e in
-    c.refused2.ensures
-    ∙ target-strayed (list s) (d s) l (form s) (env s) (sym many) (passed e) s.args.w.report (asked (valid e).numbers).told t.if2.true
+    c.refused-then-r-ne0.ensures
+    ∙ target-strayed (list s) (d s) l (form s) (env s) (sym many) (passed e) s.args.w.report (asked (valid e).numbers).told t.if-r-ne0.true
 
-print-one-requires : tie.Need-print-one-requires
+print-one-requires : tie.Need-print_one-requires
 print-one-requires c κs =
     let e = tested c.before in
     let s = begun e in
@@ -68,20 +68,20 @@ print-one-requires c κs =
       settings = v.settings;
       reading = d s;
       values = k.values;
-      keeps = k.kept.keeps c.if2.false;
+      keeps = k.kept.keeps c.if-r-ne0.false;
     }
 
-returns-3 : tie.Need-returns-3
+returns-3 : tie.Need-returns
 returns-3 c l many asked =
     let t = c.before in
     let e = tested t.before in
     let s = begun e in
     let r = asked (valid e).numbers in
-    c.print-one.ensures (d s) l (subst (λ (n : ℕ). target_numbers (list s) (d s) n (form s) (env s) ≡ 0) many (passed e))
-    (target-unstrayed (list s) (d s) l (form s) (env s) (sym many) (passed e) s.args.w.report r.told t.if2.false) (r.keeps t.if2.false)
+    c.print_one.ensures (d s) l (subst (λ (n : ℕ). target_numbers (list s) (d s) n (form s) (env s) ≡ 0) many (passed e))
+    (target-unstrayed (list s) (d s) l (form s) (env s) (sym many) (passed e) s.args.w.report r.told t.if-r-ne0.false) (r.keeps t.if-r-ne0.false)
 
-pub into-target-spec : {M : Type 1} → statement M
-into-target-spec =
+pub into_target_spec : {M : Type 1} → statement M
+into_target_spec =
     tie.close
     (tie.spec
     (λ c κs. search rules)

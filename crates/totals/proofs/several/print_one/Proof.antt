@@ -29,65 +29,65 @@ abbrev env : tie.Start → Settings
 env s = settings_of s.args.c
 
 -- once the digits are known
-abbrev entry : tie.After-digits2 → tie.Start
+abbrev entry : tie.After-digits-2 → tie.Start
 entry d = d.before.before
 
 digits-requires : tie.Need-digits-requires
 digits-requires c κs = c.requires.format.range
 
 digits-requires-2 : tie.Need-digits-requires-2
-digits-requires-2 c κs = c.before.requires.list.range
+digits-requires-2 c κs = c.requires.list.range
 
-returns : tie.Need-returns
+returns : tie.Need-returns-then-digits
 returns c d l a n r =
     let k = c.before.before in
     let s = entry k in
     c.refused.ensures
-    ∙ too_wide (list s) d l (form s) (env s) a n (omega (arith, k.before.digits.ensures, k.digits2.ensures, c.before.if1.true))
+    ∙ too_wide (list s) d l (form s) (env s) a n (omega (arith, k.digits.ensures, k.digits-2.ensures, c.if-digits.true))
 
-narrower : (e : tie.Else1) → let s = entry e.before in digits (form s) ≤ digits (list s)
-narrower e = let k = e.before in omega (arith, k.before.digits.ensures, k.digits2.ensures, e.if1.false)
+narrower : (e : tie.Else-digits) → let s = entry e.before in digits (form s) ≤ digits (list s)
+narrower e = let k = e.before in omega (arith, k.digits.ensures, k.digits-2.ensures, e.if-digits.false)
 
 -- where its digits suffice
-abbrev begun : tie.Else1 → tie.Start
+abbrev begun : tie.Else-digits → tie.Start
 begun e = entry e.before
 
-returns-2 : tie.Need-returns-2
+returns-2 : tie.Need-returns-then-w
 returns-2 c d l a n k =
     let t = c.before in
     let e = t.before in
     let s = begun e in
-    c.refused2.ensures ∙ not_finite (list s) d l (form s) (env s) a n (narrower e) (k.special ∙ t.if2.true)
+    c.refused-then-w.ensures ∙ not_finite (list s) d l (form s) (env s) a n (narrower e) (k.special ∙ t.if-w.true)
 
 -- and the list is finite
-abbrev asked : tie.Else2 → tie.Start
+abbrev asked : tie.Else-w → tie.Start
 asked e = begun e.before
 
-print-zero-requires : tie.Need-print-zero-requires
+print-zero-requires : tie.Need-print_zero-requires
 print-zero-requires c κs = let e = c.before.before in (asked e).requires.format
 
-returns-3 : tie.Need-returns-3
+returns-3 : tie.Need-returns-then-w-eq0
 returns-3 c d l a n k =
     let z = c.before in
     let e = z.before.before in
     let s = asked e in
-    c.print-zero.ensures
-    ∙ no-term (list s) d l (form s) (env s) a n (narrower e.before) (k.special ∙ e.if2.false) (k.none z.if3.true) _ _ _
+    c.print_zero.ensures
+    ∙ no-term (list s) d l (form s) (env s) a n (narrower e.before) (k.special ∙ e.if-w.false) (k.none z.if-w-eq0.true) _ _ _
     k.subnormal k.positive-zero k.negative-zero
 
 -- and there is a term
-abbrev finite : tie.Else3 → tie.Else2
+abbrev finite : tie.Else-w-eq0 → tie.Else-w
 finite e = e.before.before
 
-ending : (e : tie.Else3) (d : ℕ) (l : List ℕ) → let s = asked (finite e) in Keeps (list s) (reading_with d) l s.args.w
+ending : (e : tie.Else-w-eq0) (d : ℕ) (l : List ℕ) → let s = asked (finite e) in Keeps (list s) (reading_with d) l s.args.w
     → Ends (list s) (sum_terms (list s) (reading_with d) value l) s.args.w
-ending e d l k = k.ends (finite e).if2.false e.if3.false
+ending e d l k = k.ends (finite e).if-w.false e.if-w-eq0.false
 
-abbrev last : tie.After-struct-told → tie.Else3
+abbrev last : tie.After-struct_told-1 → tie.Else-w-eq0
 last t = let v = t.before in v.before.before
 
-fits : (t : tie.After-struct-told) → let s = asked (finite (last t)) in SFits w64 s.args.w.report.last_edge
-fits t = record { sfits = t.struct_told.given.1.1.1.1.0.1 }
+fits : (t : tie.After-struct_told-1) → let s = asked (finite (last t)) in SFits w64 s.args.w.report.last_edge
+fits t = record { sfits = t.struct_told-1.given.1.1.1.1.0.1 }
 
 print-requires : tie.Need-print-requires
 print-requires c κs =
@@ -102,17 +102,17 @@ print-requires c κs =
       digits_le = narrower (finite e).before;
     }
 
-returns-4 : tie.Need-returns-4
+returns-4 : tie.Need-returns
 returns-4 c d l a n k =
     let e = last c.before in
     let s = asked (finite e) in
     let o = ending e d l k in
     c.print.ensures _ (chain (digits (list s)) (sum_terms (list s) (reading_with d) value l)) o.left o.passes
     (to_z-of_z w64 s.args.w.report.last_edge (fits c.before) ∙ o.edge)
-    ∙ by_chain (list s) d l (form s) (env s) a n (narrower (finite e).before) (k.special ∙ (finite e).if2.left) o.some _ k.subnormal
+    ∙ by_chain (list s) d l (form s) (env s) a n (narrower (finite e).before) (k.special ∙ (finite e).if-w.false) o.some _ k.subnormal
 
-pub print-one-spec : {M : Type 1} → statement M
-print-one-spec =
+pub print_one_spec : {M : Type 1} → statement M
+print_one_spec =
     tie.close
     (tie.spec
     digits-requires

@@ -16,65 +16,65 @@ use Rattle.totals.proofs.several.target_refusal.Statement.{statement}
 use Rattle.totals.proofs.several.target_refusal.Tie as tie
 
 -- where the list's format is valid, where the target's is too, and where denormals-are-zero and the settings are
-abbrev entry : tie.Else1 → tie.Start
+abbrev entry : tie.Else-not-valid_format → tie.Start
 entry t = t.before.before
 
-list : (t : tie.Else1) → valid_format (format_of (entry t).args.f) ≡ true
-list t = sym t.before.valid-format.ensures ∙ not-false _ t.if1.false
+list : (t : tie.Else-not-valid_format) → valid_format (format_of (entry t).args.f) ≡ true
+list t = sym t.valid_format.ensures ∙ t.if-not-valid_format.false
 
-abbrev first : tie.Else2 → tie.Else1
+abbrev first : tie.Else-not-valid_format-2 → tie.Else-not-valid_format
 first t = t.before.before
 
-format : (t : tie.Else2) → valid_format (format_of (entry (first t)).args.t) ≡ true
-format t = sym t.before.valid-format2.ensures ∙ not-false _ t.if2.false
+format : (t : tie.Else-not-valid_format-2) → valid_format (format_of (entry (first t)).args.t) ≡ true
+format t = sym t.valid_format-2.ensures ∙ t.if-not-valid_format-2.false
 
-reading : (t : tie.Else3) → leb (entry (first t.before)).args.denormals_are_zero 1 ≡ true
-reading t = le-leb (entry (first t.before)).args.denormals_are_zero 1 (omega (arith, t.if3.false))
+reading : (t : tie.Else-denormals_are_zero-gt1) → leb (entry (first t.before)).args.denormals_are_zero 1 ≡ true
+reading t = le-leb (entry (first t.before)).args.denormals_are_zero 1 (omega (arith, t.if-denormals_are_zero-gt1.false))
 
-abbrev read : tie.Else4 → tie.Else3
+abbrev read : tie.Else-not-valid_settings → tie.Else-denormals_are_zero-gt1
 read t = t.before.before
 
-settings : (t : tie.Else4) → let a = (entry (first (read t).before)).args in valid_settings (format_of a.t) (settings_of a.c) ≡ true
-settings t = sym t.before.valid-settings.ensures ∙ not-false _ t.if4.false
+settings : (t : tie.Else-not-valid_settings) → let a = (entry (first (read t).before)).args in valid_settings (format_of a.t) (settings_of a.c) ≡ true
+settings t = sym t.valid_settings.ensures ∙ t.if-not-valid_settings.false
 
-returns : tie.Need-returns
+returns : tie.Need-returns-then-not-valid_format
 unfolding target_numbers
-returns c = rw (sym c.before.valid-format.ensures ∙ not-true _ c.if1.true)
+returns c = rw (sym c.valid_format.ensures ∙ c.if-not-valid_format.true)
 
-returns-2 : tie.Need-returns-2
+returns-2 : tie.Need-returns-then-not-valid_format-2
 unfolding target_numbers
-returns-2 c = let t = c.before in rw (list t.before, sym t.valid-format2.ensures ∙ not-true _ c.if2.true)
+returns-2 c = let t = c.before in rw (list t.before, sym t.valid_format-2.ensures ∙ c.if-not-valid_format-2.true)
 
-returns-3 : tie.Need-returns-3
+returns-3 : tie.Need-returns-then-denormals_are_zero-gt1
 unfolding target_numbers
 returns-3 c = let t = c.before in rw (list (first t), format t, lt-leb (entry (first t)).args.denormals_are_zero 1 (omega arith))
 
-valid-settings-requires : tie.Need-valid-settings-requires
+valid-settings-requires : tie.Need-valid_settings-requires
 valid-settings-requires c κs = (format-bounds _ (T_of (format c.before))).range
 
-returns-4 : tie.Need-returns-4
+returns-4 : tie.Need-returns-then-not-valid_settings
 unfolding target_numbers
 returns-4 c =
     let s = c.before in
     let r = s.before in
-    rw (list (first r.before), format r.before, reading r, sym s.valid-settings.ensures ∙ not-true _ c.if4.true)
+    rw (list (first r.before), format r.before, reading r, sym s.valid_settings.ensures ∙ c.if-not-valid_settings.true)
 
-returns-5 : tie.Need-returns-5
+returns-5 : tie.Need-returns-then-n-gt-LIMIT
 unfolding target_numbers
 returns-5 c =
     let t = c.before in
     let r = read t in
     rw (list (first r.before), format r.before, reading r, settings t, lt-ltb limit (entry (first r.before)).args.n (omega arith))
 
-returns-6 : tie.Need-returns-6
+returns-6 : tie.Need-returns
 unfolding target_numbers
 returns-6 c =
     let t = c.before in
     let r = read t in
     rw (list (first r.before), format r.before, reading r, settings t, le-ltb limit (entry (first r.before)).args.n (omega arith))
 
-pub target-refusal-spec : {M : Type 1} → statement M
-target-refusal-spec =
+pub target_refusal_spec : {M : Type 1} → statement M
+target_refusal_spec =
     tie.close
     (tie.spec
     (λ c κs. search rules)

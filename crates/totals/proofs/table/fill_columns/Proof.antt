@@ -15,50 +15,50 @@ use Rattle.totals.proofs.Columns.{fewer-pass}
 use Rattle.totals.proofs.table.fill_columns.Statement.{statement}
 use Rattle.totals.proofs.table.fill_columns.Tie as tie
 
-abbrev invariant-loop : tie.invariant-loop
+abbrev invariant-loop : tie.invariant-loop-j
 invariant-loop f c rows columns cells totals₀ j₀ totals j =
     (j ≤ columns) × (length totals ≡ length totals₀)
     × (totals ≡ filled (map (plain_total (format_of f) (settings_of c)) (columns_from rows columns cells 0 j)) totals₀)
 
-abbrev decreases-loop : tie.decreases-loop
+abbrev decreases-loop : tie.decreases-loop-j
 decreases-loop f c rows columns cells totals₀ j₀ totals j = columns - j
 
-abbrev entry : tie.At-loop invariant-loop decreases-loop → tie.Start invariant-loop decreases-loop
+abbrev entry : tie.At-loop-j invariant-loop decreases-loop → tie.Start invariant-loop decreases-loop
 entry h = h.before.before.before
 
-column-is : (t : tie.After-column invariant-loop decreases-loop) → let h = t.before.before in let a = (entry h).args in
-    t.column.result.result ≡ plain_total (format_of a.f) (settings_of a.c) (column_of a.rows a.columns a.cells.now h.loop.j)
-column-is t = ap (λ (r : Answer). r.result) t.column.ensures
+column-is : (t : tie.After-column-a invariant-loop decreases-loop) → let h = t.before.before in let a = (entry h).args in
+    t.column-a.result.result ≡ plain_total (format_of a.f) (settings_of a.c) (column_of a.rows a.columns a.cells.now h.loop-j.j)
+column-is t = ap (λ (r : Answer). r.result) t.column-a.ensures
 
-loop-holds : tie.Need-loop-init invariant-loop decreases-loop
+loop-holds : tie.Need-loop-j-init invariant-loop decreases-loop
 loop-holds c = (search rules, refl, refl)
 
-column-requires : tie.Need-column-requires invariant-loop decreases-loop
+column-requires : tie.Need-column-a-requires invariant-loop decreases-loop
 column-requires c κs =
     let h = c.before in
     let s = entry h in
     let a = s.args in
-    let some : a.rows * 1 ≤ a.rows * a.columns = mul-le-mul_left a.rows (omega (arith, c.loop-test.true)) in (
-      (omega (arith, s.requires.0), c.loop-test.true),
+    let some : a.rows * 1 ≤ a.rows * a.columns = mul-le-mul_left a.rows (omega (arith, c.loop-j-test.true)) in (
+      (omega (arith, s.requires.0), c.loop-j-test.true),
       fewer-pass (format_of a.f) (settings_of a.c) 0 a.rows _ (omega (arith, some, s.requires.0)) s.requires.2,
     )
 
-mul-totals : tie.Need-overflow-mul-totals invariant-loop decreases-loop
+mul-totals : tie.Need-offset_bounds-totals-j invariant-loop decreases-loop
 mul-totals c = search rules
 
-slice-write-totals : tie.Need-slice-write-totals invariant-loop decreases-loop
-slice-write-totals c = let h = c.before.before in omega (arith, h.loop.invariant.1)
+slice-write-totals : tie.Need-bounds-totals-j invariant-loop decreases-loop
+slice-write-totals c = let h = c.before.before in omega (arith, h.loop-j.invariant.1)
 
-add-j : tie.Need-overflow-add-j invariant-loop decreases-loop
+add-j : tie.Need-overflow_add-j invariant-loop decreases-loop
 add-j c = search rules
 
-loop-less : tie.Need-loop-smaller invariant-loop decreases-loop
+loop-less : tie.Need-loop-j-smaller invariant-loop decreases-loop
 loop-less c = search rules
 
-loop-again : tie.Need-loop-preserved invariant-loop decreases-loop
+loop-again : tie.Need-loop-j-preserved invariant-loop decreases-loop
 loop-again c =
     let h = c.before.before in
-    let l = h.loop in
+    let l = h.loop-j in
     let a = (entry h).args in
     let g = plain_total (format_of a.f) (settings_of a.c) in
     let cells = a.cells.now in
@@ -70,19 +70,19 @@ loop-again c =
           ∙ ap (λ (k : ℕ). filled (map g (columns_from a.rows a.columns cells 0 k)) old) (sym (add-one l.j)),
     )
 
-same_length : tie.Need-same-length invariant-loop decreases-loop
-same_length c = c.before.loop.invariant.1
+same_length : tie.Need-shape_of-totals invariant-loop decreases-loop
+same_length c = c.loop-j.invariant.1
 
 returns : tie.Need-returns invariant-loop decreases-loop
 returns c =
     let h = c.before in
     let a = (entry h).args in
     let g = plain_total (format_of a.f) (settings_of a.c) in
-    let all : h.loop.j ≡ a.columns = omega arith in
-    h.loop.invariant.2 ∙ ap (λ (k : ℕ). filled (map g (columns_from a.rows a.columns a.cells.now 0 k)) a.totals.now) all
+    let all : h.loop-j.j ≡ a.columns = omega arith in
+    h.loop-j.invariant.2 ∙ ap (λ (k : ℕ). filled (map g (columns_from a.rows a.columns a.cells.now 0 k)) a.totals.now) all
 
-pub fill-columns-spec : {M : Type 1} → statement M
-fill-columns-spec =
+pub fill_columns_spec : {M : Type 1} → statement M
+fill_columns_spec =
     tie.close
     (tie.spec
     invariant-loop

@@ -14,70 +14,70 @@ use Rattle.format.specs.Joined.{format_of, settings_of}
 use Rattle.totals.proofs.table.fill_rows.Statement.{statement}
 use Rattle.totals.proofs.table.fill_rows.Tie as tie
 
-abbrev invariant-loop : tie.invariant-loop
+abbrev invariant-loop : tie.invariant-loop-i
 invariant-loop f c rows columns cells totals₀ i₀ at₀ totals i at =
     (i ≤ rows) × (at ≡ i * columns) × (length totals ≡ length totals₀)
     × (totals ≡ filled (map (plain_total (format_of f) (settings_of c)) (rows_of i columns cells)) totals₀)
 
-abbrev decreases-loop : tie.decreases-loop
+abbrev decreases-loop : tie.decreases-loop-i
 decreases-loop f c rows columns cells totals₀ i₀ at₀ totals i at = rows - i
 
 -- in a turn: the row lies among the cells
-abbrev entry : tie.At-loop invariant-loop decreases-loop → tie.Start invariant-loop decreases-loop
+abbrev entry : tie.At-loop-i invariant-loop decreases-loop → tie.Start invariant-loop decreases-loop
 entry h = h.before.before.before
 
-there : (t : tie.In-loop invariant-loop decreases-loop) → let l = t.before.loop in let a = (entry t.before).args in l.at + a.columns ≤ length a.cells.now
+there : (t : tie.In-loop-i invariant-loop decreases-loop) → let l = t.loop-i in let a = (entry t.before).args in l.at + a.columns ≤ length a.cells.now
 there t =
     let h = t.before in
     let s = entry h in
-    omega (arith, h.loop.invariant.1, s.requires.0, mul-le-mul_right s.args.columns (add-one-le t.loop-test.true))
+    omega (arith, h.loop-i.invariant.1, s.requires.0, mul-le-mul_right s.args.columns (add-one-le t.loop-i-test.true))
 
-row_is : (t : tie.After-sum invariant-loop decreases-loop) → let h = t.before.before.before in let a = (entry h).args in
-    t.sum.result.result ≡ plain_total (format_of a.f) (settings_of a.c) (take a.columns (drop (h.loop.i * a.columns) a.cells.now))
+row_is : (t : tie.After-sum-a invariant-loop decreases-loop) → let h = t.before.before.before in let a = (entry h).args in
+    t.sum-a.result.result ≡ plain_total (format_of a.f) (settings_of a.c) (take a.columns (drop (h.loop-i.i * a.columns) a.cells.now))
 row_is t =
     let h = t.before.before.before in
     let a = (entry h).args in
-    let wide : h.loop.at + a.columns - h.loop.at ≡ a.columns = omega arith in
-    ap (λ (r : Answer). r.result) t.sum.ensures
-    ∙ ap₂ (λ (n k : ℕ). plain_total (format_of a.f) (settings_of a.c) (take n (drop k a.cells.now))) wide h.loop.invariant.1
+    let wide : h.loop-i.at + a.columns - h.loop-i.at ≡ a.columns = omega arith in
+    ap (λ (r : Answer). r.result) t.sum-a.ensures
+    ∙ ap₂ (λ (n k : ℕ). plain_total (format_of a.f) (settings_of a.c) (take n (drop k a.cells.now))) wide h.loop-i.invariant.1
 
-loop-holds : tie.Need-loop-init invariant-loop decreases-loop
+loop-holds : tie.Need-loop-i-init invariant-loop decreases-loop
 loop-holds c = (search rules, omega arith, refl, refl)
 
-add-end : tie.Need-overflow-add-end invariant-loop decreases-loop
+add-end : tie.Need-overflow_add-end invariant-loop decreases-loop
 add-end c = omega (arith, there c)
 
-mul-sum : tie.Need-overflow-mul-sum invariant-loop decreases-loop
+mul-sum : tie.Need-offset_bounds-cells-at invariant-loop decreases-loop
 mul-sum c = omega (arith, there c, (entry c.before).well_formed)
 
-sub-sum : tie.Need-overflow-sub-sum invariant-loop decreases-loop
+sub-sum : tie.Need-slice_bounds-sum-count invariant-loop decreases-loop
 sub-sum c = omega arith
 
-part-sum-start : tie.Need-slice-bounds-sum-start invariant-loop decreases-loop
+part-sum-start : tie.Need-slice_bounds-sum-start invariant-loop decreases-loop
 part-sum-start c = omega arith
 
-part-sum-end : tie.Need-slice-bounds-sum-end invariant-loop decreases-loop
+part-sum-end : tie.Need-slice_bounds-sum-end invariant-loop decreases-loop
 part-sum-end c = there c
 
-sum-requires : tie.Need-sum-requires invariant-loop decreases-loop
+sum-requires : tie.Need-sum-a-requires invariant-loop decreases-loop
 sum-requires c κs = search rules
 
-mul-totals : tie.Need-overflow-mul-totals invariant-loop decreases-loop
+mul-totals : tie.Need-offset_bounds-totals-i invariant-loop decreases-loop
 mul-totals c = search rules
 
-slice-write-totals : tie.Need-slice-write-totals invariant-loop decreases-loop
-slice-write-totals c = let h = c.before.before.before in omega (arith, h.loop.invariant.2)
+slice-write-totals : tie.Need-bounds-totals-i invariant-loop decreases-loop
+slice-write-totals c = let h = c.before.before.before in omega (arith, h.loop-i.invariant.2)
 
-add-i : tie.Need-overflow-add-i invariant-loop decreases-loop
+add-i : tie.Need-overflow_add-i invariant-loop decreases-loop
 add-i c = search rules
 
-loop-less : tie.Need-loop-smaller invariant-loop decreases-loop
+loop-less : tie.Need-loop-i-smaller invariant-loop decreases-loop
 loop-less c = search rules
 
-loop-again : tie.Need-loop-preserved invariant-loop decreases-loop
+loop-again : tie.Need-loop-i-preserved invariant-loop decreases-loop
 loop-again c =
     let h = c.before.before.before in
-    let l = h.loop in
+    let l = h.loop-i in
     let s = entry h in
     let a = s.args in
     let g = plain_total (format_of a.f) (settings_of a.c) in
@@ -91,19 +91,19 @@ loop-again c =
           ∙ ap (λ (k : ℕ). filled (map g (rows_of k a.columns cells)) old) (sym (add-one l.i)),
     )
 
-same_length : tie.Need-same-length invariant-loop decreases-loop
-same_length c = c.before.loop.invariant.2
+same_length : tie.Need-shape_of-totals invariant-loop decreases-loop
+same_length c = c.loop-i.invariant.2
 
 returns : tie.Need-returns invariant-loop decreases-loop
 returns c =
     let h = c.before in
     let a = (entry h).args in
     let g = plain_total (format_of a.f) (settings_of a.c) in
-    let all : h.loop.i ≡ a.rows = omega arith in
-    h.loop.invariant.3 ∙ ap (λ (k : ℕ). filled (map g (rows_of k a.columns a.cells.now)) a.totals.now) all
+    let all : h.loop-i.i ≡ a.rows = omega arith in
+    h.loop-i.invariant.3 ∙ ap (λ (k : ℕ). filled (map g (rows_of k a.columns a.cells.now)) a.totals.now) all
 
-pub fill-rows-spec : {M : Type 1} → statement M
-fill-rows-spec =
+pub fill_rows_spec : {M : Type 1} → statement M
+fill_rows_spec =
     tie.close
     (tie.spec
     invariant-loop

@@ -14,21 +14,21 @@ no_word : (high low p n : ℕ) → high * 2 ^ 64 + low ≡ p → (high ≡ 0 →
 no_word zero low p n e h k q = h refl
 no_word (suc high) low p n e h k q = omega (arith, e, k, q)
 
-widening-mul-requires : tie.Need-widening-mul-requires
+widening-mul-requires : tie.Need-widening_mul-p-requires
 widening-mul-requires c κs = search rules
 
-returns : tie.Need-returns
+returns : tie.Need-returns-then-p-ne0
 returns c =
     let m = c.before.before in
-    let a = m.before.args in
-    sym (ap not (ne_eqb (a.rows * a.columns) a.n (no_word _ _ _ a.n m.widening-mul.ensures c.if1.true (omega arith))))
+    let a = m.args in
+    sym (ap not (ne_eqb (a.rows * a.columns) a.n (no_word _ _ _ a.n m.widening_mul-p.ensures c.if-p-ne0.true (omega arith))))
 
-returns-2 : tie.Need-returns-2
+returns-2 : tie.Need-returns
 returns-2 c =
     let m = c.before.before.before in
-    let a = m.before.args in
-    let low : m.widening-mul.result.low ≡ a.rows * a.columns = omega (arith, m.widening-mul.ensures, c.before.if1.false) in
+    let a = m.args in
+    let low : m.widening_mul-p.result.low ≡ a.rows * a.columns = omega (arith, m.widening_mul-p.ensures, c.if-p-ne0.false) in
     ap (λ (k : ℕ). not (eqb k a.n)) low
 
-pub misshapen-spec : {M : Type 1} → statement M
-misshapen-spec = tie.close (tie.spec widening-mul-requires returns returns-2)
+pub misshapen_spec : {M : Type 1} → statement M
+misshapen_spec = tie.close (tie.spec widening-mul-requires returns returns-2)
