@@ -1,5 +1,6 @@
 // Terms, what an element or a pair adds: a sign, a significand of two words and a shift in units.
 #![tactic(auto)]
+
 pub mod extended;
 
 ghost use Rattle.totals_spec.specs.Bounds.{FormatBounds};

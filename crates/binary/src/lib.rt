@@ -1,5 +1,6 @@
 // Encodings: decode, operand, encode; and the choice among NaNs.
 #![tactic(auto)]
+
 pub mod extended;
 pub mod nan;
 

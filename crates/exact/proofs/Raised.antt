@@ -1,7 +1,7 @@
 -- A value, counted from a unit n positions lower, stands for the same numbers.
 use mathlib.Core.Path.{◌≡◌, sym, ap, ◌∙◌}
 use mathlib.Core.Bool.{Bool, true, false}
-use Prim.Native.Nat.{ℕ, suc, ◌+◌, ◌*◌, ◌^◌, ◌<◌}
+use Prim.Native.Nat.{ℕ, suc, ◌+◌, ◌*◌, ◌^◌}
 use native.Mathlib.Nat.{mul_assoc, mul-lt-mul_of_pos_right}
 use lib.Pow.{pow-add, pow_pos}
 use Rattle.exact.specs.declared.Unrounded.{Unrounded}

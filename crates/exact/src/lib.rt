@@ -1,6 +1,7 @@
 // Exact values, and their one rounding into a format. Positions are counted in units, from 0 (totals_spec, Format). Significands of the
 // formats have up to 64 digits.
 #![tactic(auto)]
+
 pub mod rounding;
 
 ghost use Rattle.std.specs.Prelude.{◌≡◌, true, cond, ℕ, ◌+◌, ◌*◌, ◌/◌, ◌^◌, ◌<◌, ◌≤◌, leb, eqb};

@@ -1,6 +1,7 @@
 // Binary formats: what follows from the kind, the two widths and the bias. The exponent range is behind `emin`, `emax`, `depth`, `origin` and `grid`,
 // `fall` and `rise`: only these know the bias. Positions are counted in units, from 0 (totals_spec, Format).
 #![tactic(auto)]
+
 pub mod env;
 pub mod unpacked;
 

@@ -1,5 +1,5 @@
 -- Where a bit stands: in which word, and at which place of that word.
-use Rattle.std.specs.Prelude.{◌≡◌, ℕ, ◌+◌, ◌-◌, ◌*◌, ◌/◌, ◌%◌, ◌^◌, ◌<◌}
+use Rattle.std.specs.Prelude.{◌≡◌, ℕ, ◌-◌, ◌*◌, ◌/◌, ◌%◌, ◌^◌, ◌<◌}
 use Rattle.limbs.specs.declared.word.Place.{Place}
 
 pub record Splits (position : ℕ) (p : Place) : Type 0 where

@@ -1,5 +1,6 @@
 // A term of at most 128 bits, high * 2^64 + low, shifted and added to a window or taken off it, touching only the words that change.
 #![tactic(auto)]
+
 ghost use Rattle.std.specs.Prelude.{◌≡◌, ◌^◌, if◌then◌else◌, nat_lt};
 ghost use Rattle.limbs.specs.Value.{value, term, moved};
 ghost use Rattle.limbs_term.specs.Placed.{flip, Lays, Turns, Settles};

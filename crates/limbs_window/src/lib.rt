@@ -1,6 +1,7 @@
 // Arithmetic on a window of 768 bits, an array of twelve words by value, little end first. Contracts speak of the window's number, `value`, which is
 // modulo 2^768 where it could be more.
 #![tactic(auto)]
+
 ghost use Rattle.std.specs.Prelude.{◌≡◌, ◌∷◌, not, ◌-◌, ◌*◌, ◌/◌, ◌%◌, ◌^◌, ◌<◌, eqb, get_or};
 ghost use Rattle.limbs.specs.Value.{value, bit_length, plus, minus};
 ghost use Rattle.limbs_window.specs.Compared.{compared};

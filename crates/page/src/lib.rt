@@ -1,5 +1,6 @@
 // Career pages, as bytes: values, a summary of each group of 64 of them, a trailer. A page opens where it is the page of its own values.
 #![tactic(auto)]
+
 ghost use Rattle.std.specs.Prelude.{◌≡◌, true, [], ◌∷◌, ◌+◌, ◌-◌, ◌*◌, ◌/◌, ◌%◌, ◌<◌, ◌≤◌, ltb, length, take, drop};
 ghost use Rattle.totals_spec.specs.Basics.{least};
 ghost use Rattle.totals_spec.specs.Bytes.{values_from, values_in};

@@ -1,5 +1,6 @@
 // What the operands of a sum add up to before the finite terms: one walk over the list, and what that alone decides.
 #![tactic(auto)]
+
 pub mod extended;
 pub mod walk;
 

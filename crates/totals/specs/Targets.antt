@@ -1,5 +1,5 @@
 -- The targets of a list (document 02, A.14): the tests that do not look at the elements, and what the walk that all targets share keeps.
-use Rattle.std.specs.Prelude.{◌≡◌, Bool, true, false, not, ◌&&◌, List, ℕ, leb, ltb, length}
+use Rattle.std.specs.Prelude.{◌≡◌, false, not, ◌&&◌, List, ℕ, leb, ltb, length}
 use Rattle.totals_spec.specs.Basics.{any}
 use Rattle.totals_spec.specs.Format.{Format, valid_format}
 use Rattle.totals_spec.specs.Settings.{Settings, valid_settings}

@@ -1,5 +1,6 @@
 // Exact totals of lists of binary floating-point numbers, rounded once. Every call answers: what cannot be totalled is refused, with a number.
 #![tactic(auto)]
+
 pub mod entry;
 mod extended;
 mod lists;

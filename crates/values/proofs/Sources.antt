@@ -2,7 +2,7 @@
 use mathlib.Core.Path.{◌≡◌, refl, sym, ap, ◌∙◌}
 use mathlib.Core.Bool.{Bool, true, false}
 use mathlib.Core.List.{List}
-use Prim.Native.Nat.{ℕ, zero, suc, ◌+◌, ◌*◌, ◌-◌, ◌/◌, ◌^◌, ◌<◌, ◌≤◌}
+use Prim.Native.Nat.{ℕ, zero, suc, ◌+◌, ◌*◌, ◌-◌, ◌^◌, ◌<◌, ◌≤◌}
 use native.Mathlib.Nat.{le_of_suc-le-suc, not-suc-le-zero, add-zero, zero-mul, mul-one, zero-add, mul_comm}
 use native.Mathlib.Nat.{mul-le-mul_right, le_of_mul-le-mul_right, lt_of_mul-lt-mul_right}
 use native.Mathlib.Numerals.{add-one-le}
@@ -10,8 +10,7 @@ use native.Mathlib.Omega.{arith}
 use lib.Dec.{eqb, lit<}
 use lib.ListN.{length, get_or}
 use lib.Seq.{ext_get_or}
-use Rattle.totals_spec.specs.Bytes.{values_in}
-use Rattle.totals_spec.proofs.Values.{values_length, values-small}
+use Rattle.totals_spec.proofs.Values.{values-small}
 use Rattle.values.specs.declared.Source.{Source}
 use Rattle.values.specs.Sources.{source_of, strided, laid_out, values, elements, Within, Straight}
 

@@ -1,5 +1,6 @@
 // Values in bytes, eight to a value, or ten, the least byte first.
 #![tactic(auto)]
+
 ghost use Rattle.std.specs.Prelude.{◌≡◌, ◌+◌, ◌*◌, ◌/◌, ◌<◌, ◌≤◌, length, take, drop, get_or};
 ghost use Rattle.totals_spec.specs.Bytes.{from_bytes, values_in};
 ghost use Rattle.totals_spec.specs.Extended.{tens_in};

@@ -1,5 +1,6 @@
 // The exact sum of terms, found in a window of 768 bits that moves down: what one pass sees, and what follows from it.
 #![tactic(auto)]
+
 ghost use Rattle.std.specs.Prelude.{◌≡◌, true, false, ℕ, ◌+◌, ◌-◌, ◌*◌, ◌/◌, ◌%◌, ◌^◌, ◌<◌, ◌≤◌};
 ghost use Rattle.limbs.specs.Value.{value, bit_length};
 ghost use Rattle.totals_spec.specs.Basics.{flag};

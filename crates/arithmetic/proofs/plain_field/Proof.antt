@@ -1,7 +1,6 @@
 -- `arithmetic::plain_field` meets its contract.
 use mathlib.Core.Path.{sym, ◌∙◌}
 use borrow.Author.Rules.{rules}
-use borrow.Author.Tests.{not-true, not-false}
 use Rattle.arithmetic.proofs.plain_field.Statement.{statement}
 use Rattle.arithmetic.proofs.plain_field.Tie as tie
 

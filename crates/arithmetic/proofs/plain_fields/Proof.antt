@@ -3,7 +3,6 @@ use mathlib.Core.Path.{sym, ap₂, ◌∙◌}
 use Prim.Native.Nat.{◌+◌}
 use native.Mathlib.Omega.{arith}
 use borrow.Author.Rules.{rules}
-use borrow.Author.Tests.{not-true, not-false}
 use Rattle.format.specs.Joined.{format_of}
 use Rattle.arithmetic.proofs.Elements.{field-small}
 use Rattle.arithmetic.proofs.plain_fields.Statement.{statement}

@@ -1,6 +1,5 @@
 -- `binary::is_nan_pattern` meets its contract.
 use Rattle.std.proofs.Common.{sym, ◌∙◌, rules}
-use borrow.Author.Tests.{not-true, not-false}
 use Rattle.totals_spec.specs.Format.{Format}
 use Rattle.format.specs.Joined.{format_of}
 use Rattle.binary.proofs.Cases.{noinf-field, noinf-last, fnuz-plus, fnuz-field, fnuz-last, pattern-other}

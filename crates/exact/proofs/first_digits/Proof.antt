@@ -4,7 +4,6 @@ use native.Mathlib.Nat.{le_refl}
 use native.Mathlib.Omega.{arith}
 use lib.Pow.{pow-lt}
 use borrow.Author.Rules.{rules}
-use borrow.Author.Tests.{not-true, not-false}
 use Rattle.totals_spec.proofs.Powers.{carried}
 use Rattle.exact.proofs.Plan.{first-lt, first-ge, rounded-to}
 use Rattle.exact.proofs.first_digits.Statement.{statement}

@@ -1,5 +1,5 @@
 -- `limbs_term::move_term` meets its contract.
-use Rattle.std.proofs.Common.{◌≡◌, ℕ, ◌+◌, ◌-◌, ◌*◌, ◌%◌, ◌^◌, ap, ◌∙◌, arith, rules}
+use Rattle.std.proofs.Common.{◌≡◌, ℕ, ◌+◌, ◌*◌, ◌%◌, ◌^◌, ap, ◌∙◌, arith, rules}
 use native.Mathlib.Nat.{add-mod-mod, mod-mod}
 use Rattle.limbs.specs.Value.{value, term}
 use Rattle.limbs_term.proofs.move_term.Statement.{statement}

@@ -9,7 +9,6 @@ use Rattle.totals_spec.specs.Terms.{item}
 use Rattle.arithmetic.specs.declared.Item.{Item}
 use Rattle.arithmetic.specs.Joined.{item_of}
 use Rattle.arithmetic.proofs.Elements.{operand-bounded}
-use Rattle.page.specs.declared.Seen.{Seen}
 use Rattle.page.specs.Paged.{seen_of, both}
 use Rattle.page.proofs.Gathering.{also, also-is}
 use Rattle.page.proofs.Numbers.{bounds64}

@@ -5,7 +5,6 @@ use mathlib.Core.List.{List}
 use Prim.Native.Nat.{ℕ, ◌<◌, ◌≤◌}
 use native.Mathlib.Omega.{arith}
 use borrow.Author.Rules.{rules}
-use borrow.Author.Tests.{not-true, not-false}
 use lib.Dec.{T}
 use Rattle.totals_spec.specs.Limit.{ceil_div}
 use Rattle.totals_spec.specs.Pages.{page_length, count_in, opens}

@@ -2,10 +2,10 @@
 use mathlib.Core.Path.{◌≡◌, sym, ap, ◌∙◌}
 use mathlib.Core.Bool.{Bool}
 use mathlib.Core.List.{List}
-use Prim.Native.Nat.{ℕ, ◌<◌}
+use Prim.Native.Nat.{ℕ}
 use native.Mathlib.Omega.{arith}
 use borrow.Author.Tests.{eq-eqb, ne_eqb}
-use lib.ListN.{length, get_or}
+use lib.ListN.{get_or}
 use Rattle.totals_spec.specs.Bytes.{values_in}
 use Rattle.totals_spec.proofs.Values.{values_length}
 use Rattle.values.specs.Sources.{laid_out, values}

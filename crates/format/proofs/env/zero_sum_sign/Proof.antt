@@ -1,5 +1,4 @@
 -- `format::env::zero_sum_sign` meets its contract.
-use borrow.Author.Tests.{not-true, not-false}
 use borrow.Author.Rules.{rules}
 use Rattle.format.proofs.env.zero_sum_sign.Statement.{statement}
 use Rattle.format.proofs.env.zero_sum_sign.Tie as tie

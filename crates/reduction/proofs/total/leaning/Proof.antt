@@ -2,7 +2,6 @@
 use mathlib.Core.Path.{◌≡◌, sym, ◌∙◌}
 use mathlib.Core.Bool.{true, false}
 use borrow.Author.Rules.{rules}
-use borrow.Author.Tests.{not-true, not-false}
 use Rattle.totals_spec.specs.Side.{is_on}
 use Rattle.reduction.proofs.total.leaning.Statement.{statement}
 use Rattle.reduction.proofs.total.leaning.Tie as tie

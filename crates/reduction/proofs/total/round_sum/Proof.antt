@@ -1,7 +1,6 @@
 -- `reduction::total::round_sum` meets its contract.
-use mathlib.Core.Path.{◌≡◌, sym, ap, ◌∙◌}
-use mathlib.Core.Bool.{true, false}
-use Prim.Native.Nat.{ℕ, ◌^◌, ◌<◌}
+use mathlib.Core.Path.{sym, ◌∙◌}
+use Prim.Native.Nat.{◌^◌, ◌<◌}
 use native.Mathlib.Nat.{zero-mul, pos_of_ne-zero}
 use native.Mathlib.Omega.{arith}
 use borrow.Author.Rules.{rules}
@@ -13,7 +12,6 @@ use Rattle.totals_spec.specs.Decode.{zero_of}
 use Rattle.totals_spec.specs.Totals.{towards_negative, sum_rounded}
 use Rattle.format.specs.Joined.{format_of, settings_of}
 use Rattle.exact.specs.Joined.{significand_of}
-use Rattle.window.specs.Joined.{Remains}
 use Rattle.window.proofs.Left.{left-sum, left-rounds}
 use Rattle.reduction.proofs.total.round_sum.Statement.{statement}
 use Rattle.reduction.proofs.total.round_sum.Tie as tie

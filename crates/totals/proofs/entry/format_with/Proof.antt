@@ -1,6 +1,5 @@
 -- `totals::entry::format_with` meets its contract.
 use mathlib.Core.Path.{ap}
-use borrow.Author.Rules.{rules}
 use Rattle.limbs.proofs.Signs.{read}
 use Rattle.totals.specs.Entered.{biased_from}
 use Rattle.totals.proofs.entry.format_with.Statement.{statement}

@@ -2,7 +2,6 @@
 use mathlib.Core.Path.{◌≡◌, sym, ◌∙◌}
 use mathlib.Core.Bool.{true}
 use borrow.Author.Rules.{rules}
-use borrow.Author.Tests.{not-true, not-false}
 use Rattle.totals_spec.specs.Settings.{valid_settings}
 use Rattle.totals_spec.specs.Extended.{extended, valid_extended}
 use Rattle.totals_spec.proofs.Spread.{extended-bounds}

@@ -2,7 +2,6 @@
 use mathlib.Core.Path.{◌≡◌, sym, ◌∙◌}
 use mathlib.Core.Bool.{true}
 use borrow.Author.Rules.{rules}
-use borrow.Author.Tests.{not-true, not-false}
 use Rattle.totals_spec.specs.Format.{valid_format}
 use Rattle.totals_spec.proofs.Bits.{T_of}
 use Rattle.totals_spec.proofs.Valid.{format-bounds}

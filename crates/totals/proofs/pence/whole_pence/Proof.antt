@@ -1,11 +1,10 @@
 -- `totals::pence::whole_pence` meets its contract.
-use mathlib.Core.Path.{◌≡◌, sym, ap, ◌∙◌}
+use mathlib.Core.Path.{sym, ap, ◌∙◌}
 use mathlib.Core.Bool.{Bool}
 use Prim.Native.Nat.{◌<◌}
 use native.Mathlib.Nat.{pos_of_ne-zero}
 use borrow.Author.Rules.{rules}
 use borrow.Author.Tests.{eqb-true, eqb-false}
-use Rattle.totals_spec.specs.Basics.{Signed}
 use Rattle.totals_spec.specs.Hundredfold.{whole_figure}
 use Rattle.totals_spec.proofs.Nearest.{figure-none}
 use Rattle.format.specs.Joined.{format_of}

@@ -3,7 +3,6 @@ use mathlib.Core.Path.{◌≡◌, refl, sym, ap, ◌∙◌, subst}
 use mathlib.Core.Bool.{true, ◌&&◌}
 use lib.Dec.{T}
 use borrow.Author.Rules.{rules}
-use borrow.Author.Tests.{not-true, not-false}
 use Rattle.totals_spec.specs.Format.{binary64}
 use Rattle.totals_spec.specs.Decode.{decode}
 use Rattle.totals_spec.specs.Ranges.{figure_worth, nothing, at_most, good_figure}

@@ -4,7 +4,6 @@ use mathlib.Core.Bool.{true, ◌&&◌}
 use native.Mathlib.Omega.{arith}
 use lib.Dec.{T}
 use borrow.Author.Rules.{rules}
-use borrow.Author.Tests.{not-true, not-false}
 use Rattle.totals_spec.specs.Ranges as spec
 use Rattle.totals.proofs.RangeFigures.{untold-bad, first-bad, known_is, between_is}
 use Rattle.totals.proofs.range.good_entry.Statement.{statement}

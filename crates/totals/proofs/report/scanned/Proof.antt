@@ -1,6 +1,5 @@
 -- `totals::report::scanned` meets its contract.
 use mathlib.Core.Path.{refl}
-use borrow.Author.Rules.{rules}
 use borrow.Author.Tests.{eq-eqb, ne_eqb}
 use Rattle.totals.proofs.report.scanned.Statement.{statement}
 use Rattle.totals.proofs.report.scanned.Tie as tie

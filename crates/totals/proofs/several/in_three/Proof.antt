@@ -1,6 +1,6 @@
 -- `totals::several::in_three` meets its contract.
 use mathlib.Core.Path.{◌≡◌, sym}
-use Prim.Native.Nat.{ℕ, ◌/◌}
+use Prim.Native.Nat.{◌/◌}
 use borrow.Author.Rules.{rules}
 use lib.ListN.{length}
 use Rattle.totals_spec.specs.Bytes.{values_in}

@@ -1,11 +1,11 @@
 -- `totals::several::walk_once` meets its contract.
 use mathlib.Core.Path.{◌≡◌, sym, ap, ◌∙◌}
-use Prim.Native.Nat.{ℕ, ◌/◌}
+use Prim.Native.Nat.{◌/◌}
 use borrow.Author.Rules.{rules}
 use lib.ListN.{length}
 use Rattle.totals_spec.specs.Settings.{Settings}
 use Rattle.further_spec.specs.Several.{reading_with}
-use Rattle.format.specs.Joined.{format_of, settings_of}
+use Rattle.format.specs.Joined.{format_of}
 use Rattle.totals.specs.Refusal.{sum_numbers}
 use Rattle.totals.proofs.several.walk_once.Statement.{statement}
 use Rattle.totals.proofs.several.walk_once.Tie as tie
