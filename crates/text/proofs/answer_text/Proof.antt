@@ -11,35 +11,35 @@ use Rattle.text.proofs.answer_text.Statement.{statement}
 use Rattle.text.proofs.answer_text.Tie as tie
 
 -- once the lines are read
-abbrev entry : tie.After-read-lines → tie.Start
+abbrev entry : tie.After-read_lines-lines → tie.Start
 entry t = t.before.before.before
 
-read_is : (t : tie.After-lines) → let r = t.before.before in let now = r.read-lines.new.1.0 in let n = t.lines.given.0.0 in
+read_is : (t : tie.In-Count) → let r = t.before in let now = r.read_lines-lines.new.values in let n = t.in-Count.n in
     (read_from 1 (lines (entry r).args.input.now) ≡ values (take n now)) × (n ≤ 8192) × (length now ≡ 8192)
 read_is t =
-    let r = t.before.before in
-    let told = r.read-lines.ensures in
-    told-count (entry r).args.input.now (replicate 8192 0) _ _ (length-replicate {A = ℕ} 8192 0) (sym t.lines.given.1 ∙ told.0) told.1
+    let r = t.before in
+    let told = r.read_lines-lines.ensures in
+    told-count (entry r).args.input.now (replicate 8192 0) _ _ (length-replicate {A = ℕ} 8192 0) (sym t.in-Count.is ∙ told.0) told.1
 
-array-share-prefix-values : tie.Need-array-share-prefix-values
-array-share-prefix-values c = omega (arith, (read_is c.before).1, (read_is c.before).2)
+array-share-prefix-values : tie.Need-slice_bounds-values-end
+array-share-prefix-values c = omega (arith, (read_is c).1, (read_is c).2)
 
-slice-aggregate-sum-text : tie.Need-slice-aggregate-sum-text
-slice-aggregate-sum-text c = let t = read_is c.before.before in sym (length-take-le _ _ (omega (arith, t.1, t.2)))
+slice-aggregate-sum-text : tie.Need-slice_bounds-sum_text-end
+slice-aggregate-sum-text c = let t = read_is c.before in sym (length-take-le _ _ (omega (arith, t.1, t.2)))
 
-returns : tie.Need-returns
+returns : tie.Need-returns-in-Count
 unfolding program_text
-returns c = rw (read_is c.before.before.before).0 c.sum-text.ensures
+returns c = rw (read_is c.before.before).0 c.sum_text.ensures
 
-returns-2 : tie.Need-returns-2
+returns-2 : tie.Need-returns-in-Bad
 unfolding program_text
 returns-2 c =
-    let b = c.before.before in
-    let r = b.before.before in
-    rw (told-bad-line (entry r).args.input.now _ (sym b.lines2.given.1 ∙ r.read-lines.ensures.0)).0 c.refused-line.ensures
+    let b = c.before in
+    let r = b.before in
+    rw (told-bad-line (entry r).args.input.now _ (sym b.in-Bad.is ∙ r.read_lines-lines.ensures.0)).0 c.refused_line.ensures
 
-pub answer-text-spec : {M : Type 1} → statement M
-answer-text-spec =
+pub answer_text_spec : {M : Type 1} → statement M
+answer_text_spec =
     tie.close
     (tie.spec
     (λ c κs. search rules)

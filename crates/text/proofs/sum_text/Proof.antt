@@ -13,12 +13,12 @@ use Rattle.text.proofs.sum_text.Tie as tie
 returns : tie.Need-returns
 returns c =
     let t = c.before.before in
-    let a = t.before.sum in
-    let p = t.pence-of-sum in
-    subst (Holds c.answer-lines.result)
+    let a = t.sum-a in
+    let p = t.pence_of_sum-p in
+    subst (Holds c.answer_lines.result)
     (answer-is (answer_of a.result) (pence_record p.result) _ _ (read p.result.figure (search rules)) refl ∙ ap₂ answer_text a.ensures p.ensures)
-    c.answer-lines.ensures
+    c.answer_lines.ensures
 
-pub sum-text-spec : {M : Type 1} → statement M
-sum-text-spec =
+pub sum_text_spec : {M : Type 1} → statement M
+sum_text_spec =
     tie.close (tie.spec (λ c κs. search rules) (λ c κs. search rules) (λ c κs. search rules) returns)

@@ -10,56 +10,56 @@ use Rattle.text.proofs.Filled.{Filled, filled-start, filled_more, ended-after, e
 use Rattle.text.proofs.read.read_lines.Statement.{statement}
 use Rattle.text.proofs.read.read_lines.Tie as tie
 
-abbrev invariant-loop : tie.invariant-loop
+abbrev invariant-loop : tie.invariant-loop-at
 invariant-loop input values₀ n₀ at₀ values n at = Filled input values₀ values n at
 
-abbrev decreases-loop : tie.decreases-loop
+abbrev decreases-loop : tie.decreases-loop-at
 decreases-loop input values₀ n₀ at₀ values n at = length input - at
 
 -- at the loop's head, and in a turn, once the line is read
-abbrev entry : tie.At-loop invariant-loop decreases-loop → tie.Start invariant-loop decreases-loop
+abbrev entry : tie.At-loop-at invariant-loop decreases-loop → tie.Start invariant-loop decreases-loop
 entry h = h.before.before
 
-abbrev head : tie.After-line-at invariant-loop decreases-loop → tie.At-loop invariant-loop decreases-loop
+abbrev head : tie.After-line_at-line invariant-loop decreases-loop → tie.At-loop-at invariant-loop decreases-loop
 head t = t.before.before.before
 
-loop-holds : tie.Need-loop-init invariant-loop decreases-loop
-loop-holds c = filled-start _ _ c.before.requires
+loop-holds : tie.Need-loop-at-init invariant-loop decreases-loop
+loop-holds c = filled-start _ _ c.requires
 
-returns : tie.Need-returns invariant-loop decreases-loop
+returns : tie.Need-returns-then-n-eq8192 invariant-loop decreases-loop
 returns c =
     let h = c.before.before in
     let a = (entry h).args in
-    let l = h.loop in
-    ended-full a.input.now a.values.now l.values l.n l.at l.invariant (omega arith) c.if1.true
+    let l = h.loop-at in
+    ended-full a.input.now a.values.now l.values l.n l.at l.invariant (omega arith) c.if-n-eq8192.true
 
-returns-2 : tie.Need-returns-2 invariant-loop decreases-loop
+returns-2 : tie.Need-returns-in_default invariant-loop decreases-loop
 returns-2 c =
+    let t = c.before in
+    let h = head t in
+    let a = (entry h).args in
+    let l = h.loop-at in
+    let e = sym t.line_at-line.ensures ∙ c.in_default.is in
+    ended-bad a.input.now a.values.now l.values l.n l.at l.invariant (omega arith) (omega arith) (told-bad _ e)
+
+loop-again : tie.Need-loop-at-preserved invariant-loop decreases-loop
+loop-again c =
     let t = c.before.before in
     let h = head t in
     let a = (entry h).args in
-    let l = h.loop in
-    let e = sym t.line_at_lem.ensures ∙ c.enum_told.given.1 in
-    ended-bad a.input.now a.values.now l.values l.n l.at l.invariant (omega arith) (omega arith) (told-bad _ e)
-
-loop-again : tie.Need-loop-preserved invariant-loop decreases-loop
-loop-again c =
-    let t = c.before.before.before in
-    let h = head t in
-    let a = (entry h).args in
-    let l = h.loop in
-    let e = sym t.line_at_lem.ensures ∙ c.before.line.given.1 in
+    let l = h.loop-at in
+    let e = sym t.line_at-line.ensures ∙ c.in-Value.is in
     rw (add-one l.n) (filled_more a.input.now a.values.now l.values l.n l.at l.invariant (omega arith) (omega arith) _ (told-value _ _ e))
 
-returns-3 : tie.Need-returns-3 invariant-loop decreases-loop
+returns-3 : tie.Need-returns invariant-loop decreases-loop
 returns-3 c =
     let h = c.before in
     let a = (entry h).args in
-    let l = h.loop in
+    let l = h.loop-at in
     ended-after a.input.now a.values.now l.values l.n l.at l.invariant (omega arith)
 
-pub read-lines-spec : {M : Type 1} → statement M
-read-lines-spec =
+pub read_lines_spec : {M : Type 1} → statement M
+read_lines_spec =
     tie.close
     (tie.spec
     invariant-loop

@@ -6,7 +6,7 @@ use Rattle.text.proofs.write.put_byte.Statement.{statement}
 use Rattle.text.proofs.write.put_byte.Tie as tie
 
 returns : tie.Need-returns
-returns c = puts-byte c.before.args.t _ c.before.args.b c.before.requires refl refl
+returns c = puts-byte c.args.t _ c.args.b c.requires refl refl
 
-pub put-byte-spec : {M : Type 1} → statement M
-put-byte-spec = tie.close (tie.spec (λ c. search rules) (λ c. search rules) returns)
+pub put_byte_spec : {M : Type 1} → statement M
+put_byte_spec = tie.close (tie.spec (λ c. search rules) (λ c. search rules) returns)

@@ -7,20 +7,19 @@ use borrow.Author.Rules.{rules}
 use Rattle.text.proofs.write.refused_line.Statement.{statement}
 use Rattle.text.proofs.write.refused_line.Tie as tie
 
-put-byte-requires : tie.Need-put-byte-requires
-put-byte-requires c κs = omega (arith, after-decimal _ (search rules) c.put-decimal.ensures)
+put-byte-requires : tie.Need-put_byte-requires
+put-byte-requires c κs = omega (arith, after-decimal _ (search rules) c.put_decimal-number.ensures)
 
 returns : tie.Need-returns
 returns c =
     let b = c.before.before in
-    (puts_then b.put-bytes.ensures (puts_then c.before.put-decimal.ensures c.put_byte.ensures)).holds [] b.before.before.empty.ensures
+    (puts_then b.put_bytes-words.ensures (puts_then c.put_decimal-number.ensures c.put_byte.ensures)).holds [] b.empty.ensures
 
-pub refused-line-spec : {M : Type 1} → statement M
-refused-line-spec =
+pub refused_line_spec : {M : Type 1} → statement M
+refused_line_spec =
     tie.close
     (tie.spec
     (λ c κs. search rules)
-    (λ c. search rules)
     (λ c κs. search rules)
     (λ c κs. search rules)
     put-byte-requires
