@@ -4,14 +4,14 @@ use borrow.Author.Rules.{rules}
 use Rattle.codec_test.proofs.next_rows.Statement.{statement}
 use Rattle.codec_test.proofs.next_rows.Tie as tie
 
-abbrev invariant-loop : tie.invariant-loop
+abbrev invariant-loop : tie.invariant-loop-i
 invariant-loop part n agreed₀ i₀ agreed i = (i ≤ n) × (agreed ≤ 128 * i)
 
-abbrev decreases-loop : tie.decreases-loop
+abbrev decreases-loop : tie.decreases-loop-i
 decreases-loop part n agreed₀ i₀ agreed i = n - i
 
-pub next-rows-spec : {M : Type 1} → statement M
-next-rows-spec =
+pub next_rows_spec : {M : Type 1} → statement M
+next_rows_spec =
     tie.close
     (tie.spec
     invariant-loop

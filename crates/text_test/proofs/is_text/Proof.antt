@@ -6,44 +6,44 @@ use borrow.Author.Rules.{rules}
 use Rattle.text_test.proofs.is_text.Statement.{statement}
 use Rattle.text_test.proofs.is_text.Tie as tie
 
-abbrev invariant-loop : tie.invariant-loop
+abbrev invariant-loop : tie.invariant-loop-i
 invariant-loop length row bytes i₀ i = (i ≤ 64) × (size row ≡ 589) × (size bytes ≡ 64)
 
-abbrev decreases-loop : tie.decreases-loop
+abbrev decreases-loop : tie.decreases-loop-i
 decreases-loop length row bytes i₀ i = 64 - i
 
-returns : tie.Need-returns invariant-loop decreases-loop
+returns : tie.Need-returns-then-t-length invariant-loop decreases-loop
 returns c = search rules
 
-loop-holds : tie.Need-loop-init invariant-loop decreases-loop
+loop-holds : tie.Need-loop-i-init invariant-loop decreases-loop
 loop-holds c = search rules
 
-array-read-if2 : tie.Need-array-read-if2 invariant-loop decreases-loop
+array-read-if2 : tie.Need-bounds-bytes-i invariant-loop decreases-loop
 array-read-if2 c = search rules
 
-add-if2 : tie.Need-overflow-add-if2 invariant-loop decreases-loop
+add-if2 : tie.Need-overflow_add-i invariant-loop decreases-loop
 add-if2 c = search rules
 
-shared-slice-read-if2 : tie.Need-shared-slice-read-if2 invariant-loop decreases-loop
+shared-slice-read-if2 : tie.Need-bounds-row-i invariant-loop decreases-loop
 shared-slice-read-if2 c = search rules
 
-returns-2 : tie.Need-returns-2 invariant-loop decreases-loop
+returns-2 : tie.Need-returns-then-bytes-i invariant-loop decreases-loop
 returns-2 c = search rules
 
-add-i : tie.Need-overflow-add-i invariant-loop decreases-loop
+add-i : tie.Need-overflow_add-i-in-loop-i invariant-loop decreases-loop
 add-i c = search rules
 
-loop-less : tie.Need-loop-smaller invariant-loop decreases-loop
+loop-less : tie.Need-loop-i-smaller invariant-loop decreases-loop
 loop-less c = search rules
 
-loop-again : tie.Need-loop-preserved invariant-loop decreases-loop
+loop-again : tie.Need-loop-i-preserved invariant-loop decreases-loop
 loop-again c = search rules
 
-returns-3 : tie.Need-returns-3 invariant-loop decreases-loop
+returns-3 : tie.Need-returns invariant-loop decreases-loop
 returns-3 c = search rules
 
-pub is-text-spec : {M : Type 1} → statement M
-is-text-spec =
+pub is_text_spec : {M : Type 1} → statement M
+is_text_spec =
     tie.close
     (tie.spec
     invariant-loop

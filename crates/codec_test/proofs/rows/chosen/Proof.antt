@@ -15,13 +15,13 @@ encode-requires c κs =
     let s = o.before.before in
     let f = format_of s.args.f in
     let rule = propagation_of s.args.rule in
-    let first : Encodes f (nan_of o.select.result) = rw (o.select.ensures, o.before.none.ensures) s.requires.1 in
-    let both = choose-encodes f rule (nan_of o.select.result) (nan_of s.args.b) first s.requires.2 in
-    let last = selected-encodes f (settings_of c.before.settings.result) (nan_of n.select2.result) (rw n.select2.ensures both) in
+    let first : Encodes f (nan_of o.select-first.result) = rw (o.select-first.ensures, o.none.ensures) s.requires.1 in
+    let both = choose-encodes f rule (nan_of o.select-first.result) (nan_of s.args.b) first s.requires.2 in
+    let last = selected-encodes f (settings_of c.settings.result) (nan_of n.select-n.result) (rw n.select-n.ensures both) in
     (s.requires.0, rw c.selected.ensures last)
 
-pub chosen-spec : {M : Type 1} → statement M
-chosen-spec =
+pub chosen_spec : {M : Type 1} → statement M
+chosen_spec =
     tie.close
     (tie.spec
     (λ c κs. search rules)

@@ -5,10 +5,10 @@ use Rattle.codec_test.proofs.rows.decode_row.Statement.{statement}
 use Rattle.codec_test.proofs.rows.decode_row.Tie as tie
 
 decodings-requires : tie.Need-decodings-requires
-decodings-requires c κs = bounded c.before.valid-format.ensures c.if1.true
+decodings-requires c κs = bounded c.valid_format.ensures c.if-valid_format.true
 
-pub decode-row-spec : {M : Type 1} → statement M
-decode-row-spec =
+pub decode_row_spec : {M : Type 1} → statement M
+decode_row_spec =
     tie.close
     (tie.spec
     (λ c κs. search rules)

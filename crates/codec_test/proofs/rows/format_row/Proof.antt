@@ -5,10 +5,10 @@ use Rattle.codec_test.proofs.rows.format_row.Statement.{statement}
 use Rattle.codec_test.proofs.rows.format_row.Tie as tie
 
 widths-requires : tie.Need-widths-requires
-widths-requires c κs = (bounded c.before.valid-format.ensures c.if1.true).range
+widths-requires c κs = (bounded c.valid_format.ensures c.if-valid_format.true).range
 
-pub format-row-spec : {M : Type 1} → statement M
-format-row-spec =
+pub format_row_spec : {M : Type 1} → statement M
+format_row_spec =
     tie.close
     (tie.spec
     (λ c κs. search rules)

@@ -11,17 +11,17 @@ use borrow.Author.Rules.{rules}
 use Rattle.codec_test.proofs.rows.is_long.Statement.{statement}
 use Rattle.codec_test.proofs.rows.is_long.Tie as tie
 
-returns : tie.Need-returns
-returns c = λ e t. absurd (true≢false (sym t ∙ not-true _ c.if1.true))
+returns : tie.Need-returns-then-not-v
+returns c = λ e t. absurd (true≢false (sym t ∙ not-true _ c.if-not-v.true))
 
-returns-2 : tie.Need-returns-2
+returns-2 : tie.Need-returns
 returns-2 c =
     let b = c.before in
     let e = b.before in
-    let a = e.before.before.args in
+    let a = e.args in
     λ e t. size_reaches (significand_of a.v) (digits (format_of a.f))
     (omega (arith, ltb-true c.digits.result b.length.result e, c.digits.ensures, b.length.ensures))
 
-pub is-long-spec : {M : Type 1} → statement M
-is-long-spec =
+pub is_long_spec : {M : Type 1} → statement M
+is_long_spec =
     tie.close (tie.spec returns (λ c κs. search rules) (λ c κs. search rules) returns-2)

@@ -5,10 +5,10 @@ use Rattle.codec_test.proofs.rows.nan_row.Statement.{statement}
 use Rattle.codec_test.proofs.rows.nan_row.Tie as tie
 
 choices-requires : tie.Need-choices-requires
-choices-requires c κs = bounded c.before.valid-format.ensures c.if1.true
+choices-requires c κs = bounded c.valid_format.ensures c.if-valid_format.true
 
-pub nan-row-spec : {M : Type 1} → statement M
-nan-row-spec =
+pub nan_row_spec : {M : Type 1} → statement M
+nan_row_spec =
     tie.close
     (tie.spec
     (λ c κs. search rules)

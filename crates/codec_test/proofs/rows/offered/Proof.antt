@@ -4,11 +4,11 @@ use borrow.Author.Rules.{rules}
 use Rattle.codec_test.proofs.rows.offered.Statement.{statement}
 use Rattle.codec_test.proofs.rows.offered.Tie as tie
 
-valid-settings-requires : tie.Need-valid-settings-requires
-valid-settings-requires c κs = (bounded c.before.valid-format.ensures c.if1.true).range
+valid-settings-requires : tie.Need-valid_settings-requires
+valid-settings-requires c κs = (bounded c.valid_format.ensures c.if-valid_format.true).range
 
-pub offered-spec : {M : Type 1} → statement M
-offered-spec =
+pub offered_spec : {M : Type 1} → statement M
+offered_spec =
     tie.close
     (tie.spec
     (λ c κs. search rules)

@@ -5,10 +5,10 @@ use Rattle.codec_test.proofs.rows.round_row.Statement.{statement}
 use Rattle.codec_test.proofs.rows.round_row.Tie as tie
 
 roundings-requires : tie.Need-roundings-requires
-roundings-requires c κs = bounded c.before.valid-format.ensures c.if1.true
+roundings-requires c κs = bounded c.valid_format.ensures c.if-valid_format.true
 
-pub round-row-spec : {M : Type 1} → statement M
-round-row-spec =
+pub round_row_spec : {M : Type 1} → statement M
+round_row_spec =
     tie.close
     (tie.spec
     (λ c κs. search rules)

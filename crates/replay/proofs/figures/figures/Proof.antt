@@ -4,14 +4,14 @@ use borrow.Author.Rules.{rules}
 use Rattle.replay.proofs.figures.figures.Statement.{statement}
 use Rattle.replay.proofs.figures.figures.Tie as tie
 
-abbrev invariant-loop : tie.invariant-loop
+abbrev invariant-loop : tie.invariant-loop-i
 invariant-loop n biased agreed₀ i₀ agreed i = (i ≤ n) × (agreed ≤ i)
 
-abbrev decreases-loop : tie.decreases-loop
+abbrev decreases-loop : tie.decreases-loop-i
 decreases-loop n biased agreed₀ i₀ agreed i = n - i
 
-pub figures-spec : {M : Type 1} → statement M
-figures-spec =
+pub figures_spec : {M : Type 1} → statement M
+figures_spec =
     tie.close
     (tie.spec
     invariant-loop

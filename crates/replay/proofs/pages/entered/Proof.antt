@@ -6,11 +6,11 @@ use borrow.Author.Rules.{rules}
 use Rattle.replay.proofs.pages.entered.Statement.{statement}
 use Rattle.replay.proofs.pages.entered.Tie as tie
 
-slice-aggregate-enter : tie.Need-slice-aggregate-enter
+slice-aggregate-enter : tie.Need-slice_bounds-enter-end-3
 slice-aggregate-enter c = sym (length-take-le _ _ (omega arith))
 
-pub entered-spec : {M : Type 1} → statement M
-entered-spec =
+pub entered_spec : {M : Type 1} → statement M
+entered_spec =
     tie.close
     (tie.spec
     (λ c κs. search rules)

@@ -6,14 +6,14 @@ use borrow.Author.Rules.{rules}
 use Rattle.replay.proofs.pages.laid.Statement.{statement}
 use Rattle.replay.proofs.pages.laid.Tie as tie
 
-abbrev invariant-loop : tie.invariant-loop
+abbrev invariant-loop : tie.invariant-loop-i
 invariant-loop s first column place n bytes₀ i₀ bytes i = (i ≤ n) × (length bytes ≡ 1104)
 
-abbrev decreases-loop : tie.decreases-loop
+abbrev decreases-loop : tie.decreases-loop-i
 decreases-loop s first column place n bytes₀ i₀ bytes i = n - i
 
-pub laid-spec : {M : Type 1} → statement M
-laid-spec =
+pub laid_spec : {M : Type 1} → statement M
+laid_spec =
     tie.close
     (tie.spec
     invariant-loop

@@ -6,14 +6,14 @@ use borrow.Author.Rules.{rules}
 use Rattle.replay.proofs.pages.values_at.Statement.{statement}
 use Rattle.replay.proofs.pages.values_at.Tie as tie
 
-abbrev invariant-loop : tie.invariant-loop
+abbrev invariant-loop : tie.invariant-loop-i
 invariant-loop s words₀ i₀ words i = (i ≤ 129) × (length words ≡ 129)
 
-abbrev decreases-loop : tie.decreases-loop
+abbrev decreases-loop : tie.decreases-loop-i
 decreases-loop s words₀ i₀ words i = 129 - i
 
-pub values-at-spec : {M : Type 1} → statement M
-values-at-spec =
+pub values_at_spec : {M : Type 1} → statement M
+values_at_spec =
     tie.close
     (tie.spec
     invariant-loop

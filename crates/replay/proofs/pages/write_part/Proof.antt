@@ -6,11 +6,11 @@ use borrow.Author.Rules.{rules}
 use Rattle.replay.proofs.pages.write_part.Statement.{statement}
 use Rattle.replay.proofs.pages.write_part.Tie as tie
 
-slice-aggregate-totals-page-write : tie.Need-slice-aggregate-totals-page-write
+slice-aggregate-totals-page-write : tie.Need-slice_bounds-totals_page_write-end
 slice-aggregate-totals-page-write c = sym (length-take-le _ _ (omega arith))
 
-pub write-part-spec : {M : Type 1} → statement M
-write-part-spec =
+pub write_part_spec : {M : Type 1} → statement M
+write_part_spec =
     tie.close
     (tie.spec
     (λ c κs. search rules)

@@ -6,14 +6,14 @@ use borrow.Author.Rules.{rules}
 use Rattle.replay.proofs.ranges.after.Statement.{statement}
 use Rattle.replay.proofs.ranges.after.Tie as tie
 
-abbrev invariant-loop : tie.invariant-loop
+abbrev invariant-loop : tie.invariant-loop-i
 invariant-loop s first n accepted words₀ settled i₀ words i = (i ≤ n) × (length words ≡ 12)
 
-abbrev decreases-loop : tie.decreases-loop
+abbrev decreases-loop : tie.decreases-loop-i
 decreases-loop s first n accepted words₀ settled i₀ words i = n - i
 
-pub after-spec : {M : Type 1} → statement M
-after-spec =
+pub after_spec : {M : Type 1} → statement M
+after_spec =
     tie.close
     (tie.spec
     invariant-loop

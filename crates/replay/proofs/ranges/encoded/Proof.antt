@@ -14,8 +14,8 @@ no_nan nan e = absurd (true≢false (sym nan_differs ∙ e))
 no_nan (inf s) e = tt
 no_nan (fin s m k) e = tt
 
-float-to-bits-result : tie.Need-float-to-bits-result
-float-to-bits-result c = no_nan _ c.if1.left
+float-to-bits-result : tie.Need-float_to_bits-result
+float-to-bits-result c = no_nan _ c.if-x.false
 
-pub encoded-spec : {M : Type 1} → statement M
-encoded-spec = tie.close (tie.spec (λ c. search rules) float-to-bits-result (λ c. search rules))
+pub encoded_spec : {M : Type 1} → statement M
+encoded_spec = tie.close (tie.spec (λ c. search rules) float-to-bits-result (λ c. search rules))

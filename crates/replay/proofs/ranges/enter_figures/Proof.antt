@@ -6,11 +6,11 @@ use borrow.Author.Rules.{rules}
 use Rattle.replay.proofs.ranges.enter_figures.Statement.{statement}
 use Rattle.replay.proofs.ranges.enter_figures.Tie as tie
 
-slice-aggregate-totals-range : tie.Need-slice-aggregate-totals-range
+slice-aggregate-totals-range : tie.Need-slice_bounds-totals_range-end
 slice-aggregate-totals-range c = sym (length-take-le _ _ (omega arith))
 
-pub enter-figures-spec : {M : Type 1} → statement M
-enter-figures-spec =
+pub enter_figures_spec : {M : Type 1} → statement M
+enter_figures_spec =
     tie.close
     (tie.spec
     (λ c κs. search rules)

@@ -4,14 +4,14 @@ use borrow.Author.Rules.{rules}
 use Rattle.replay.proofs.ranges.ranges.Statement.{statement}
 use Rattle.replay.proofs.ranges.ranges.Tie as tie
 
-abbrev invariant-loop : tie.invariant-loop
+abbrev invariant-loop : tie.invariant-loop-i
 invariant-loop n agreed₀ i₀ agreed i = (i ≤ n) × (agreed ≤ i)
 
-abbrev decreases-loop : tie.decreases-loop
+abbrev decreases-loop : tie.decreases-loop-i
 decreases-loop n agreed₀ i₀ agreed i = n - i
 
-pub ranges-spec : {M : Type 1} → statement M
-ranges-spec =
+pub ranges_spec : {M : Type 1} → statement M
+ranges_spec =
     tie.close
     (tie.spec
     invariant-loop

@@ -6,14 +6,14 @@ use borrow.Author.Rules.{rules}
 use Rattle.replay.proofs.ranges.tags_at.Statement.{statement}
 use Rattle.replay.proofs.ranges.tags_at.Tie as tie
 
-abbrev invariant-loop : tie.invariant-loop
+abbrev invariant-loop : tie.invariant-loop-i
 invariant-loop s tags₀ i₀ tags i = (i ≤ 6) × (length tags ≡ 6)
 
-abbrev decreases-loop : tie.decreases-loop
+abbrev decreases-loop : tie.decreases-loop-i
 decreases-loop s tags₀ i₀ tags i = 6 - i
 
-pub tags-at-spec : {M : Type 1} → statement M
-tags-at-spec =
+pub tags_at_spec : {M : Type 1} → statement M
+tags_at_spec =
     tie.close
     (tie.spec
     invariant-loop

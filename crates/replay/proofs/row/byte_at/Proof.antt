@@ -7,11 +7,11 @@ use Rattle.hexadecimal.proofs.Lenient.{same_byte}
 use Rattle.replay.proofs.row.byte_at.Statement.{statement}
 use Rattle.replay.proofs.row.byte_at.Tie as tie
 
-returns : tie.Need-returns
-returns c = let a = c.before.before.args in sym (same_byte a.s.now a.i (omega arith))
+returns : tie.Need-returns-then-i-s
+returns c = let a = c.args in sym (same_byte a.s.now a.i (omega arith))
 
-returns-2 : tie.Need-returns-2
-returns-2 c = let a = c.before.args in sym (get_or-eq_default a.s.now 48 (omega arith))
+returns-2 : tie.Need-returns-else-i-s
+returns-2 c = let a = c.args in sym (get_or-eq_default a.s.now 48 (omega arith))
 
-pub byte-at-spec : {M : Type 1} → statement M
-byte-at-spec = tie.close (tie.spec (λ c. search rules) returns returns-2)
+pub byte_at_spec : {M : Type 1} → statement M
+byte_at_spec = tie.close (tie.spec (λ c. search rules) returns returns-2)

@@ -6,5 +6,5 @@ use Rattle.replay.proofs.row.format_at.Tie as tie
 returns : tie.Need-returns
 returns c = cc
 
-pub format-at-spec : {M : Type 1} → statement M
-format-at-spec = tie.close (tie.spec (λ c κs. search rules) (λ c κs. search rules) (λ c κs. search rules) (λ c κs. search rules) returns)
+pub format_at_spec : {M : Type 1} → statement M
+format_at_spec = tie.close (tie.spec (λ c κs. search rules) (λ c κs. search rules) (λ c κs. search rules) (λ c κs. search rules) returns)

@@ -9,5 +9,5 @@ use Rattle.replay.proofs.row.is_dot.Tie as tie
 returns : tie.Need-returns
 returns c = ap (λ (b : ℕ). eqb b 100) c.byte_at.ensures
 
-pub is-dot-spec : {M : Type 1} → statement M
-is-dot-spec = tie.close (tie.spec (λ c κs. search rules) returns)
+pub is_dot_spec : {M : Type 1} → statement M
+is_dot_spec = tie.close (tie.spec (λ c κs. search rules) returns)

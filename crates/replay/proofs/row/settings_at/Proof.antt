@@ -6,8 +6,8 @@ use Rattle.replay.proofs.row.settings_at.Tie as tie
 returns : tie.Need-returns
 returns c = cc
 
-pub settings-at-spec : {M : Type 1} → statement M
-settings-at-spec =
+pub settings_at_spec : {M : Type 1} → statement M
+settings_at_spec =
     tie.close
     (tie.spec
     (λ c κs. search rules)

@@ -11,28 +11,28 @@ use Rattle.replay.proofs.row.signed_at.Statement.{statement}
 use Rattle.replay.proofs.row.signed_at.Tie as tie
 
 -- once the digits and the byte before them are read
-abbrev m : tie.After-byte-at → ℕ
-m t = t.before.number.result % 9223372036854775808
+abbrev m : tie.After-byte_at → ℕ
+m t = t.number.result % 9223372036854775808
 
-small : (t : tie.After-byte-at) → m t < 9223372036854775808
+small : (t : tie.After-byte_at) → m t < 9223372036854775808
 small t = omega arith
 
-sub-result : tie.Need-overflow-sub-result
+sub-result : tie.Need-overflow_sub-result
 sub-result c = let t = c.before in rw (negated (m t) (small t)) (negated_fits (m t) (small t))
 
-returns : tie.Need-returns
+returns : tie.Need-returns-then-byte_at-eq45
 returns c =
     let t = c.before in
-    rw (eq-eqb _ 45 (sym t.byte_at.ensures ∙ c.if1.true), ← t.before.number.ensures, negated (m t) (small t))
+    rw (eq-eqb _ 45 (sym t.byte_at.ensures ∙ c.if-byte_at-eq45.true), ← t.number.ensures, negated (m t) (small t))
     (to_z-of_z w64 _ (negated_fits (m t) (small t)))
 
-returns-2 : tie.Need-returns-2
+returns-2 : tie.Need-returns-else-byte_at-eq45
 returns-2 c =
     let t = c.before in
-    rw (ne_eqb _ 45 (λ e. c.if1.false (t.byte_at.ensures ∙ e)), ← t.before.number.ensures) (to_z_pos w64 (m t) (small t))
+    rw (ne_eqb _ 45 (λ e. c.if-byte_at-eq45.false (t.byte_at.ensures ∙ e)), ← t.number.ensures) (to_z_pos w64 (m t) (small t))
 
-pub signed-at-spec : {M : Type 1} → statement M
-signed-at-spec =
+pub signed_at_spec : {M : Type 1} → statement M
+signed_at_spec =
     tie.close
     (tie.spec
     (λ c. search rules)

@@ -6,14 +6,14 @@ use borrow.Author.Rules.{rules}
 use Rattle.replay.proofs.row.words_at.Statement.{statement}
 use Rattle.replay.proofs.row.words_at.Tie as tie
 
-abbrev invariant-loop : tie.invariant-loop
+abbrev invariant-loop : tie.invariant-loop-i
 invariant-loop s first words₀ i₀ words i = (i ≤ 12) × (length words ≡ 12)
 
-abbrev decreases-loop : tie.decreases-loop
+abbrev decreases-loop : tie.decreases-loop-i
 decreases-loop s first words₀ i₀ words i = 12 - i
 
-pub words-at-spec : {M : Type 1} → statement M
-words-at-spec =
+pub words_at_spec : {M : Type 1} → statement M
+words_at_spec =
     tie.close
     (tie.spec
     invariant-loop

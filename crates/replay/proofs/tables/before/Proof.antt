@@ -6,14 +6,14 @@ use borrow.Author.Rules.{rules}
 use Rattle.replay.proofs.tables.before.Statement.{statement}
 use Rattle.replay.proofs.tables.before.Tie as tie
 
-abbrev invariant-loop : tie.invariant-loop
+abbrev invariant-loop : tie.invariant-loop-i
 invariant-loop words₀ i₀ words i = (i ≤ 16) × (length words ≡ 16)
 
-abbrev decreases-loop : tie.decreases-loop
+abbrev decreases-loop : tie.decreases-loop-i
 decreases-loop words₀ i₀ words i = 16 - i
 
-pub before-spec : {M : Type 1} → statement M
-before-spec =
+pub before_spec : {M : Type 1} → statement M
+before_spec =
     tie.close
     (tie.spec
     invariant-loop

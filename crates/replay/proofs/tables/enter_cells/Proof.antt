@@ -6,11 +6,11 @@ use borrow.Author.Rules.{rules}
 use Rattle.replay.proofs.tables.enter_cells.Statement.{statement}
 use Rattle.replay.proofs.tables.enter_cells.Tie as tie
 
-slice-aggregate-enter : tie.Need-slice-aggregate-enter
+slice-aggregate-enter : tie.Need-slice_bounds-enter-end
 slice-aggregate-enter c = sym (length-take-le _ _ (omega arith))
 
-pub enter-cells-spec : {M : Type 1} → statement M
-enter-cells-spec =
+pub enter_cells_spec : {M : Type 1} → statement M
+enter_cells_spec =
     tie.close
     (tie.spec
     (λ c κs. search rules)

@@ -7,17 +7,17 @@ use Rattle.replay.proofs.tables.entered.Statement.{statement}
 use Rattle.replay.proofs.tables.entered.Tie as tie
 
 -- each list is a part of its array
-slice-aggregate-enter-cells : tie.Need-slice-aggregate-enter-cells
+slice-aggregate-enter-cells : tie.Need-slice_bounds-enter_cells-end-2
 slice-aggregate-enter-cells c = sym (length-take-le _ _ (omega arith))
 
-slice-aggregate-enter-cells-2 : tie.Need-slice-aggregate-enter-cells-2
+slice-aggregate-enter-cells-2 : tie.Need-slice_bounds-enter_cells-end-4
 slice-aggregate-enter-cells-2 c = sym (length-take-le _ _ (omega arith))
 
-slice-aggregate-enter-cells-3 : tie.Need-slice-aggregate-enter-cells-3
+slice-aggregate-enter-cells-3 : tie.Need-slice_bounds-enter_cells-end-6
 slice-aggregate-enter-cells-3 c = sym (length-take-le _ _ (omega arith))
 
-pub entered-spec : {M : Type 1} → statement M
-entered-spec =
+pub entered_spec : {M : Type 1} → statement M
+entered_spec =
     tie.close
     (tie.spec
     (λ c κs. search rules)

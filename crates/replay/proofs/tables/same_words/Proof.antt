@@ -6,14 +6,14 @@ use borrow.Author.Rules.{rules}
 use Rattle.replay.proofs.tables.same_words.Statement.{statement}
 use Rattle.replay.proofs.tables.same_words.Tie as tie
 
-abbrev invariant-loop : tie.invariant-loop
+abbrev invariant-loop : tie.invariant-loop-i
 invariant-loop a b i₀ i = (i ≤ length a) × (length a ≡ length b)
 
-abbrev decreases-loop : tie.decreases-loop
+abbrev decreases-loop : tie.decreases-loop-i
 decreases-loop a b i₀ i = length a - i
 
-pub same-words-spec : {M : Type 1} → statement M
-same-words-spec =
+pub same_words_spec : {M : Type 1} → statement M
+same_words_spec =
     tie.close
     (tie.spec
     invariant-loop

@@ -4,14 +4,14 @@ use borrow.Author.Rules.{rules}
 use Rattle.replay.proofs.tables.tables.Statement.{statement}
 use Rattle.replay.proofs.tables.tables.Tie as tie
 
-abbrev invariant-loop : tie.invariant-loop
+abbrev invariant-loop : tie.invariant-loop-i
 invariant-loop n biased agreed₀ i₀ agreed i = (i ≤ n) × (agreed ≤ i)
 
-abbrev decreases-loop : tie.decreases-loop
+abbrev decreases-loop : tie.decreases-loop-i
 decreases-loop n biased agreed₀ i₀ agreed i = n - i
 
-pub tables-spec : {M : Type 1} → statement M
-tables-spec =
+pub tables_spec : {M : Type 1} → statement M
+tables_spec =
     tie.close
     (tie.spec
     invariant-loop

@@ -6,14 +6,14 @@ use borrow.Author.Rules.{rules}
 use Rattle.replay.proofs.targets.buffer_at.Statement.{statement}
 use Rattle.replay.proofs.targets.buffer_at.Tie as tie
 
-abbrev invariant-loop : tie.invariant-loop
+abbrev invariant-loop : tie.invariant-loop-i
 invariant-loop s column bytes₀ i₀ bytes i = (i ≤ 104) × (length bytes ≡ 104)
 
-abbrev decreases-loop : tie.decreases-loop
+abbrev decreases-loop : tie.decreases-loop-i
 decreases-loop s column bytes₀ i₀ bytes i = 104 - i
 
-pub buffer-at-spec : {M : Type 1} → statement M
-buffer-at-spec =
+pub buffer_at_spec : {M : Type 1} → statement M
+buffer_at_spec =
     tie.close
     (tie.spec
     invariant-loop

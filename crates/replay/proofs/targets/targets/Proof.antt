@@ -4,14 +4,14 @@ use borrow.Author.Rules.{rules}
 use Rattle.replay.proofs.targets.targets.Statement.{statement}
 use Rattle.replay.proofs.targets.targets.Tie as tie
 
-abbrev invariant-loop : tie.invariant-loop
+abbrev invariant-loop : tie.invariant-loop-i
 invariant-loop n agreed₀ i₀ agreed i = (i ≤ n) × (agreed ≤ i)
 
-abbrev decreases-loop : tie.decreases-loop
+abbrev decreases-loop : tie.decreases-loop-i
 decreases-loop n agreed₀ i₀ agreed i = n - i
 
-pub targets-spec : {M : Type 1} → statement M
-targets-spec =
+pub targets_spec : {M : Type 1} → statement M
+targets_spec =
     tie.close
     (tie.spec
     invariant-loop

@@ -6,14 +6,14 @@ use borrow.Author.Rules.{rules}
 use Rattle.replay.proofs.targets.values_at.Statement.{statement}
 use Rattle.replay.proofs.targets.values_at.Tie as tie
 
-abbrev invariant-loop : tie.invariant-loop
+abbrev invariant-loop : tie.invariant-loop-i
 invariant-loop s bytes₀ i₀ bytes i = (i ≤ 13) × (length bytes ≡ 104)
 
-abbrev decreases-loop : tie.decreases-loop
+abbrev decreases-loop : tie.decreases-loop-i
 decreases-loop s bytes₀ i₀ bytes i = 13 - i
 
-pub values-at-spec : {M : Type 1} → statement M
-values-at-spec =
+pub values_at_spec : {M : Type 1} → statement M
+values_at_spec =
     tie.close
     (tie.spec
     invariant-loop

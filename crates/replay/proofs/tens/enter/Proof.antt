@@ -7,13 +7,13 @@ use Rattle.replay.proofs.tens.enter.Statement.{statement}
 use Rattle.replay.proofs.tens.enter.Tie as tie
 
 -- each list is a part of its array
-slice-aggregate-enter-dot : tie.Need-slice-aggregate-enter-dot
+slice-aggregate-enter-dot : tie.Need-slice_bounds-enter_dot-end
 slice-aggregate-enter-dot c = sym (length-take-le _ _ (omega arith))
 
-slice-aggregate-enter-dot-2 : tie.Need-slice-aggregate-enter-dot-2
+slice-aggregate-enter-dot-2 : tie.Need-slice_bounds-enter_dot-end-then-is_dot
 slice-aggregate-enter-dot-2 c = sym (length-take-le _ _ (omega arith))
 
-slice-aggregate-enter-sum : tie.Need-slice-aggregate-enter-sum
+slice-aggregate-enter-sum : tie.Need-slice_bounds-enter_sum-end
 slice-aggregate-enter-sum c = sym (length-take-le _ _ (omega arith))
 
 pub enter_spec : {M : Type 1} → statement M

@@ -4,21 +4,21 @@ use Rattle.limbs.proofs.Signs.{read}
 use Rattle.replay.proofs.ways.enter_dot.Statement.{statement}
 use Rattle.replay.proofs.ways.enter_dot.Tie as tie
 
-returns : tie.Need-returns
+returns : tie.Need-returns-in-Bias
 returns c =
     let t = c.before.before in
     let k = t.before.before in
-    let n = k.before.n in
-    rw n.given.1 (rw (read n.given.0.0 k.known-told.given.0.1) at t.totals-dot-biased.ensures)
+    let n = k.in-Bias in
+    rw n.is (rw (read n.bias k.in-Bias.known_told-1-own.given.0.1) at t.totals_dot_biased.ensures)
 
-returns-2 : tie.Need-returns-2
+returns-2 : tie.Need-returns
 returns-2 c =
     let t = c.before.before in
     let e = t.before.before in
-    rw e.enum_told.given.1 t.totals-dot.ensures
+    rw e.in_default.is t.totals_dot.ensures
 
-pub enter-dot-spec : {M : Type 1} → statement M
-enter-dot-spec =
+pub enter_dot_spec : {M : Type 1} → statement M
+enter_dot_spec =
     tie.close
     (tie.spec
     (λ c. search rules)

@@ -6,11 +6,11 @@ use borrow.Author.Rules.{rules}
 use Rattle.replay.proofs.ways.enter_part.Statement.{statement}
 use Rattle.replay.proofs.ways.enter_part.Tie as tie
 
-slice-aggregate-enter : tie.Need-slice-aggregate-enter
+slice-aggregate-enter : tie.Need-slice_bounds-enter-end-2
 slice-aggregate-enter c = sym (length-take-le _ _ (omega arith))
 
-pub enter-part-spec : {M : Type 1} → statement M
-enter-part-spec =
+pub enter_part_spec : {M : Type 1} → statement M
+enter_part_spec =
     tie.close
     (tie.spec
     (λ c κs. search rules)

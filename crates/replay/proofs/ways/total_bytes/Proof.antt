@@ -6,17 +6,17 @@ use borrow.Author.Rules.{rules}
 use Rattle.replay.proofs.ways.total_bytes.Statement.{statement}
 use Rattle.replay.proofs.ways.total_bytes.Tie as tie
 
-slice-aggregate-dot-bytes : tie.Need-slice-aggregate-dot-bytes
+slice-aggregate-dot-bytes : tie.Need-slice_bounds-dot_bytes-end
 slice-aggregate-dot-bytes c = sym (length-take-le _ _ (omega arith))
 
-slice-aggregate-dot-bytes-2 : tie.Need-slice-aggregate-dot-bytes-2
+slice-aggregate-dot-bytes-2 : tie.Need-slice_bounds-dot_bytes-end-then-is_dot
 slice-aggregate-dot-bytes-2 c = sym (length-take-le _ _ (omega arith))
 
-slice-aggregate-sum-bytes : tie.Need-slice-aggregate-sum-bytes
+slice-aggregate-sum-bytes : tie.Need-slice_bounds-sum_bytes-end
 slice-aggregate-sum-bytes c = sym (length-take-le _ _ (omega arith))
 
-pub total-bytes-spec : {M : Type 1} → statement M
-total-bytes-spec =
+pub total_bytes_spec : {M : Type 1} → statement M
+total_bytes_spec =
     tie.close
     (tie.spec
     (λ c κs. search rules)

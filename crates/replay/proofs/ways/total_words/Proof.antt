@@ -6,17 +6,17 @@ use borrow.Author.Rules.{rules}
 use Rattle.replay.proofs.ways.total_words.Statement.{statement}
 use Rattle.replay.proofs.ways.total_words.Tie as tie
 
-slice-aggregate-dot : tie.Need-slice-aggregate-dot
+slice-aggregate-dot : tie.Need-slice_bounds-dot-end
 slice-aggregate-dot c = sym (length-take-le _ _ (omega arith))
 
-slice-aggregate-dot-2 : tie.Need-slice-aggregate-dot-2
+slice-aggregate-dot-2 : tie.Need-slice_bounds-dot-end-then-is_dot
 slice-aggregate-dot-2 c = sym (length-take-le _ _ (omega arith))
 
-slice-aggregate-sum : tie.Need-slice-aggregate-sum
+slice-aggregate-sum : tie.Need-slice_bounds-sum-end
 slice-aggregate-sum c = sym (length-take-le _ _ (omega arith))
 
-pub total-words-spec : {M : Type 1} → statement M
-total-words-spec =
+pub total_words_spec : {M : Type 1} → statement M
+total_words_spec =
     tie.close
     (tie.spec
     (λ c κs. search rules)
