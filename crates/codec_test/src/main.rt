@@ -1,6 +1,7 @@
 // Runs the codec and the rounding over the vectors of standard input, and prints how many of the answers agree. vectors.py makes the vectors, from
 // the text of document 01 alone, and says how a row is laid out.
 #![tactic(auto)]
+
 mod rows;
 
 ghost use Rattle.std.specs.Prelude.{◌*◌, ◌<◌, ◌≤◌};

@@ -4,6 +4,7 @@
 // through its own.
 // cases.py makes the list, and says how it is laid out; README.md says where the answers come from.
 #![tactic(auto)]
+
 mod counts;
 mod figures;
 mod lists;

@@ -1,5 +1,6 @@
 // What the program `total` writes for what it reads (document 01), both as bytes.
 #![tactic(auto)]
+
 mod read;
 pub mod write;
 

@@ -1,6 +1,7 @@
 // Runs the program's text over the cases of standard input, and prints how many of the answers agree. cases.py makes the cases and says how they
 // are laid out.
 #![tactic(auto)]
+
 ghost use Rattle.std.specs.Prelude.{◌≡◌, ◌<◌, ◌≤◌, length as size};
 ghost use Rattle.io.specs.Counts.{IsPrefixLen};
 

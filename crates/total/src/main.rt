@@ -1,5 +1,6 @@
 // Sums the binary64 numbers on standard input, one to a line in 16 lower-case hex digits, and writes result, flags, passes and pence.
 #![tactic(auto)]
+
 ghost use Rattle.std.specs.Prelude.{◌≤◌, length, IfOk};
 
 use std::io;
