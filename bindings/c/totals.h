@@ -1,7 +1,7 @@
 /*
  * Exact totals over lists of binary floating-point numbers: the exact sum of a
  * list, rounded once, the same in every order. C99 or C++11, with libtotals.a
- * (x86-64 Linux), which `rt staticlib totals` builds.
+ * (x86-64 Linux), which `./archive` builds.
  *
  *   totals_sum_double  totals_magnitude_sum_double  totals_square_sum_double  totals_dot_double
  *   totals_sum_float   totals_magnitude_sum_float   totals_square_sum_float   totals_dot_float

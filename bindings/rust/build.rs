@@ -2,8 +2,8 @@
 //!
 //! `TOTALS_LIB_DIR` names a folder that holds the archive. Without it the archive is the
 //! repository's own, `target/staticlib/libtotals.a`: where that is missing, or older than a file
-//! of the crates that it is made of, `rt staticlib totals` proves these and makes it. A packaged
-//! crate stands in no repository, and needs `TOTALS_LIB_DIR`.
+//! of the crates that it is made of, `rt lib` proves these and makes it, as `./archive` does. A
+//! packaged crate stands in no repository, and needs `TOTALS_LIB_DIR`.
 
 use std::ffi::OsString;
 use std::path::{Path, PathBuf};
@@ -61,7 +61,7 @@ fn named_folder(folder: OsString) -> Result<PathBuf, String> {
 fn folder_in_repository() -> Result<PathBuf, String> {
     let package = PathBuf::from(env::var_os("CARGO_MANIFEST_DIR").unwrap_or_default());
     let top = package.join("../..");
-    if !top.join("crates/totals").is_dir() || !top.join("crates.txt").is_file() {
+    if !top.join("crates/totals_c").is_dir() || !top.join("crates.txt").is_file() {
         return Err(
             "this crate does not stand in its repository, so libtotals.a cannot be built: \
              set TOTALS_LIB_DIR to a folder that holds it"
@@ -87,17 +87,17 @@ fn folder_in_repository() -> Result<PathBuf, String> {
     Ok(folder)
 }
 
-/// What the archive is made of: crates.txt, and of `totals` and all that it depends on there what
+/// What the archive is made of: crates.txt, and of `totals_c` and all that it depends on there what
 /// is proved. The edits that must be refused are not.
 fn sources_of_totals(top: &Path) -> Result<Vec<PathBuf>, String> {
     let list = top.join("crates.txt");
     let text = fs::read_to_string(&list).map_err(|error| format!("crates.txt: {error}"))?;
-    let mut names = vec!["totals"];
+    let mut names = vec!["totals_c"];
     let mut next = 0;
     while let Some(name) = names.get(next) {
         let needs = text.lines().filter_map(|line| line.split_once(':'));
         let mut more: Vec<&str> = needs
-            .filter(|(of, _)| of.trim() == *name)
+            .filter(|(of, _)| of.split_whitespace().next() == Some(*name))
             .flat_map(|(_, needs)| needs.split_whitespace())
             .filter(|need| !names.contains(need))
             .collect();
@@ -125,24 +125,33 @@ fn newer(path: &Path, then: SystemTime) -> bool {
     made(path).is_some_and(|time| time > then) || { below }.any(|entry| newer(&entry.path(), then))
 }
 
+/// Puts what `rt lib` has made where it is looked for.
+fn keep(top: &Path, crate_of_exports: &Path) -> io::Result<u64> {
+    let folder = top.join("target/staticlib");
+    fs::create_dir_all(&folder)?;
+    fs::copy(
+        crate_of_exports.join("out/libtotals_c.a"),
+        folder.join(ARCHIVE),
+    )
+}
+
 fn build(top: &Path, why: &str) -> Result<(), String> {
     let started = Instant::now();
+    let crate_of_exports = top.join("crates/totals_c");
     let run = Command::new("rt")
-        .args(["staticlib", "totals"])
-        .current_dir(top)
+        .arg("lib")
+        .current_dir(&crate_of_exports)
         .output();
     match run {
-        Ok(output)
-            if output.status.success() && top.join("target/staticlib").join(ARCHIVE).is_file() =>
-        {
+        Ok(output) if output.status.success() && keep(top, &crate_of_exports).is_ok() => {
             println!(
-                "cargo::warning={why}, so `rt staticlib totals` proved and built it ({} s)",
+                "cargo::warning={why}, so `rt lib` in crates/totals_c proved and built it ({} s)",
                 started.elapsed().as_secs()
             );
             Ok(())
         }
         Ok(output) => {
-            // what `rt` says of each crate; the prover's own words are in target/log
+            // what `rt` says of each crate
             let said = String::from_utf8_lossy(&output.stdout);
             let cried = String::from_utf8_lossy(&output.stderr);
             let lines = said.lines().filter(|line| line.starts_with("rt: "));
@@ -150,7 +159,7 @@ fn build(top: &Path, why: &str) -> Result<(), String> {
                 println!("cargo::warning={line}");
             }
             Err(format!(
-                "{why}, and `rt staticlib totals` did not make it ({}): run that at the top of the repository",
+                "{why}, and `rt lib` did not make it ({}): run that in crates/totals_c",
                 output.status
             ))
         }

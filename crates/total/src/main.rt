@@ -25,9 +25,18 @@ fn read_full<R: Read>(input: &mut R, buffer: &mut [u8]) -> io::Result<usize>
 // 8,192 lines of 17 bytes and one byte more decide the answer: no more is read.
 fn main(rt: HostRuntime) -> io::Result<()> {
     let mut input = [0u8; 139265];
-    let n = read_full(&mut rt.stdin(), &mut input)?;
+    let n = match read_full(&mut rt.stdin(), &mut input) {
+        Ok(n) => n,
+        Err(e) => {
+            eprintln!(rt; "total: standard input: {e}")?;
+            return Ok(());
+        }
+    };
     let t = answer_text(&input[..n]);
     let bytes = t.bytes;
     let length = t.length;
-    rt.stdout().write_all(&bytes[..length])
+    if let Err(e) = rt.stdout().write_all(&bytes[..length]) {
+        eprintln!(rt; "total: standard output: {e}")?;
+    }
+    Ok(())
 }

@@ -321,8 +321,7 @@ fn enter_dot(
 }
 
 // The sum of the values (summand 0), of their magnitudes (1) or of their squares (2). Kind 4 is told apart before anything else is looked at.
-#[unsafe(no_mangle)]
-pub extern "C" fn totals_sum(
+pub fn totals_sum(
     kind: u64,
     exponent_bits: u64,
     width: u64,
@@ -361,8 +360,7 @@ pub extern "C" fn totals_sum(
 }
 
 // The sum of the products of the pairs.
-#[unsafe(no_mangle)]
-pub extern "C" fn totals_dot(
+pub fn totals_dot(
     kind: u64,
     exponent_bits: u64,
     width: u64,
@@ -401,8 +399,7 @@ pub extern "C" fn totals_dot(
 }
 
 // The same in a format that names its bias.
-#[unsafe(no_mangle)]
-pub extern "C" fn totals_sum_biased(
+pub fn totals_sum_biased(
     kind: u64,
     exponent_bits: u64,
     width: u64,
@@ -441,8 +438,7 @@ pub extern "C" fn totals_sum_biased(
     )
 }
 
-#[unsafe(no_mangle)]
-pub extern "C" fn totals_dot_biased(
+pub fn totals_dot_biased(
     kind: u64,
     exponent_bits: u64,
     width: u64,
@@ -492,8 +488,7 @@ fn misnamed(bias_named: u64, bias: i64) -> bool
 }
 
 // The pence of the exact sum of a list of words.
-#[unsafe(no_mangle)]
-pub extern "C" fn totals_pence(
+pub fn totals_pence(
     kind: u64,
     exponent_bits: u64,
     width: u64,
@@ -518,8 +513,7 @@ pub extern "C" fn totals_pence(
 }
 
 // The totals of a table of words: the answer's 24 bytes are those of the total of all cells.
-#[unsafe(no_mangle)]
-pub extern "C" fn totals_table(
+pub fn totals_table(
     kind: u64,
     exponent_bits: u64,
     width: u64,
@@ -566,8 +560,7 @@ pub extern "C" fn totals_table(
 
 // The lower and the upper total of amounts known within a range, as two words. Each entry's low and high are left in the place of its figures: only figures
 // that are not used change.
-#[unsafe(no_mangle)]
-pub extern "C" fn totals_range(
+pub fn totals_range(
     tags: &[u64],
     first: &mut [u64],
     second: &mut [u64],
@@ -688,8 +681,7 @@ fn put_slot(answer: &mut [u8], at: usize, a: Answer)
 }
 
 // The plain sum of a list in three targets: each has 32 bytes of the answer.
-#[unsafe(no_mangle)]
-pub extern "C" fn totals_sum_into(
+pub fn totals_sum_into(
     kind: u64,
     exponent_bits: u64,
     width: u64,
@@ -722,8 +714,7 @@ pub extern "C" fn totals_sum_into(
 }
 
 // The total of a span of a career page, by `enter_sum` and not by `page_sum`: a second caller of `sum_bytes` in the archive would keep it from being inlined.
-#[unsafe(no_mangle)]
-pub extern "C" fn totals_page_sum(
+pub fn totals_page_sum(
     page: &[u8],
     start: usize,
     end: usize,
@@ -770,8 +761,7 @@ pub extern "C" fn totals_page_sum(
 }
 
 // The career page of some values.
-#[unsafe(no_mangle)]
-pub extern "C" fn totals_page_write(values: &[u64], page: &mut [u8]) -> u64
+pub fn totals_page_write(values: &[u64], page: &mut [u8]) -> u64
     ensures { Enters (pages.page_written values.now page.old) result page.new }
 {
     write(values, page)
