@@ -1,5 +1,5 @@
 -- `binary::encode_zero` meets its contract.
-use Rattle.std.proofs.Common.{◌∙◌, pow_pos}
+use Rattle.std.proofs.Common.{◌≡◌, ◌∙◌, arith, pow_pos}
 use Rattle.format.specs.Joined.{format_of}
 use Rattle.binary.proofs.Cases.{zero-fnuz, zero-other}
 use Rattle.binary.proofs.encode_zero.Statement.{statement}
@@ -8,16 +8,16 @@ use Rattle.binary.proofs.encode_zero.Tie as tie
 assemble-requires : tie.Need-assemble-requires
 assemble-requires c κs = (c.requires, (pow_pos _, pow_pos _))
 
-returns : tie.Need-returns-then-f-ne2
-returns c =
-    let k = c.before in
-    let a = k.args in
-    c.assemble.ensures ∙ zero-other a.f.kind (format_of a.f) a.negative k.if-f-ne2.true
-
 returns-2 : tie.Need-returns
 returns-2 c =
     let a = c.args in
-    zero-fnuz a.f.kind (format_of a.f) a.negative c.if-f-ne2.false
+    let fnuz : a.f.kind ≡ 2 = omega arith in
+    zero-fnuz a.f.kind (format_of a.f) a.negative fnuz
 
 pub encode_zero_spec : {M : Type 1} → statement M
-encode_zero_spec = tie.close (tie.spec assemble-requires returns returns-2)
+encode_zero_spec =
+    tie.close
+    (tie.spec
+    assemble-requires
+    (λ c. let a = c.args in c.assemble.ensures ∙ zero-other a.f.kind (format_of a.f) a.negative (λ e. omega arith))
+    returns-2)

@@ -1,14 +1,12 @@
 -- `format::valid_format` meets its contract: a test that fails settles it, and the last return rewrites with them all.
+use Prim.Native.Nat.{◌<◌, ◌≤◌}
+use native.Mathlib.Omega.{arith}
 use mathlib.Core.Bool.{and-false}
 use borrow.Author.Tests.{le-leb, lt-leb}
 use borrow.Author.Rules.{rules}
 use Rattle.totals_spec.specs.Format.{valid_format}
 use Rattle.format.proofs.valid_format.Statement.{statement}
 use Rattle.format.proofs.valid_format.Tie as tie
-
-returns : tie.Need-returns-then-f-gt3
-unfolding valid_format
-returns c = simp (lt-leb _ _ c.if-f-gt3.true)
 
 returns-2 : tie.Need-returns-then-f-lt2
 unfolding valid_format
@@ -34,8 +32,12 @@ returns-6 c =
     let d = w.before.before.before in
     let b = d.before.before in
     let a = b.before.before in
-    rw (le-leb _ _ a.if-f-gt3.false, le-leb _ _ b.if-f-lt2.false, le-leb _ _ d.if-f-gt28.false, le-leb _ _ w.if-f.false, le-leb _ _ v.if-f-gt64.false)
+    let known : a.args.f.kind ≤ 3 = omega arith in
+    rw (le-leb _ _ known, le-leb _ _ b.if-f-lt2.false, le-leb _ _ d.if-f-gt28.false, le-leb _ _ w.if-f.false, le-leb _ _ v.if-f-gt64.false)
     c.offered.ensures
 
 pub valid_format_spec : {M : Type 1} → statement M
-valid_format_spec = tie.close (tie.spec returns returns-2 returns-3 (λ c. search rules) returns-4 returns-5 (λ c κs. search rules) returns-6)
+unfolding valid_format
+valid_format_spec =
+    tie.close
+    (tie.spec (λ c. let unknown : 3 < c.args.f.kind = omega arith in simp (lt-leb _ _ unknown)) returns-2 returns-3 (λ c. search rules) returns-4 returns-5 (λ c κs. search rules) returns-6)

@@ -10,9 +10,6 @@ use Rattle.hexadecimal.proofs.digit.Tie as tie
 returns : tie.Need-returns-then-b-lt48
 returns c = sym (ap (digit_or 16) (below-digits c.before.args.b (omega arith)))
 
-returns-2 : tie.Need-returns-then-b-lt58
-returns-2 c = sym (ap (digit_or 16) (decimal_digit _ (omega arith) (omega arith)))
-
 returns-3 : tie.Need-returns-then-b-lt97
 returns-3 c = sym (ap (digit_or 16) (between-digits c.before.before.before.args.b (omega arith) (omega arith)))
 
@@ -28,7 +25,7 @@ digit_spec =
     (tie.spec
     returns
     (λ c. search rules)
-    returns-2
+    (λ c. sym (ap (digit_or 16) (decimal_digit _ (omega arith) (omega arith))))
     returns-3
     (λ c. search rules)
     (λ c. search rules)

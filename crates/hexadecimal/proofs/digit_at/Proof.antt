@@ -1,5 +1,5 @@
 -- `hexadecimal::digit_at` meets its contract.
-use mathlib.Core.Path.{sym, ◌∙◌}
+use mathlib.Core.Path.{◌≡◌, sym, ◌∙◌}
 use Prim.Native.Nat.{◌+◌}
 use native.Mathlib.Omega.{arith}
 use borrow.Author.Rules.{rules}
@@ -24,17 +24,11 @@ returns-2 c =
     let a = c.before.before.before.args in
     sym (past_end a.s.now (a.at + a.i) (omega arith))
 
-returns-3 : tie.Need-returns-then-d-eq16
-returns-3 c =
-    let t = c.before in
-    let a = (start t).args in
-    sym (no-digit-at a.s.now (a.at + a.i) (omega arith) (sym t.digit-d.ensures ∙ c.if-d-eq16.true))
-
 returns-4 : tie.Need-returns
 returns-4 c =
     let t = c.before in
     let a = (start t).args in
-    t.digit-d.ensures ∙ sym (a-digit-at a.s.now (a.at + a.i) (omega arith) (λ e. c.if-d-eq16.false (t.digit-d.ensures ∙ e)))
+    t.digit-d.ensures ∙ sym (a-digit-at a.s.now (a.at + a.i) (omega arith) (λ e. let none : t.digit-d.result ≡ 16 = t.digit-d.ensures ∙ e in omega arith))
 
 pub digit_at_spec : {M : Type 1} → statement M
 digit_at_spec =
@@ -46,5 +40,8 @@ digit_at_spec =
     (λ c. search rules)
     (λ c. search rules)
     (λ c κs. search rules)
-    returns-3
+    (λ c.
+    let a = c.args in
+    let none : c.digit-d.result ≡ 16 = omega arith in
+    sym (no-digit-at a.s.now (a.at + a.i) (omega arith) (sym c.digit-d.ensures ∙ none)))
     returns-4)

@@ -1,5 +1,5 @@
 -- `limbs_term::lay` meets its contract.
-use Rattle.std.proofs.Common.{◌≡◌, sym, true≢false, pow_pos, rules}
+use Rattle.std.proofs.Common.{◌≡◌, ◌≤◌, arith, sym, true≢false, pow_pos, rules}
 use Rattle.limbs.specs.Value.{term}
 use Rattle.limbs_term.proofs.Term.{term_words}
 use Rattle.limbs_term.proofs.Within.{at-word, inside-three, at-ten, at-eleven, past_end, shifted-room, ends}
@@ -18,16 +18,6 @@ whole k =
 -- where it does not lie within the words 0 to 9
 abbrev shifted : tie.After-struct_known-2-1 → tie.After-shl_word-t
 shifted k = k.before.before.before
-
-returns : tie.Need-returns-then-p-le9
-returns c =
-    let k = c.before.before in
-    record {
-      word = c.if-p-le9.true;
-      exact = inside-three _ _ _ _ _ c.if-p-le9.true (search rules) (search rules) (search rules) (whole k);
-      past = λ e. absurd (true≢false e);
-      room = λ _. shifted-room _ _ k.before.before.split-p.ensures.small k.shl_word-t.ensures.1;
-    }
 
 returns-2 : tie.Need-returns-then-p-eq10
 returns-2 c = record {
@@ -57,7 +47,15 @@ lay_spec =
     (λ c κs. search rules)
     (λ c κs. (c.split-p.ensures.small, pow_pos _))
     (λ c κs. search rules)
-    returns
+    (λ c.
+    let k = c.before.before in
+    let low : k.split-p.result.word ≤ 9 = omega arith in
+    record {
+      word = low;
+      exact = inside-three _ _ _ _ _ low (search rules) (search rules) (search rules) (whole k);
+      past = λ e. absurd (true≢false e);
+      room = λ _. shifted-room _ _ k.split-p.ensures.small k.shl_word-t.ensures.1;
+    })
     returns-2
     returns-3
     returns-4)

