@@ -72,8 +72,7 @@ impl Scan {
     }
 }
 
-// The four updates, which change a scan that is lent, in place: each stores the fields that it changes, and no other. They are proved by hand, by the
-// walk of an update in proofs/Lent.antt.
+// The four updates, which change a scan that is lent, in place: each stores the fields that it changes, and no other.
 impl Scan {
     // A NaN: the choice among NaNs goes on.
     fn nan(&mut self, n: OfferedNan)
@@ -121,7 +120,7 @@ impl Scan {
     }
 }
 
-// The same by value: a scan of its own is lent to the update. The walks over a list use these, since a loop that lends its scan is not covered.
+// The same by value: a scan of its own is lent to the update. The walks over a list use these.
 impl Scan {
     fn noted_nan(mut self, n: OfferedNan) -> Scan
         ensures { Offered n self result }

@@ -1,17 +1,14 @@
 -- Figures in pence as text.
-use mathlib.Core.Path.{◌≡◌, refl, sym, ap, ap₂, ◌∙◌, subst}
+use mathlib.Core.Path.{◌≡◌, refl, ap₂, subst}
 use mathlib.Core.Bool.{Bool, true, false, cond}
 use mathlib.Core.List.{[], ◌∷◌, ◌++◌}
-use Prim.Native.Nat.{ℕ, suc, ◌+◌, ◌-◌, ◌^◌, ◌≤◌, ◌<◌}
+use Prim.Native.Nat.{ℕ, suc, ◌^◌, ◌≤◌, ◌<◌}
 use native.Mathlib.Omega.{arith}
 use lib.Dec.{T, eqb}
-use lib.IntN.{ℤ, pos, negsuc, nat_abs, ◌-ℤ◌}
+use lib.IntN.{ℤ, pos, negsuc, nat_abs}
 use lib.ListN.{length}
-use lib.Signed.{lt_z, non_neg, mag}
-use mir.Syntax.{w64}
-use mir.Val.{SFits, to_z, of_z}
-use mir.ValLaws.{to_z-of_z}
-use borrow.Author.Tests.{le-ltb, ltb-true, eq-eqb, ne_eqb}
+use lib.Signed.{lt_z, mag}
+use borrow.Author.Tests.{ltb-true, eq-eqb, ne_eqb}
 use Rattle.totals_spec.specs.Pence.{Pence}
 use Rattle.totals_spec.specs.Program.{decimal_text, signed_text, none_text, pence_text}
 use Rattle.text.specs.FourLines.{pence_from}

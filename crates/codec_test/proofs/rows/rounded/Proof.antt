@@ -1,6 +1,5 @@
 -- `codec_test::rows::rounded` meets its contract.
 use native.Mathlib.Omega.{arith}
-use borrow.Author.Tests.{not-false}
 use Rattle.exact.specs.Joined.{significand_of}
 use Rattle.codec_test.proofs.Bounded.{settled, some}
 use mathlib.Core.Path.{◌∙◌}
