@@ -22,21 +22,27 @@ fn read_full<R: Read>(input: &mut R, buffer: &mut [u8]) -> io::Result<usize>
     Ok(done)
 }
 
+// Says on standard error which end failed. Where that fails too, there is nobody left to tell.
+fn tell(rt: &HostRuntime, end: &str, e: io::Error) {
+    if let Err(told) = eprintln!(rt; "total: standard {end}: {e}") {
+        drop(told);
+    }
+}
+
 // 8,192 lines of 17 bytes and one byte more decide the answer: no more is read.
-fn main(rt: HostRuntime) -> io::Result<()> {
+fn main(rt: HostRuntime) {
     let mut input = [0u8; 139265];
     let n = match read_full(&mut rt.stdin(), &mut input) {
         Ok(n) => n,
         Err(e) => {
-            eprintln!(rt; "total: standard input: {e}")?;
-            return Ok(());
+            tell(&rt, "input", e);
+            return;
         }
     };
     let t = answer_text(&input[..n]);
     let bytes = t.bytes;
     let length = t.length;
     if let Err(e) = rt.stdout().write_all(&bytes[..length]) {
-        eprintln!(rt; "total: standard output: {e}")?;
+        tell(&rt, "output", e);
     }
-    Ok(())
 }
