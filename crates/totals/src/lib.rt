@@ -2,9 +2,11 @@
 #![tactic(auto)]
 
 pub mod entry;
+pub mod estimate;
 mod extended;
 mod lists;
 pub mod pages;
+pub mod part;
 pub mod pence;
 pub mod range;
 pub mod refusal;
