@@ -202,9 +202,7 @@ impl Side {
 /// Two records are equal where every field is, results by their encodings: so −0 is not +0, and a
 /// NaN equals itself.
 ///
-/// The library's record has one field more, the last edge, which of its byte entries those within an
-/// allowance alone hand out: [`raw::sum_within`](crate::raw::sum_within) and
-/// [`raw::dot_within`](crate::raw::dot_within).
+/// The library's record has one field more, the last edge, which its byte entries do not hand out.
 #[derive(Clone, Copy, Debug)]
 #[non_exhaustive]
 pub struct Record<T> {

@@ -156,7 +156,7 @@ module _ (f : Format) (c : Settings) (u : ℕ) (x y : List ℕ) where
   by_chain false false e sub products minus = sum-by-chain f c u x sub products minus e
 
 -- the summand's number in the code's tests
-pub square-is : (u : ℕ) → leb 2 u ≡ is_square (summand_of u)
+square-is : (u : ℕ) → leb 2 u ≡ is_square (summand_of u)
 square-is zero = refl
 square-is (suc zero) = refl
 square-is (suc (suc u)) = le-leb 2 (suc (suc u)) (omega arith)

@@ -1,8 +1,8 @@
 -- What the loop of passes may count on, for the terms of an accepted list, of words or of bytes.
-use mathlib.Core.Path.{◌≡◌, refl, sym, ap, ◌∙◌, subst}
-use mathlib.Core.Bool.{Bool, true, false, true≢false}
+use mathlib.Core.Path.{◌≡◌, sym, ap, ◌∙◌}
+use mathlib.Core.Bool.{Bool, true, false}
 use mathlib.Core.List.{List, [], ◌∷◌, map}
-use Prim.Native.Nat.{ℕ, ◌+◌, ◌-◌, ◌*◌, ◌≤◌, ◌<◌}
+use Prim.Native.Nat.{ℕ, ◌+◌, ◌-◌, ◌≤◌, ◌<◌}
 use native.Mathlib.Nat.{le_trans, not-suc-le-zero, zero-lt-suc}
 use native.Mathlib.Omega.{arith}
 use lib.Dec.{lit≤}
@@ -29,14 +29,9 @@ use Rattle.window.specs.declared.Chain.{Chain}
 use Rattle.window.specs.declared.Step.{Step}
 use Rattle.window.specs.declared.Outcome.{Outcome}
 use Rattle.window.specs.declared.Verdict.TheVariants.{Done, Next}
-use Rattle.window.specs.declared.Outcome.TheVariants as out
-use Rattle.window.specs.declared.Verdict.{Verdict}
-use Rattle.totals_spec.specs.Chain as chain
-use Rattle.window.specs.Joined.{Passed, bound_by, bound_of, counted, total_of, width_of, Ready, Follows, Steps, StoppedStep, StepsWithin, started}
-use Rattle.totals_spec.proofs.Kept.{KeptBoundary}
-use Rattle.window.specs.declared.ExactSum.{ExactSum}
-use Rattle.window.proofs.Walked.{Walked, Lower, walked_start, walked-ready, walked_next, walked-done, walked-stopped}
-use Rattle.reduction.specs.Held.{Sums, StoppedSum, SumsWithin}
+use Rattle.window.specs.Joined.{Passed, Ready, Steps, started}
+use Rattle.window.proofs.Walked.{Walked, Lower, walked_start, walked-ready, walked_next, walked-done}
+use Rattle.reduction.specs.Held.{Sums}
 use Rattle.totals_spec.proofs.Tops.{top_most, top_product, sum_top, dot-top}
 
 pub record Base (p : ℕ) (ts : List Term) : Type 0 where
@@ -115,66 +110,10 @@ module _ {p : ℕ} {ts : List Term} (b : Base p ts) where
     pub loop-ready : (p ≤ 64) × Ready c q.lost
     loop-ready = (b.digits_le, walked-ready p ts b.digits_le b.good b.few b.small c q h g)
 
-    module _ (a : ℕ) (l : c.passes < a) where
-      -- there is room for the passes that are counted up to the allowance
-      pub loop-room : (r : Step) → Steps p c q r → r.verdict ≡ Next → a ≤ r.chain.passes → 766 * (a - c.passes - 1) ≤ c.edge
-      loop-room r s v m = (walked-stopped p ts b.digits_le b.good b.few b.small c q h g r s v a l m).0
+    pub loop-next : (r : Step) → Steps p c q r → r.verdict ≡ Next → Lower p ts c r.chain
+    loop-next r s v = walked_next p ts b.digits_le b.good b.few b.small c q h g r s v
 
-      -- a step by its verdict
-      by-verdict : (r : Step) {v : Verdict} → r.verdict ≡ v → StepsWithin r.verdict p a c q r → StepsWithin v p a c q r
-      by-verdict r e s = subst (λ (x : Verdict). StepsWithin x p a c q r) e s
-
-      pub loop-next : (r : Step) → StepsWithin r.verdict p a c q r → r.verdict ≡ Next → Lower p ts c r.chain × (r.chain.passes < a)
-      loop-next r s v =
-          let t = by-verdict r v s in
-          (walked_next p ts b.digits_le b.good b.few b.small c q h g r t.0 v, t.1)
-
-      finished : (r : Step) (o : Outcome) → Steps p c q r → r.verdict ≡ Done o → Sums p ts (record { outcome = o; chain = r.chain }) × (r.chain.passes ≤ a)
-      finished r o s v =
-          let d = walked-done p ts b.digits_le b.good b.few b.small c q h g r o s v in
-          let f : Follows (Done o) (chain.decide p (bound_of c) c.edge q.lost (total_of q) (width_of q)) (counted c.edge (width_of q) q.lost) c r.chain =
-          rw v at s in
-          (record { run = sym d.0; ended = d.1 }, omega (arith, f.1, l))
-
-      unit-most : (t : Bool) → t ≡ true → KeptBoundary p (top_of ts) (bound_by t c) → c.place ≤ top_of ts + 768
-      unit-most true e k = k.3
-      unit-most false e k = absurd (true≢false (sym e))
-
-      stopped : (r : Step) → StoppedStep p a c q r → StoppedSum p ts a r.chain
-      stopped r x =
-          let y = x.stops in
-          let w = walked-stopped p ts b.digits_le b.good b.few b.small c q h g x.step x.steps x.goes a l x.past in
-          record {
-            before = c;
-            stands = rw (y.edge, y.sum ∙ x.total) w.1;
-            near = y.near;
-            minus = y.minus;
-            bound = y.bound;
-            place = y.place;
-            passes = y.passes;
-            kept = h.kept;
-            edge = omega (arith, y.edge, h.most, b.small);
-            unit = λ n. omega (arith, y.place, b.small, unit-most c.near (sym y.near ∙ n) h.kept.bound);
-            few = omega (arith, w.0, l, h.most, b.small);
-          }
-
-      pub loop-done : (r : Step) (o : Outcome) → StepsWithin r.verdict p a c q r → r.verdict ≡ Done o
-          → SumsWithin o p ts a (record { outcome = o; chain = r.chain })
-      loop-done r out.Zero s v = finished r out.Zero (by-verdict r v s) v
-      loop-done r out.Exact s v = finished r out.Exact (by-verdict r v s) v
-      loop-done r out.Inexact s v = finished r out.Inexact (by-verdict r v s) v
-      loop-done r out.Below s v = finished r out.Below (by-verdict r v s) v
-      loop-done r out.On s v = finished r out.On (by-verdict r v s) v
-      loop-done r out.Above s v = finished r out.Above (by-verdict r v s) v
-      loop-done r out.Unfinished s v = stopped r (by-verdict r v s)
-
--- what a chain that is finished leaves
-pub within-whole : {p : ℕ} {ts : List Term} {a : ℕ} (e : ExactSum) (o : Outcome) → (o ≡ out.Unfinished → ⊥) → SumsWithin o p ts a e
-    → Sums p ts e × (e.chain.passes ≤ a)
-within-whole e out.Zero n h = h
-within-whole e out.Exact n h = h
-within-whole e out.Inexact n h = h
-within-whole e out.Below n h = h
-within-whole e out.On n h = h
-within-whole e out.Above n h = h
-within-whole e out.Unfinished n h = absurd (n refl)
+    pub loop-done : (r : Step) (o : Outcome) → Steps p c q r → r.verdict ≡ Done o → Sums p ts (record { outcome = o; chain = r.chain })
+    loop-done r o s v =
+        let d = walked-done p ts b.digits_le b.good b.few b.small c q h g r o s v in
+        record { run = sym d.0; ended = d.1 }

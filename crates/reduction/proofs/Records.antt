@@ -67,6 +67,5 @@ position-fits a b h k = go (ltb a b) (nltb→le a b) (ltb→lt a b)
     go false f g = let e : a - b < 9223372036854775808 = omega (arith, h) in e
 
 -- a rounding by what the functions of the formats say of its grid and unit
-pub moved : {f : Format} {c : Settings} (x : Signed) {r : Rounded} {g h m n : ℕ} → g ≡ h → m ≡ n → RoundedSum f c g (raised m x) r
-    → RoundedSum f c h (raised n x) r
+pub moved : {f : Format} {c : Settings} (x : Signed) {r : Rounded} {g h m n : ℕ} → g ≡ h → m ≡ n → RoundedSum f c g (raised m x) r → RoundedSum f c h (raised n x) r
 moved x e k o = rw (e, k) at o

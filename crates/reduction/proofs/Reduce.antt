@@ -22,7 +22,7 @@ use Rattle.window.specs.declared.ExactSum.{ExactSum}
 use Rattle.window.specs.Joined.{run_of}
 
 -- the record of a run of the chain, its sum rounded
-abbrev pub told : spec.Format → env.Settings → Bool → Bool → chain.Run → totals.Answer
+abbrev told : spec.Format → env.Settings → Bool → Bool → chain.Run → totals.Answer
 told f c products sub r =
     totals.reported f sub products (totals.on_grid f products (settled r.outcome))
     (totals.sum_rounded f c (spec.grid f products) (totals.towards_negative c) (totals.on_grid f products (settled r.outcome))) r
@@ -46,13 +46,8 @@ module _ {f : spec.Format} {c : env.Settings} {sub sig : Bool} {ops : List dec.U
   pub top-is : d ≡ Terms → (s.top ≡ terms.top_of (terms.terms l)) × (0 < s.top)
   top-is e = (g.top, (some e).2)
 
-  -- the record of the chain over them
-  pub chain-is : d ≡ Terms → chain_total f c sub products false (terms.terms l) ≡ totals.finite_total f c sub products false (terms.terms l)
-      → told f c products sub (chain.chain (spec.digits f) (terms.terms l)) ≡ answer
-  unfolding chain_total
-  chain-is t b = (rw (some t).1 at b) ∙ sym (some t).0
-
   pub finish-is : d ≡ Terms → (e : ExactSum) → run_of e ≡ chain.chain (spec.digits f) (terms.terms l)
       → chain_total f c sub products false (terms.terms l) ≡ totals.finite_total f c sub products false (terms.terms l) → (a : totals.Answer)
       → a ≡ told f c products s.subnormal (run_of e) → a ≡ answer
-  finish-is t e r b a q = q ∙ ap₂ (told f c products) g.subnormal r ∙ chain-is t b
+  unfolding chain_total
+  finish-is t e r b a q = q ∙ ap₂ (told f c products) g.subnormal r ∙ (rw (some t).1 at b) ∙ sym (some t).0

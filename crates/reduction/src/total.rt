@@ -1,7 +1,6 @@
 // From a scan and a chain of passes to the record of a total.
 ghost use Rattle.std.specs.Prelude.{◌≡◌, false, ℕ, ◌^◌, ◌<◌, ◌≤◌};
 ghost use Rattle.std.proofs.Math.IntN.{sub_ℕ};
-ghost use Rattle.std.specs.Int.Signed.{mag};
 ghost use Rattle.totals_spec.specs.Basics.{Signed, raised};
 ghost use Rattle.totals_spec.specs.Chain.{Run};
 ghost use Rattle.totals_spec.specs.Format as spec;
@@ -180,14 +179,6 @@ fn position_of(at: u64, origin: u64) -> i64
     (at as i64) - (origin as i64)
 }
 
-// The last edge of a chain over terms in the units of f.
-pub fn last_edge(f: Format, products: bool, edge: u64) -> i64
-    requires { RangeBounds (format_of f) × (edge < 2 ^ 62) }
-    ensures { (result ≡ last_edge_of (format_of f) products edge) × (mag result < 2 ^ 63) }
-{
-    position_of(edge + fall(f, products), origin(f, products))
-}
-
 // The record of a rounding, and of the chain behind it.
 fn recorded(subnormal: bool, res: u64, r: Rounded, passes: u64, last_edge: i64) -> Answer
     requires { r.flags < 128 }
@@ -221,13 +212,8 @@ pub fn finish(
     let x = r.value;
     let b = encoded(f, x);
     let h = e.chain;
-    let answer = recorded(
-        subnormal,
-        b.significand,
-        r,
-        h.passes,
-        last_edge(f, products, h.edge),
-    );
+    let last_edge = position_of(h.edge + fall(f, products), origin(f, products));
+    let answer = recorded(subnormal, b.significand, r, h.passes, last_edge);
     Wide {
         head: b.head,
         answer,

@@ -9,7 +9,7 @@ ghost use Rattle.format.specs.Joined.{format_of, settings_of};
 ghost use Rattle.values.specs.Sources.{Within, Straight, elements};
 ghost use Rattle.values.specs.Walks.{wide, Known, TensThere, Orderly, is_hundred, added_in};
 ghost use Rattle.window.specs.Joined.{Passed};
-ghost use Rattle.reduction.specs.Held.{SumsWithin};
+ghost use Rattle.reduction.specs.Held.{Sums};
 
 use crate::extended::pass as pass_tens;
 use crate::pass::{element_term, finished, hundred_term, pair_term, start as middle};
@@ -248,8 +248,7 @@ fn pass(
     pass_squares(f, c, source, left_words, left_bytes, w)
 }
 
-// The exact sum of the terms, the highest of whose bits lies at `top`: pass after pass until one of them decides its first p digits, or is the last that
-// is allowed.
+// The exact sum of the terms, the highest of whose bits lies at `top`: pass after pass until one of them decides its first p digits.
 pub fn exact(
     f: Format,
     c: Settings,
@@ -260,12 +259,11 @@ pub fn exact(
     right_bytes: &[u8],
     p: u64,
     top: u64,
-    allowance: u64,
 ) -> ExactSum
     requires known { Known (wide (format_of f)) (format_of f) × TensThere (wide (format_of f)) k.source left_bytes.now right_bytes.now × (is_hundred k ≡ true → wide (format_of f) ≡ false) }
     requires within { Within k.source left_words.now left_bytes.now × Within k.source right_words.now right_bytes.now × (k.source.count ≤ totals.limit) × (p ≤ 64) × Orderly k }
-    requires top_value { (top ≡ terms.top_of (terms.terms (added_in (format_of f) (settings_of c) k left_words.now left_bytes.now right_words.now right_bytes.now))) × (0 < top) × (0 < allowance) }
-    ensures { SumsWithin result.outcome p (terms.terms (added_in (format_of f) (settings_of c) k left_words.now left_bytes.now right_words.now right_bytes.now)) allowance result }
+    requires top_value { (top ≡ terms.top_of (terms.terms (added_in (format_of f) (settings_of c) k left_words.now left_bytes.now right_words.now right_bytes.now))) × (0 < top) }
+    ensures { Sums p (terms.terms (added_in (format_of f) (settings_of c) k left_words.now left_bytes.now right_words.now right_bytes.now)) result }
 {
     let mut at = start(top);
     let outcome = loop {
@@ -279,7 +277,7 @@ pub fn exact(
             right_bytes,
             at.edge,
         );
-        let s = advance(p, allowance, at, q);
+        let s = advance(p, at, q);
         let next = s.chain;
         at = next;
         let v = s.verdict;

@@ -1,12 +1,11 @@
 // Replays the cases of standard input: works each one out, compares the answer with the one that its row holds, and prints how many agree. Totals are
 // worked out over words, over bytes and through a byte entry, the pence of a list, the totals of a table, of ranges and of a page's span by the function and
 // through its entry; pages are written through theirs, values of ten bytes are added through the byte entries, and one total in several formats comes
-// through its own, and so do totals within an allowance of passes.
+// through its own.
 // cases.py makes the list, and says how it is laid out; README.md says where the answers come from.
 #![tactic(auto)]
 
 mod counts;
-mod estimates;
 mod figures;
 mod lists;
 mod pages;
@@ -20,7 +19,6 @@ mod ways;
 ghost use Rattle.std.specs.Prelude.{◌≡◌, ◌+◌, ◌<◌, ◌≤◌};
 
 use counts::counts;
-use estimates::estimates;
 use figures::figures;
 use hexadecimal::number;
 use lists::{lists, misnamed};
@@ -152,7 +150,7 @@ fn sections(n: u64) -> Agreed
     all
 }
 
-// The number of the rows of pence, of tables, of ranges, of pages, of ten bytes, of targets or of estimates that follow.
+// The number of the rows of pence, of tables, of ranges, of pages, of ten bytes or of targets that follow.
 fn next_count() -> u64
     ensures { result < 65536 }
 {
@@ -211,12 +209,6 @@ fn report_targets(name: &[u8]) {
     report_of(name, targets(n), n);
 }
 
-// The same of the rows of totals within an allowance.
-fn report_estimates(name: &[u8]) {
-    let n = next_count();
-    report_of(name, estimates(n), n);
-}
-
 fn main() {
     let mut head = [0u8; 3];
     io::read_full(0, &mut head);
@@ -263,5 +255,4 @@ fn main() {
     report_pages(b"longer pages written ....................... ", true, true);
     report_tens(b"values of ten bytes ........................ ");
     report_targets(b"one total, several formats ................. ");
-    report_estimates(b"totals within an allowance of passes ....... ");
 }

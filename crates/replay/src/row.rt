@@ -1,5 +1,5 @@
 // The fields of a row.
-ghost use Rattle.std.specs.Prelude.{◌≡◌, ◌*◌, ◌<◌, ◌≤◌, length, get_or};
+ghost use Rattle.std.specs.Prelude.{◌≡◌, ◌<◌, ◌≤◌, length, get_or};
 ghost use Rattle.replay.specs.Row.{word_at, is_dot, named_in, format_in, settings_in, signed_at, answer_in};
 
 use format::env::Settings;
@@ -146,37 +146,17 @@ pub fn words_at(s: &[u8], first: usize) -> [u64; 12]
     words
 }
 
-// Values of 16 digits each from a column on, n of them, as eight bytes each.
-pub fn read_values(s: &[u8], column: usize, n: usize, bytes: &mut [u8])
-    requires { (column < 2048) × (8 * n ≤ length bytes.old) × (length bytes.old ≤ 512) }
-    ensures { length bytes.new ≡ length bytes.old }
-{
-    let mut i: usize = 0;
-    while i < n {
-        put_word(bytes, 8 * i, number(s, column + 17 * i, 16));
-        i += 1;
-    }
-}
-
-// A byte of two digits for each of a buffer's, from a column on.
-pub fn read_bytes(s: &[u8], column: usize, bytes: &mut [u8])
-    requires { (column < 2048) × (length bytes.old ≤ 512) }
-    ensures { length bytes.new ≡ length bytes.old }
-{
-    let mut i: usize = 0;
-    while i < bytes.len() {
-        bytes[i] = (number(s, column + 2 * i, 2) % 256) as u8;
-        i += 1;
-    }
-}
-
 // The same in bytes, and eight bytes more, so that a list may end within a value.
 pub fn bytes_at(s: &[u8], first: usize) -> [u8; 104]
     requires { first ≤ 12 }
     ensures { length result ≡ 104 }
 {
     let mut bytes = [255u8; 104];
-    read_values(s, VALUES + 17 * first, 12, &mut bytes);
+    let mut i: usize = 0;
+    while i < 12 {
+        put_word(&mut bytes, 8 * i, number(s, VALUES + 17 * (first + i), 16));
+        i += 1;
+    }
     bytes
 }
 

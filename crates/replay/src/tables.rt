@@ -1,6 +1,5 @@
 // Rows of tables, each worked out by `table` and through the exported entry.
 ghost use Rattle.std.specs.Prelude.{◌≡◌, ◌<◌, ◌≤◌, length};
-ghost use Rattle.replay.specs.Same.{Tells};
 
 use crate::row::{
     BIASED_TABLE, LONG, answer_at, count_at, format_at, returned_at, settings_at, words_at,
@@ -67,9 +66,7 @@ fn at_most_sixteen(n: usize) -> usize
     if n > 16 { 16 } else { n }
 }
 
-pub fn same_words(a: &[u64], b: &[u64]) -> bool
-    ensures { Tells result a.now b.now }
-{
+pub fn same_words(a: &[u64], b: &[u64]) -> bool {
     if a.len() != b.len() {
         return false;
     }

@@ -2,10 +2,11 @@
 ghost use Rattle.std.specs.Prelude.{◌≡◌, ◌<◌, ◌≤◌, length};
 
 use crate::pages::at_most;
-use crate::row::{read_bytes, read_values, signed_at};
+use crate::row::signed_at;
 use crate::ways::same_bytes;
 use hexadecimal::number;
 use totals::entry::totals_sum_into;
+use values::put_word;
 
 // The length of a row.
 const ROW: usize = 1371;
@@ -36,7 +37,11 @@ fn targets_at(s: &[u8]) -> [u8; 320]
     ensures { length result ≡ 320 }
 {
     let mut bytes = [255u8; TARGET_BYTES];
-    read_values(s, TARGETS, NUMBERS, &mut bytes);
+    let mut i: usize = 0;
+    while i < NUMBERS {
+        put_word(&mut bytes, 8 * i, number(s, TARGETS + 17 * i, 16));
+        i += 1;
+    }
     bytes
 }
 
@@ -45,8 +50,16 @@ fn values_at(s: &[u8]) -> [u8; 104]
     ensures { length result ≡ 104 }
 {
     let mut bytes = [0u8; BYTES];
-    read_values(s, VALUES, LIST, &mut bytes);
+    let mut i: usize = 0;
+    while i < LIST {
+        put_word(&mut bytes, 8 * i, number(s, VALUES + 17 * i, 16));
+        i += 1;
+    }
     bytes
+}
+
+fn byte_in(s: &[u8], column: usize) -> u8 {
+    (number(s, column, 2) % 256) as u8
 }
 
 fn buffer_at(s: &[u8], column: usize) -> [u8; 104]
@@ -54,7 +67,11 @@ fn buffer_at(s: &[u8], column: usize) -> [u8; 104]
     ensures { length result ≡ 104 }
 {
     let mut bytes = [0u8; BUFFER];
-    read_bytes(s, column, &mut bytes);
+    let mut i: usize = 0;
+    while i < BUFFER {
+        bytes[i] = byte_in(s, column + 2 * i);
+        i += 1;
+    }
     bytes
 }
 

@@ -2,7 +2,7 @@
 ghost use Rattle.std.specs.Prelude.{◌≡◌, ◌<◌, ◌≤◌, length};
 
 use crate::pages::at_most;
-use crate::row::{format_at, is_dot, read_bytes, returned_at, settings_at, signed_at, summand_at};
+use crate::row::{format_at, is_dot, returned_at, settings_at, signed_at, summand_at};
 use crate::ways::{enter_dot, enter_sum, same_bytes};
 use format::{Format, Named};
 use hexadecimal::number;
@@ -39,12 +39,20 @@ fn format_of(s: &[u8]) -> Format {
     }
 }
 
+fn byte_in(s: &[u8], column: usize) -> u8 {
+    (number(s, column, 2) % 256) as u8
+}
+
 fn buffer_at(s: &[u8], column: usize) -> [u8; 40]
     requires { column < 512 }
     ensures { length result ≡ 40 }
 {
     let mut bytes = [0u8; BUFFER];
-    read_bytes(s, column, &mut bytes);
+    let mut i: usize = 0;
+    while i < BUFFER {
+        bytes[i] = byte_in(s, column + 2 * i);
+        i += 1;
+    }
     bytes
 }
 
@@ -53,7 +61,11 @@ fn list_at(s: &[u8], column: usize) -> [u8; 128]
     ensures { length result ≡ 128 }
 {
     let mut bytes = [0u8; BYTES];
-    read_bytes(s, column, &mut bytes);
+    let mut i: usize = 0;
+    while i < BYTES {
+        bytes[i] = byte_in(s, column + 2 * i);
+        i += 1;
+    }
     bytes
 }
 

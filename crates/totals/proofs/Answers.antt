@@ -84,7 +84,7 @@ module _ (f : Format) (c : Settings) (u n : ℕ) (e : sum_numbers f c u n ≡ 0)
       let t = valid-of (valid_settings f c && leb u 2) 3 _ (first-zero (not (valid_format f)) 2 _ e).1 in
       leb→le u 2 (and_right (valid_settings f c) (leb u 2) t)
 
-  pub no-dot : eqb u 3 ≡ false
+  no-dot : eqb u 3 ≡ false
   no-dot = ne_eqb u 3 (λ z. omega (arith, z, summand-le))
 
   pub sum-asked : numbers_in (eqb u 3) f c u n ≡ 0

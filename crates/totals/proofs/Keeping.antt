@@ -65,8 +65,7 @@ module _ (f : Format) (c : Settings) (l : List ℕ) (s : Scan) (g : Scanned f c 
         let y = or_split s.positive_infinity s.negative_infinity x.1 in
         rw (x.0, g.invalid ∙ none-invalid f c l, y.0, y.1, ne_eqb s.top 0 h)
 
-  keeping : (d : Early) → leaves_terms d ≡ terms_in s → (d ≡ Terms → Ends f (sum_terms f c value l) (walked_of s report rest))
-      → Keeps f c l (walked_of s report rest)
+  keeping : (d : Early) → leaves_terms d ≡ terms_in s → (d ≡ Terms → Ends f (sum_terms f c value l) (walked_of s report rest)) → Keeps f c l (walked_of s report rest)
   keeping d k ends = record {
     subnormal = g.subnormal;
     positive-zero = g.positive-zero;

@@ -1,19 +1,18 @@
 -- Whole lists by the search for a stray bit: what that asks and tells, for pence and for totals.
 use mathlib.Core.Path.{◌≡◌, refl, sym, ap, ◌∙◌, subst}
-use mathlib.Core.Bool.{Bool, true, false, true≢false}
+use mathlib.Core.Bool.{Bool, true, false}
 use mathlib.Core.List.{List}
-use Prim.Native.Nat.{ℕ, ◌≤◌}
+use Prim.Native.Nat.{ℕ}
 use native.Mathlib.Omega.{arith}
 use lib.Dec.{eqb}
 use lib.ListN.{length}
 use borrow.Author.Tests.{eqb-true, ne_eqb}
 use Rattle.totals_spec.specs.Format.{Format}
-use Rattle.totals_spec.specs.Settings.{Settings, summand_of}
+use Rattle.totals_spec.specs.Settings.{Settings}
 use Rattle.totals_spec.specs.Totals.{Answer, refused}
 use Rattle.totals_spec.specs.Pence.{refused_at}
 use Rattle.values.specs.Walks.{wide}
 use Rattle.values.proofs.Walks.{narrow}
-use Rattle.reduction.specs.Answered as answered
 use Rattle.totals.specs.declared.report.Report.{Report}
 use Rattle.totals.specs.declared.stray.Found.{Found}
 use Rattle.totals.specs.declared.stray.Found.TheVariants.{At, Nothing}
@@ -33,21 +32,6 @@ found_none e z = absurd (subst IsAt (sym e ∙ z) tt)
 -- the report of a stray bit is refused
 pub strayed-refused : (p : Report) (i : ℕ) → answer_in false p ≡ refused 7 i → p.refusal ≡ 0 → ⊥
 strayed-refused p i t e = let k : ◌≡◌ {A = ℕ} 0 7 = sym e ∙ ap (λ (a : Answer). a.refusal) t in omega (arith, k)
-
--- the report of a walk that is that of a stray bit
-pub strayed-as : {p q : Report} {i : ℕ} → p ≡ q → (answer_in false q ≡ refused 7 i) × (pence_in q ≡ refused_at 7 i)
-    → (answer_in false p ≡ refused 7 i) × (pence_in p ≡ refused_at 7 i)
-strayed-as e t = (ap (answer_in false) e ∙ t.0, ap pence_in e ∙ t.1)
-
-pub strayed-passes : (p : Report) (i : ℕ) → answer_in false p ≡ refused 7 i → (a : ℕ) → p.passes ≤ a
-strayed-passes p i t a = omega (arith, ap (λ (z : Answer). z.passes) t)
-
--- the answer of a walk for no pence, in a format of a word
-pub tells-list : (h w b : Bool) (f : Format) (c : Settings) (u : ℕ) (x y : List ℕ) (r : Report) → h ≡ false → w ≡ false → ListTells h w b f c u x y r
-    → answer_in false r ≡ answer_to b f c u x y
-tells-list true w b f c u x y r i j t = absurd (true≢false i)
-tells-list false true b f c u x y r i j t = absurd (true≢false j)
-tells-list false false b f c u x y r i j t = t
 
 module _ (f : Format) (c : Settings) (u : ℕ) (x y : List ℕ) {n : ℕ} (left : n ≡ length x) (right : n ≡ length y) where
   -- pence are not of pairs
@@ -78,16 +62,9 @@ module _ (f : Format) (c : Settings) (u : ℕ) (x y : List ℕ) {n : ℕ} (left 
   list-told false true e a r found is p t = t
   list-told false false e a r found is p t = t ∙ accepted-is (eqb u 3) f c u x y (list-asks false false e a r found is)
 
-  -- the answer of a walk that is accepted
-  pub list-answer : (h w : Bool) (e : eqb u 4 ≡ h) → h ≡ false → w ≡ false → ListAsks h w (eqb u 3) f c u n x y → (r : Found) → FoundBy w (eqb u 3) r f.W x y
-      → r ≡ Nothing → answered.answer_in false (eqb u 3) f c (summand_of u) x y ≡ answer_to (eqb u 3) f c u x y
-  list-answer true w e i j a r found is = absurd (true≢false i)
-  list-answer false true e i j a r found is = absurd (true≢false j)
-  list-answer false false e i j a r found is = accepted-is (eqb u 3) f c u x y (list-asks false false e a r found is)
-
 -- the summand of a total is not that of pence
 module _ (f : Format) (c : Settings) (u n : ℕ) where
-  pub no-hundred : numbers_in (eqb u 3) f c u n ≡ 0 → eqb u 4 ≡ false
+  no-hundred : numbers_in (eqb u 3) f c u n ≡ 0 → eqb u 4 ≡ false
   no-hundred e = go (eqb u 3) refl e
     where
       go : (b : Bool) → eqb u 3 ≡ b → numbers_in b f c u n ≡ 0 → eqb u 4 ≡ false

@@ -1,6 +1,6 @@
 -- A walk over two lists without a stray bit, by whether it is for pence: what its scan, its chain and its record ask and tell.
 use mathlib.Core.Path.{◌≡◌, refl, sym, ap, ◌∙◌, subst, subst₂}
-use mathlib.Core.Bool.{Bool, true, false, not, cond, true≢false}
+use mathlib.Core.Bool.{Bool, true, false, not, cond}
 use mathlib.Core.List.{List}
 use Prim.Native.Nat.{ℕ, ◌+◌, ◌^◌, ◌≤◌, ◌<◌}
 use native.Mathlib.Nat.{le_refl}
@@ -13,7 +13,6 @@ use Rattle.totals_spec.specs.Format as spec
 use Rattle.totals_spec.specs.Settings as env
 use Rattle.totals_spec.specs.Decode as dec
 use Rattle.totals_spec.specs.Terms as terms
-use Rattle.totals_spec.specs.Chain.{chain}
 use Rattle.totals_spec.specs.Totals as totals
 use Rattle.totals_spec.specs.Settled.{settled}
 use Rattle.totals_spec.specs.Pence.{refused_pence}
@@ -26,15 +25,14 @@ use Rattle.scan.specs.declared.Early.TheVariants.{Given, Terms}
 use Rattle.scan.specs.Joined.{Scanned}
 use Rattle.scan.specs.Walked.{GatheredIn}
 use Rattle.values.specs.declared.Walk.{Walk}
-use Rattle.values.specs.Walks.{wide, Known, Orderly, is_hundred, items_of, added_by}
+use Rattle.values.specs.Walks.{wide, Known, Orderly, is_hundred, added_by}
 use Rattle.values.proofs.Walks.{known-range}
 use Rattle.window.specs.declared.ExactSum.{ExactSum}
 use Rattle.window.specs.Joined.{outcome_of, LeftOf}
 use Rattle.reduction.specs.declared.total.Wide.{Wide}
 use Rattle.reduction.specs.Held.{Sums}
-use Rattle.reduction.specs.Answered as answered
 use Rattle.reduction.specs.Answered.{words_as, answer_of, answer_as, given_as, products_in, first_in}
-use Rattle.reduction.proofs.Reduce.{given, given_is, top-is, chain-is, finish-is}
+use Rattle.reduction.proofs.Reduce.{given, given_is, top-is, finish-is}
 use Rattle.reduction.proofs.Items.{items_give, items-top, accepts, added-items, by_chain, answer-is}
 use Rattle.reduction.proofs.Loop.{top_small}
 use Rattle.totals.specs.declared.report.Report.{Report}
@@ -70,10 +68,6 @@ scanned-orderly k r e g h = go (is_hundred k) g
     go : (b : Bool) → r.summand ≡ cond b 0 k.summand → Orderly r
     go true q m = absurd (omega (arith, q, m))
     go false q m = rw e (h (omega (arith, q, m)))
-
--- T of what the passes add up: of pence seven bits more
-abbrev pub top_by : Scan → Bool → ℕ
-top_by s h = cond h (s.top + 7) s.top
 
 module _ (f : spec.Format) (c : env.Settings) (u : ℕ) (x y : List ℕ) where
   pub asks-few : (h b : Bool) → TotalAsks h (wide f) b f c u x y → length x ≤ totals.limit
@@ -127,11 +121,14 @@ module _ (f : spec.Format) (c : env.Settings) (u : ℕ) (x y : List ℕ) where
           t ∙ ap (given_as (wide f)) (given_is g (products_in u) (first_in u) d k.0 v i is _ refl) ∙ answer-is f c u x y (wide f) (eqb u 3) refl a
 
     module _ (d : Early) (is : d ≡ Terms) where
+      abbrev top_by : Bool → ℕ
+      top_by h = cond h (s.top + 7) s.top
+
       no-dot : u ≡ 4 → eqb u 3 ≡ false
       no-dot e = rw e
 
       pub exact-asks : (h : Bool) → eqb u 4 ≡ h → Seen h f c u x y s → TotalAsks h (wide f) (eqb u 3) f c u x y → DecidesBy h d c (first_in u) s
-          → (top_by s h ≡ terms.top_of (terms.terms (added_by (wide f) (eqb u 3) h f c (env.summand_of u) x y))) × (0 < top_by s h)
+          → (top_by h ≡ terms.top_of (terms.terms (added_by (wide f) (eqb u 3) h f c (env.summand_of u) x y))) × (0 < top_by h)
       exact-asks true e g a k =
           let t = raised-top f x (pence-seen g a.0 a.1.1) (subst (λ (z : Early). PenceDecides z s) is k).1 in
           (t.0 ∙ sym (rw (a.0, no-dot (eqb-true u 4 e), a.1.1)), t.1)
@@ -149,19 +146,3 @@ module _ (f : spec.Format) (c : env.Settings) (u : ℕ) (x y : List ℕ) where
           (finish-is g (products_in u) (first_in u) d k.0 is e (rw (added-items f c u x y (wide f) (eqb u 3)) at m.run)
           (by_chain f c u x y (wide f) (eqb u 3) a _ (products_in u) false) _ refl)
           ∙ answer-is f c u x y (wide f) (eqb u 3) refl a
-
-      -- the passes of the total are those of the chain over its terms
-      pub run-passes : (h : Bool) → h ≡ false → wide f ≡ false → Seen h f c u x y s → TotalAsks h (wide f) (eqb u 3) f c u x y
-          → DecidesBy h d c (first_in u) s
-          → (answered.answer_in false (eqb u 3) f c (env.summand_of u) x y).passes
-          ≡ (chain (spec.digits f) (terms.terms (items_of false (eqb u 3) f c (env.summand_of u) x y))).passes
-      unfolding totals.reported
-      run-passes true n z g a k = absurd (true≢false n)
-      run-passes false n z g a k =
-          subst (λ (w : Bool). (answered.answer_in w (eqb u 3) f c (env.summand_of u) x y).passes
-          ≡ (chain (spec.digits f) (terms.terms (items_of w (eqb u 3) f c (env.summand_of u) x y))).passes) z
-          (ap (λ (t : totals.Answer). t.passes)
-          (sym
-          (ap (given_as (wide f))
-          (chain-is g (products_in u) (first_in u) d k.0 is (by_chain f c u x y (wide f) (eqb u 3) a _ (products_in u) false))
-          ∙ answer-is f c u x y (wide f) (eqb u 3) refl a)))

@@ -4,10 +4,8 @@ use Rattle.std.proofs.Math.Option.{none, some}
 use Rattle.totals_spec.specs.Format.{Format}
 use Rattle.totals_spec.specs.Settings.{Settings}
 use Rattle.totals_spec.specs.Totals.{Answer}
-use Rattle.further_spec.specs.Estimate.{Estimate}
 use Rattle.totals_spec.specs.Bytes.{Entry}
 use Rattle.totals_spec.specs.Words.{FigureEntry, TableEntry}
-use Rattle.further_spec.proofs.Within.{Windowed}
 
 pub record Enters (e : Entry) (code : ℕ) (buffer : List ℕ) : Type 0 where
   pub code_is : code ≡ e.code
@@ -39,15 +37,6 @@ pub record FitsTens (a : Answer) (buffer : List ℕ) : Type 0 where
   pub result : a.result < 2 ^ 80
   pub flags : a.flags < 256
   pub side : a.side < 4
-
--- an estimate that can be entered
-pub record FitsEstimate (e : Estimate) (buffer : List ℕ) : Type 0 where
-  pub room : 144 ≤ length buffer
-  pub number : e.answer.refusal < 256
-  pub place : e.answer.place < 2 ^ 32
-  pub flags : e.answer.flags < 256
-  pub side : e.answer.side < 4
-  pub sum : Windowed e.sum
 
 abbrev pub format_from : (kind exponent_bits width : ℕ) → Format
 format_from k e w = record { kind = k; E = e; W = w; named = none }

@@ -19,7 +19,6 @@ use Rattle.totals.specs.declared.lists.Walked.{Walked}
 use Rattle.totals.specs.declared.report.Report.{Report}
 use Rattle.totals.specs.declared.stray.Found.{Found}
 use Rattle.totals.specs.declared.stray.Found.TheVariants.{Nothing}
-use Rattle.totals.specs.declared.part.Shown.TheVariants.{Whole}
 use Rattle.totals.specs.Stray.{FoundOn}
 use Rattle.totals.specs.Reported.{answer_in, odd}
 
@@ -45,7 +44,6 @@ walked_of s report rest = record {
   subnormal = s.subnormal;
   positive_zero = s.positive_zero;
   negative_zero = s.negative_zero;
-  shown = Whole;
 }
 
 -- the end of the chain over terms: what it leaves, its passes and its last edge

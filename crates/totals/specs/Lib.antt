@@ -4,9 +4,7 @@ pub mod Walked
 pub mod Entered
 pub mod PenceRecord
 pub mod Reported
-pub mod Parts
 pub mod Kept
-pub mod Within
 pub mod Targets
 pub mod Tables
 pub mod Ranges

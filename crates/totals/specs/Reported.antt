@@ -1,5 +1,5 @@
 -- What a walk is asked and what it reports, by whether it is for pence (summand 4): the pence of its left list, or a total.
-use Rattle.std.specs.Prelude.{◌≡◌, Bool, true, false, not, ◌||◌, cond, List, ℕ, ◌≤◌, ℤ, pos, length}
+use Rattle.std.specs.Prelude.{◌≡◌, Bool, true, false, not, ◌||◌, cond, List, ℕ, ◌≤◌, pos, length}
 use Rattle.totals_spec.specs.Format as spec
 use Rattle.totals_spec.specs.Bounds.{FormatBounds, RangeBounds, SettingsBounds}
 use Rattle.totals_spec.specs.Settings as env
@@ -36,11 +36,6 @@ answer_in w r = record {
   place = r.place;
   side = r.side;
 }
-
--- of a chain that is not finished: its passes and its last edge alone
-abbrev pub report_seen : ℕ → ℤ → Report
-report_seen passes edge =
-    record { result = 0; head = 0; flags = 0; passes = passes; last_edge = edge; refusal = 0; place = 0; side = 0; figure = pos 0 }
 
 abbrev pub pence_in : Report → pence.Pence
 pence_in r = record { figure = r.figure; refusal = r.refusal; place = r.place }

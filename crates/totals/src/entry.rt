@@ -4,41 +4,30 @@ ghost use Rattle.totals_spec.specs.Bytes as bytes;
 ghost use Rattle.totals_spec.specs.Bytes.{values_in};
 ghost use Rattle.totals_spec.specs.Extended as ten;
 ghost use Rattle.totals_spec.specs.Pages as pages;
-ghost use Rattle.further_spec.specs.Estimate as estimate;
 ghost use Rattle.further_spec.specs.Several as several;
-ghost use Rattle.further_spec.proofs.Within.{Windowed};
 ghost use Rattle.totals_spec.specs.Totals as totals;
 ghost use Rattle.totals_spec.specs.Words as words;
 ghost use Rattle.format.specs.Joined.{format_of, settings_of};
 ghost use Rattle.page.specs.Paged.{laid_over};
 ghost use Rattle.reduction.specs.Answered.{answer_of, answer_as};
-ghost use Rattle.limbs.specs.Value.{value};
 ghost use Rattle.totals.specs.Ranges.{EntersRange};
-ghost use Rattle.totals.specs.Within.{estimate_of};
-ghost use Rattle.totals.specs.Entered.{Enters, EntersFigure, EntersTable, Fits, FitsTens, FitsEstimate, format_from, format_with, biased_from, settings_from};
+ghost use Rattle.totals.specs.Entered.{Enters, EntersFigure, EntersTable, Fits, FitsTens, format_from, format_with, biased_from, settings_from};
 
-use crate::estimate::{Estimate, dot_within, sum_within};
 use crate::pages::span_refusal;
 use crate::pence::pence_of_sum;
 use crate::range::range_total;
 use crate::several::{Printed, Target, in_three};
 use crate::table::table;
 use crate::{dot_bytes, extended, sum_bytes};
-use format::env::{Settings, flag};
+use format::env::Settings;
 use format::{Format, Named};
 use limbs::word::magnitude;
-use limbs_window::negate;
 use page::write;
 use reduction::total::{Answer, Wide, refused};
 use values::{put_word, word_at};
 
 // The side is the third byte of its word, above the flags.
 const SIDE: u64 = 65536;
-
-// Of an estimate the mark is the second byte, and the sign of the boundary the fourth.
-const MARK: u64 = 256;
-
-const MINUS: u64 = 16777216;
 
 // In a record of kind 4 both stand above the head, which has two bytes.
 const TEN_FLAGS: u64 = 65536;
@@ -776,160 +765,4 @@ pub fn totals_page_write(values: &[u64], page: &mut [u8]) -> u64
     ensures { Enters (pages.page_written values.now page.old) result page.new }
 {
     write(values, page)
-}
-
-// A signed number in 64 bits, two's complement.
-fn word_of(z: i64) -> u64
-    ensures { result ≡ estimate.word_of z }
-{
-    if z < 0 {
-        return u64::MAX - (-1 - z) as u64;
-    }
-    z as u64
-}
-
-// S in 96 bytes, two's complement.
-fn put_sum(answer: &mut [u8], negative: bool, magnitude: [u64; 12])
-    requires { (144 ≤ length answer.old) × Windowed (record { neg = negative; mag = value magnitude }) }
-    ensures { answer.new ≡ laid_over answer.old 48 (bytes.to_bytes 96 (estimate.window_of (record { neg = negative; mag = value magnitude }))) }
-{
-    let sum = if negative {
-        negate(magnitude)
-    } else {
-        magnitude
-    };
-    let mut i: usize = 0;
-    while i < 12 {
-        put_word(answer, 48 + 8 * i, sum[i]);
-        i += 1;
-    }
-}
-
-// An accepted record is written; any other leaves the buffer as it was. Returns the refusal, plus 256 times the place.
-fn enter_estimate(e: Estimate, answer: &mut [u8]) -> u64
-    requires { FitsEstimate (estimate_of e) answer.old }
-    ensures { Enters (estimate.estimate_entered (estimate_of e) answer.old) result answer.new }
-{
-    let t = e.answer;
-    if t.refusal != 0 {
-        return t.refusal + 256 * t.place;
-    }
-    let part = e.part;
-    let sum = part.sum;
-    put_word(answer, 0, t.result);
-    put_word(
-        answer,
-        8,
-        t.flags + flag(MARK, e.mark) + SIDE * t.side + flag(MINUS, part.minus),
-    );
-    put_word(answer, 16, t.passes);
-    put_word(answer, 24, word_of(t.last_edge));
-    put_word(answer, 32, part.whole);
-    put_word(answer, 40, word_of(part.unit));
-    put_sum(answer, part.negative, sum);
-    0
-}
-
-// A sum within an allowance of passes.
-
-pub fn totals_sum_within(
-    kind: u64,
-    exponent_bits: u64,
-    width: u64,
-    bias_named: u64,
-    bias: i64,
-    rounding: u64,
-    tininess: u64,
-    nan_propagation: u64,
-    default_nan_negative: u64,
-    flush_to_zero: u64,
-    denormals_are_zero: u64,
-    saturate: u64,
-    precision: u64,
-    summand: u64,
-    allowance: u64,
-    values: &[u8],
-    answer: &mut [u8],
-) -> u64
-    ensures { Enters (estimate.sum_within_entry kind exponent_bits width bias_named bias (settings_from rounding tininess nan_propagation default_nan_negative flush_to_zero denormals_are_zero saturate precision) summand allowance values.now answer.old) result answer.new }
-{
-    let odd = values.len() % 8;
-    if odd != 0 {
-        return 1;
-    }
-    if answer.len() < 144 {
-        return 2;
-    }
-    if allowance == 0 {
-        return 16;
-    }
-    if misnamed(bias_named, bias) {
-        return 3;
-    }
-    let f = format_with(kind, exponent_bits, width, bias_named == 1, bias);
-    let c = settings(
-        rounding,
-        tininess,
-        nan_propagation,
-        default_nan_negative,
-        flush_to_zero,
-        denormals_are_zero,
-        saturate,
-        precision,
-    );
-    enter_estimate(sum_within(f, c, summand, allowance, values), answer)
-}
-
-// And a dot.
-
-pub fn totals_dot_within(
-    kind: u64,
-    exponent_bits: u64,
-    width: u64,
-    bias_named: u64,
-    bias: i64,
-    rounding: u64,
-    tininess: u64,
-    nan_propagation: u64,
-    default_nan_negative: u64,
-    flush_to_zero: u64,
-    denormals_are_zero: u64,
-    saturate: u64,
-    precision: u64,
-    allowance: u64,
-    left: &[u8],
-    right: &[u8],
-    answer: &mut [u8],
-) -> u64
-    ensures { Enters (estimate.dot_within_entry kind exponent_bits width bias_named bias (settings_from rounding tininess nan_propagation default_nan_negative flush_to_zero denormals_are_zero saturate precision) allowance left.now right.now answer.old) result answer.new }
-{
-    let odd_left = left.len() % 8;
-    if odd_left != 0 {
-        return 1;
-    }
-    let odd_right = right.len() % 8;
-    if odd_right != 0 {
-        return 1;
-    }
-    if answer.len() < 144 {
-        return 2;
-    }
-    if allowance == 0 {
-        return 16;
-    }
-    if misnamed(bias_named, bias) {
-        return 3;
-    }
-    let f = format_with(kind, exponent_bits, width, bias_named == 1, bias);
-    let c = settings(
-        rounding,
-        tininess,
-        nan_propagation,
-        default_nan_negative,
-        flush_to_zero,
-        denormals_are_zero,
-        saturate,
-        precision,
-    );
-    enter_estimate(dot_within(f, c, allowance, left, right), answer)
 }

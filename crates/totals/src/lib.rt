@@ -2,11 +2,9 @@
 #![tactic(auto)]
 
 pub mod entry;
-pub mod estimate;
 mod extended;
 mod lists;
 pub mod pages;
-pub mod part;
 pub mod pence;
 pub mod range;
 pub mod refusal;

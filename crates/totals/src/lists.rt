@@ -1,8 +1,7 @@
 // The answers of lists that pass the tests that do not look at the elements: of the sum of the values, magnitudes or squares of the left list, or of the
 // products (u = 3) of the pairs; and the pence (u = 4) of the left list. The elements are words, values in bytes, or values of ten bytes.
-ghost use Rattle.std.specs.Prelude.{◌≡◌, ◌*◌, ◌/◌, ◌^◌, ◌<◌, ◌≤◌, eqb, length, true, false};
+ghost use Rattle.std.specs.Prelude.{◌≡◌, ◌*◌, ◌/◌, ◌<◌, ◌≤◌, eqb, length, true, false};
 ghost use Rattle.totals_spec.specs.Basics.{any};
-ghost use Rattle.totals_spec.specs.Bounds.{RangeBounds};
 ghost use Rattle.totals_spec.specs.Settings as env;
 ghost use Rattle.totals_spec.specs.Bytes.{values_in};
 ghost use Rattle.format.specs.Joined.{format_of, settings_of};
@@ -13,35 +12,29 @@ ghost use Rattle.values.specs.Sources.{Within, source_of};
 ghost use Rattle.values.specs.Tens.{all_tens};
 ghost use Rattle.values.specs.Walks.{wide, Known, TensThere, read_as, Orderly, walk_of, is_dot, is_hundred};
 ghost use Rattle.reduction.specs.Answered as answered;
-ghost use Rattle.reduction.specs.Answered.{answer_of, answer_as, tens_refusal, products_in, last_edge_of};
+ghost use Rattle.reduction.specs.Answered.{answer_of, answer_as, tens_refusal};
 ghost use Rattle.totals.specs.PenceRecord.{pence_record, list_pence};
 ghost use Rattle.totals.specs.Walked.{numbers_in, answer_to};
-ghost use Rattle.totals.specs.declared.part.Shown.TheVariants.{Whole};
-ghost use Rattle.totals.specs.Parts.{part_by, ShowsPart};
-ghost use Rattle.totals.specs.Kept.{walked_of, ListKept};
-ghost use Rattle.totals.specs.Within.{estimate_in, within_by, TotalWithin, ListWithin};
-ghost use Rattle.totals.specs.Reported.{report_seen, PenceAsks, TotalAsks, ListAsks};
+ghost use Rattle.totals.specs.Kept.{walked_of, Keeps, ListKept};
+ghost use Rattle.totals.specs.Reported.{PenceAsks, TotalAsks, TotalTells, ListAsks, ListTells};
 
-use crate::part::{Shown, seen_by};
 use crate::pence::Pence;
 use crate::report::{
-    Report, answer_of, decided_by, digits_for, early, ended, met_special, pence_of, products,
-    scanned, seen, strayed, top_for, wide_of,
+    Report, answer_of, decided_by, digits_for, early, ended, met_special, pence_of, scanned,
+    strayed, top_for, wide_of,
 };
 use crate::stray::{Found, walk_stray};
 use binary::extended::extended;
 use exact::{Unrounded, nothing};
 use format::Format;
 use format::env::Settings;
-use reduction::total::{Answer, Wide, last_edge, left};
+use reduction::total::{Answer, Wide, left};
 use reduction::walk::exact;
 use scan::walk::scan;
 use scan::{Early, Scan};
 use values::{HUNDREDFOLD, Source, Walk};
-use window::{ExactSum, Outcome};
 
-// What a walk gives: its report; for further roundings of a plain sum, what the scan saw and what the chain of passes leaves; and, of a chain that is not
-// finished within the passes that are allowed, what the last of them has seen.
+// What a walk gives: its report and, for further roundings of a plain sum, what the scan saw and what the chain of passes leaves.
 #[derive(Clone, Copy)]
 pub struct Walked {
     pub report: Report,
@@ -51,11 +44,7 @@ pub struct Walked {
     pub subnormal: bool,
     pub positive_zero: bool,
     pub negative_zero: bool,
-    pub shown: Shown,
 }
-
-// An allowance that no chain reaches.
-const EVERY: u64 = 18446744073709551615;
 
 fn keep(s: Scan, report: Report, rest: Unrounded) -> Walked
     ensures { result ≡ walked_of s report rest }
@@ -68,13 +57,12 @@ fn keep(s: Scan, report: Report, rest: Unrounded) -> Walked
         subnormal: s.subnormal,
         positive_zero: s.positive_zero,
         negative_zero: s.negative_zero,
-        shown: Shown::Whole,
     }
 }
 
 // A report alone.
 pub fn no_walk(report: Report) -> Walked
-    ensures { (result.report ≡ report) × (result.shown ≡ Whole) }
+    ensures { result.report ≡ report }
 {
     Walked {
         report,
@@ -84,7 +72,6 @@ pub fn no_walk(report: Report) -> Walked
         subnormal: false,
         positive_zero: false,
         negative_zero: false,
-        shown: Shown::Whole,
     }
 }
 
@@ -94,40 +81,20 @@ fn report_of(w: Walked) -> Report
     w.report
 }
 
-// Of a chain that is not finished within the passes that are allowed.
-fn unfinished(f: Format, u: u64, e: ExactSum) -> Walked
-    requires { RangeBounds (format_of f) × (e.chain.edge < 2 ^ 62) × (e.chain.near ≡ true → e.chain.place < 2 ^ 62) }
-    ensures { (result.report ≡ report_seen e.chain.passes (last_edge_of (format_of f) (products_in u) e.chain.edge)) × ShowsPart (part_by e.chain.near (format_of f) (products_in u) e.chain) result.shown }
-{
-    let h = e.chain;
-    let report = seen(h.passes, last_edge(f, products(u), h.edge));
-    Walked {
-        report,
-        rest: nothing(),
-        top: 0,
-        special: false,
-        subnormal: false,
-        positive_zero: false,
-        negative_zero: false,
-        shown: Shown::Part(seen_by(f, products(u), h)),
-    }
-}
-
 // Of the lists of a walk, which have no stray bit: a scan, and a chain of passes where that decides nothing.
 fn total(
     f: Format,
     c: Settings,
-    allowance: u64,
     k: Walk,
     left_words: &[u64],
     left_bytes: &[u8],
     right_words: &[u64],
     right_bytes: &[u8],
 ) -> Walked
-    requires known { Known (wide (format_of f)) (format_of f) × TensThere (wide (format_of f)) k.source left_bytes.now right_bytes.now × (0 < allowance) }
+    requires known { Known (wide (format_of f)) (format_of f) × TensThere (wide (format_of f)) k.source left_bytes.now right_bytes.now }
     requires within { Within k.source left_words.now left_bytes.now × Within k.source right_words.now right_bytes.now × Orderly k }
     requires total_asks { TotalAsks (is_hundred k) (wide (format_of f)) (is_dot k) (format_of f) (settings_of c) k.summand (read_as (wide (format_of f)) k.source left_words.now left_bytes.now) (read_as (wide (format_of f)) k.source right_words.now right_bytes.now) }
-    ensures { TotalWithin (is_hundred k) (wide (format_of f)) (is_dot k) (format_of f) (settings_of c) k.summand allowance (read_as (wide (format_of f)) k.source left_words.now left_bytes.now) (read_as (wide (format_of f)) k.source right_words.now right_bytes.now) result }
+    ensures { TotalTells (is_hundred k) (wide (format_of f)) (is_dot k) (format_of f) (settings_of c) k.summand (read_as (wide (format_of f)) k.source left_words.now left_bytes.now) (read_as (wide (format_of f)) k.source right_words.now right_bytes.now) result.report × (k.summand ≡ 0 → wide (format_of f) ≡ false → Keeps (format_of f) (settings_of c) (read_as (wide (format_of f)) k.source left_words.now left_bytes.now) result) }
 {
     let s = scan(
         f,
@@ -155,12 +122,7 @@ fn total(
                 right_bytes,
                 p,
                 top_for(k.summand, s.top),
-                allowance,
             );
-            let o = e.outcome;
-            if let Outcome::Unfinished = o {
-                return unfinished(f, k.summand, e);
-            }
             let rest = left(p, e);
             let report = ended(f, c, k.summand, s.subnormal, e, rest);
             keep(s, report, rest)
@@ -173,7 +135,6 @@ fn total(
 fn listed(
     f: Format,
     c: Settings,
-    allowance: u64,
     u: u64,
     layout: u64,
     start: usize,
@@ -184,10 +145,10 @@ fn listed(
     right_words: &[u64],
     right_bytes: &[u8],
 ) -> Walked
-    requires known { Known (wide (format_of f)) (format_of f) × TensThere (wide (format_of f)) (source_of layout start step count) left_bytes.now right_bytes.now × (0 < allowance) }
+    requires known { Known (wide (format_of f)) (format_of f) × TensThere (wide (format_of f)) (source_of layout start step count) left_bytes.now right_bytes.now }
     requires within { Within (source_of layout start step count) left_words.now left_bytes.now × Within (source_of layout start step count) right_words.now right_bytes.now × Orderly (walk_of u (source_of layout start step count)) }
     requires list_asks { ListAsks (eqb u 4) (wide (format_of f)) (eqb u 3) (format_of f) (settings_of c) u count (read_as (wide (format_of f)) (source_of layout start step count) left_words.now left_bytes.now) (read_as (wide (format_of f)) (source_of layout start step count) right_words.now right_bytes.now) }
-    ensures { ListWithin (eqb u 4) (wide (format_of f)) (eqb u 3) (format_of f) (settings_of c) u allowance (read_as (wide (format_of f)) (source_of layout start step count) left_words.now left_bytes.now) (read_as (wide (format_of f)) (source_of layout start step count) right_words.now right_bytes.now) result }
+    ensures { ListTells (eqb u 4) (wide (format_of f)) (eqb u 3) (format_of f) (settings_of c) u (read_as (wide (format_of f)) (source_of layout start step count) left_words.now left_bytes.now) (read_as (wide (format_of f)) (source_of layout start step count) right_words.now right_bytes.now) result.report × (u ≡ 0 → wide (format_of f) ≡ false → result.report.refusal ≡ 0 → Keeps (format_of f) (settings_of c) (read_as (wide (format_of f)) (source_of layout start step count) left_words.now left_bytes.now) result) }
 {
     let k = Walk {
         summand: u,
@@ -200,16 +161,7 @@ fn listed(
     };
     match walk_stray(f.width, k, left_words, left_bytes, right_words, right_bytes) {
         Found::At(i) => no_walk(strayed(i)),
-        Found::Nothing => total(
-            f,
-            c,
-            allowance,
-            k,
-            left_words,
-            left_bytes,
-            right_words,
-            right_bytes,
-        ),
+        Found::Nothing => total(f, c, k, left_words, left_bytes, right_words, right_bytes),
     }
 }
 
@@ -219,7 +171,7 @@ pub fn words(f: Format, c: Settings, u: u64, left: &[u64], right: &[u64]) -> Ans
     requires left_value { numbers_in (eqb u 3) (format_of f) (settings_of c) u (length left.now) ≡ 0 }
     ensures { answer_of result ≡ answer_to (eqb u 3) (format_of f) (settings_of c) u left.now right.now }
 {
-    answer_of(report_of(listed(f, c, EVERY, u, 0, 0, 1, left.len(), left, b"", right, b"")))
+    answer_of(report_of(listed(f, c, u, 0, 0, 1, left.len(), left, b"", right, b"")))
 }
 
 pub fn bytes(f: Format, c: Settings, u: u64, left: &[u8], right: &[u8]) -> Answer
@@ -228,20 +180,7 @@ pub fn bytes(f: Format, c: Settings, u: u64, left: &[u8], right: &[u8]) -> Answe
     ensures { answer_of result ≡ answer_to (eqb u 3) (format_of f) (settings_of c) u (values_in left.now) (values_in right.now) }
 {
     let none = [0u64; 1];
-    answer_of(report_of(listed(
-        f,
-        c,
-        EVERY,
-        u,
-        1,
-        0,
-        1,
-        left.len() / 8,
-        &none,
-        left,
-        &none,
-        right,
-    )))
+    answer_of(report_of(listed(f, c, u, 1, 0, 1, left.len() / 8, &none, left, &none, right)))
 }
 
 // A total of values of ten bytes, none of which is unsupported.
@@ -252,20 +191,7 @@ pub fn tens(c: Settings, u: u64, left: &[u8], right: &[u8]) -> Wide
 {
     let none = [0u64; 1];
     let f = extended();
-    wide_of(report_of(listed(
-        f,
-        c,
-        EVERY,
-        u,
-        1,
-        0,
-        1,
-        left.len() / 10,
-        &none,
-        left,
-        &none,
-        right,
-    )))
+    wide_of(report_of(listed(f, c, u, 1, 0, 1, left.len() / 10, &none, left, &none, right)))
 }
 
 // The pence of a list of words.
@@ -276,7 +202,6 @@ pub fn pence(f: Format, c: Settings, values: &[u64]) -> Pence
     pence_of(report_of(listed(
         f,
         c,
-        EVERY,
         HUNDREDFOLD,
         0,
         0,
@@ -302,9 +227,7 @@ pub fn column(
     requires count_value { numbers_in false (format_of f) (settings_of c) 0 count ≡ 0 }
     ensures { answer_of result ≡ totals.sum_answer (format_of f) (settings_of c) 0 (column_of count step cells.now first) }
 {
-    answer_of(report_of(listed(
-        f, c, EVERY, 0, 0, first, step, count, cells, b"", cells, b"",
-    )))
+    answer_of(report_of(listed(f, c, 0, 0, first, step, count, cells, b"", cells, b"")))
 }
 
 // The walk of a plain sum of values in bytes, for further roundings.
@@ -316,7 +239,6 @@ pub fn sum_walk(f: Format, c: Settings, values: &[u8]) -> Walked
     listed(
         f,
         c,
-        EVERY,
         0,
         1,
         0,
@@ -326,28 +248,5 @@ pub fn sum_walk(f: Format, c: Settings, values: &[u8]) -> Walked
         values,
         &none,
         values,
-    )
-}
-
-// A sum or a dot of values in bytes within an allowance of passes.
-pub fn within(f: Format, c: Settings, allowance: u64, u: u64, left: &[u8], right: &[u8]) -> Walked
-    requires right_len { (length right.now / 8 ≡ length left.now / 8) × (0 < allowance) }
-    requires left_value { numbers_in (eqb u 3) (format_of f) (settings_of c) u (length left.now / 8) ≡ 0 }
-    ensures { estimate_in result ≡ within_by (eqb u 3) (format_of f) (settings_of c) u allowance (values_in left.now) (values_in right.now) (answer_to (eqb u 3) (format_of f) (settings_of c) u (values_in left.now) (values_in right.now)) }
-{
-    let none = [0u64; 1];
-    listed(
-        f,
-        c,
-        allowance,
-        u,
-        1,
-        0,
-        1,
-        left.len() / 8,
-        &none,
-        left,
-        &none,
-        right,
     )
 }

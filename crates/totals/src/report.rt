@@ -8,7 +8,7 @@ ghost use Rattle.format.specs.Joined.{format_of, settings_of, unpacked_of};
 ghost use Rattle.values.specs.Walks.{is_hundred};
 ghost use Rattle.reduction.specs.Answered.{answer_of, products_in, first_in};
 ghost use Rattle.totals.specs.PenceRecord.{pence_record};
-ghost use Rattle.totals.specs.Reported.{answer_in, pence_in, report_seen, odd, PenceDecides, DecidesBy, special_pence, EarlyAsks, EarlyTells, EndAsks, EndTells};
+ghost use Rattle.totals.specs.Reported.{answer_in, pence_in, odd, PenceDecides, DecidesBy, special_pence, EarlyAsks, EarlyTells, EndAsks, EndTells};
 
 use crate::pence::{Pence, in_range, refused as refused_pence, whole_pence};
 use exact::Unrounded;
@@ -92,23 +92,6 @@ pub fn strayed(i: usize) -> Report
     }
 }
 
-// A chain that is not finished: its passes and last edge alone.
-pub fn seen(passes: u64, last_edge: i64) -> Report
-    ensures { result ≡ report_seen passes last_edge }
-{
-    Report {
-        result: 0,
-        head: 0,
-        flags: 0,
-        passes,
-        last_edge,
-        refusal: 0,
-        place: 0,
-        side: 0,
-        figure: 0,
-    }
-}
-
 // The total, and the pence.
 pub fn answer_of(r: Report) -> Answer
     ensures { answer_of result ≡ answer_in false r }
@@ -145,7 +128,7 @@ pub fn pence_of(r: Report) -> Pence
 }
 
 // Whether the terms are products.
-pub fn products(u: u64) -> bool
+fn products(u: u64) -> bool
     ensures { result ≡ products_in u }
 {
     u >= 2

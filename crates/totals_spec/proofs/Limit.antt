@@ -151,7 +151,7 @@ module _ (p w : ℕ) (hp : p ≤ 64) where
 
 -- ---- the chain ends in an outcome
 
-abbrev pub Ends : Step → Type 0
+abbrev Ends : Step → Type 0
 Ends (done o) = Finished o
 Ends (next b v) = Unit {0}
 
@@ -159,7 +159,7 @@ ends-cond : (b : Bool) (s t : Step) → Ends s → Ends t → Ends (cond b s t)
 ends-cond true s t h k = h
 ends-cond false s t h k = k
 
-pub decide-ends : (p : ℕ) (b : Boundary) (w lost : ℕ) (x : Signed) (n : ℕ) → Ends (decide p b w lost x n)
+decide-ends : (p : ℕ) (b : Boundary) (w lost : ℕ) (x : Signed) (n : ℕ) → Ends (decide p b w lost x n)
 unfolding decide
 decide-ends p no_boundary w zero x n = ends-cond (eqb x.mag 0) (done zero_sum) (done (exactly x.neg x.mag w)) tt tt
 decide-ends p no_boundary w (suc lost) x n =

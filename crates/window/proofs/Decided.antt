@@ -1,7 +1,6 @@
 -- The step that the definitions' chain takes, by the tests that the code makes; and the code's step follows it.
 use mathlib.Core.Path.{◌≡◌, refl, sym, ap, ap₂, ◌∙◌, subst}
 use mathlib.Core.Bool.{Bool, true, false, not, ◌&&◌, beq, cond}
-use mathlib.Core.List.{[], ◌∷◌}
 use Prim.Native.Nat.{ℕ, zero, suc, ◌+◌, ◌-◌, ◌*◌, ◌/◌, ◌%◌, ◌^◌, ◌≤◌, ◌<◌, max}
 use native.Mathlib.Nat.{add-zero, pow-succ'}
 use native.Mathlib.Numerals.{add-one}
@@ -10,27 +9,22 @@ use lib.Dec.{T, leb, ltb, eqb, ltb→lt, nltb→le, eqb→eq}
 use lib.Pow.{pow_mono}
 use lib.Ieee.{size}
 use lib.Ieee.Digits.{size-lt}
-use types.Run.{OneOf, miss}
-use denote.Enum.Declared.{tag_of}
 use borrow.Author.Tests.{eqb-true, eqb-false, eq-eqb, ne_eqb, lt-ltb, le-ltb, le-leb, lt-leb}
 use Rattle.limbs.specs.Value.{value}
 use Rattle.limbs.proofs.Length.{size-zero}
 use Rattle.totals_spec.specs.Basics as words
 use Rattle.totals_spec.specs.Chain as chain
-use Rattle.totals_spec.proofs.Limit as ends
 use Rattle.window.specs.Joined.{signed_of, bound_by, bound_of, outcome_by, sided_of, exact_of, near_by, counted}
-use Rattle.window.specs.Joined.{Ready, Ends, Sides, Goes, Bounds, Follows, total_of, width_of, Steps, Stops, StepsWithin}
+use Rattle.window.specs.Joined.{Ready, Ends, Sides, Goes, Bounds, Follows, total_of, Steps}
 use Rattle.window.specs.declared.Pass.{Pass}
 use Rattle.window.specs.declared.Signed.{Signed}
 use Rattle.window.specs.declared.Chain.{Chain}
 use Rattle.window.specs.declared.Step.{Step}
 use Rattle.window.specs.declared.Outcome.{Outcome}
 use Rattle.window.specs.declared.Outcome.TheVariants as out
-use Rattle.window.specs.declared.Verdict.{Verdict}
 use Rattle.window.specs.declared.Verdict.TheVariants.{Done, Next}
 use Rattle.window.specs.declared.Nearness.{Nearness}
 use Rattle.window.specs.declared.Nearness.TheVariants.{Low, High, Between}
-use Rattle.window.specs.contracts.Verdict as verdict
 
 -- ---- how many passes are counted
 
@@ -180,7 +174,7 @@ module _ (c : Chain) (r : Step) (d : chain.Step) (k : ℕ) where
       → Follows r.verdict d k c r.chain
   next-follows v e f = rw v (e, f)
 
-pub same-bound : (c d : Chain) → d.near ≡ c.near → d.negative ≡ c.negative → d.place ≡ c.place → d.whole ≡ c.whole → bound_of d ≡ bound_of c
+same-bound : (c d : Chain) → d.near ≡ c.near → d.negative ≡ c.negative → d.place ≡ c.place → d.whole ≡ c.whole → bound_of d ≡ bound_of c
 same-bound c d e f g h = ap (λ (b : Bool). bound_by b d) e ∙ go c.near
   where
     go : (b : Bool) → bound_by b d ≡ bound_by b c
@@ -292,32 +286,3 @@ steps-by p c q s n r e f h = subst (λ (x : words.Signed). By x (size x.mag)) e 
   where
     By : words.Signed → ℕ → Type 0
     By x k = Follows r.verdict (chain.decide p (bound_of c) c.edge q.lost x k) (counted c.edge k q.lost) c r.chain
-
--- ---- within an allowance a of passes
-
-module _ (p a : ℕ) (c : Chain) (q : Pass) (r : Step) (s : Steps p c q r) where
-  -- a chain that is done is finished
-  pub within-done : OneOf (0 ∷ []) (tag_of verdict.the_type r.verdict) → StepsWithin r.verdict p a c q r
-  within-done k = go r.verdict refl k
-    where
-      go : (v : Verdict) → r.verdict ≡ v → OneOf (0 ∷ []) (tag_of verdict.the_type v) → StepsWithin v p a c q r
-      go (Done out.Zero) e k = s
-      go (Done out.Exact) e k = s
-      go (Done out.Inexact) e k = s
-      go (Done out.Below) e k = s
-      go (Done out.On) e k = s
-      go (Done out.Above) e k = s
-      go (Done out.Unfinished) e k =
-          let f : Follows (Done out.Unfinished) (chain.decide p (bound_of c) c.edge q.lost (total_of q) (width_of q))
-          (counted c.edge (width_of q) q.lost) c r.chain = rw e at s in
-          absurd (subst ends.Ends f.0 (ends.decide-ends p (bound_of c) c.edge q.lost (total_of q) (width_of q)))
-      go Next e k = absurd (miss (0 ∷ []) 1 tt k)
-
-  pub within-next : r.verdict ≡ Next → r.chain.passes < a → StepsWithin r.verdict p a c q r
-  within-next e h = subst (λ (v : Verdict). StepsWithin v p a c q r) (sym e) (s, h)
-
-  pub within-stopped : r.verdict ≡ Next → a ≤ r.chain.passes → (x : Signed) → signed_of x ≡ total_of q → (t : Step) → Stops x a c t
-      → StepsWithin t.verdict p a c q t
-  within-stopped e h x f t g =
-      subst (λ (v : Verdict). StepsWithin v p a c q t) (sym g.verdict)
-      (record { step = r; steps = s; goes = e; past = h; sign = x; total = f; stops = g })

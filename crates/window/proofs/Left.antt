@@ -58,7 +58,7 @@ module _ (c : Chain) (v : Unrounded) where
   }
 
   -- an outcome that is neither `Above` nor `Below`, by the arms of their `if let`
-  pub narrowed-left : (o : Outcome) → OneOf (0 ∷ 1 ∷ 2 ∷ 3 ∷ 4 ∷ 6 ∷ []) (tag_of outcome.the_type o) → OneOf (0 ∷ 1 ∷ 2 ∷ 4 ∷ 5 ∷ 6 ∷ []) (tag_of outcome.the_type o)
+  pub narrowed-left : (o : Outcome) → OneOf (0 ∷ 1 ∷ 2 ∷ 3 ∷ 4 ∷ []) (tag_of outcome.the_type o) → OneOf (0 ∷ 1 ∷ 2 ∷ 4 ∷ 5 ∷ []) (tag_of outcome.the_type o)
       → 0 < c.place → Roundable o (value c.whole) → Narrows c.negative (is_inexact o) c.place c.whole v → Leaves (End o c) v
   unfolding settled
   narrowed-left out.Zero a b d h n = absurd h
@@ -71,10 +71,9 @@ module _ (c : Chain) (v : Unrounded) where
     low = n.high;
     long = λ p l k t. size_reaches (significand_of v) p (omega (arith, n.long t, l, size_above (value c.whole) (p + 69) k.0));
   }
-  narrowed-left out.Below a b d h n = absurd (miss (0 ∷ 1 ∷ 2 ∷ 4 ∷ 5 ∷ 6 ∷ []) 3 tt b)
+  narrowed-left out.Below a b d h n = absurd (miss (0 ∷ 1 ∷ 2 ∷ 4 ∷ 5 ∷ []) 3 tt b)
   narrowed-left out.On a b d h n = as_is out.On refl h.0 n
-  narrowed-left out.Unfinished a b d h n = absurd h
-  narrowed-left out.Above a b d h n = absurd (miss (0 ∷ 1 ∷ 2 ∷ 3 ∷ 4 ∷ 6 ∷ []) 5 tt a)
+  narrowed-left out.Above a b d h n = absurd (miss (0 ∷ 1 ∷ 2 ∷ 3 ∷ 4 ∷ []) 5 tt a)
 
 -- four times a boundary, or one less, is a number of two words
 pub above-small : (o : Outcome) (m x : ℕ) → o ≡ out.Above → Roundable o m → x ≡ m * 2 ^ 2 % 2 ^ 768 → x < 2 ^ 128
@@ -136,13 +135,8 @@ module _ (c : Chain) (v : Unrounded) (x : ℕ) (deep : 3 ≤ c.place) (a : Quart
 -- ---- from the end of a chain to its rounding
 
 -- an outcome that is not `Zero`, by the arm of a `let Outcome::Zero = o else`
-pub not-zero : (o : Outcome) → OneOf (1 ∷ 2 ∷ 3 ∷ 4 ∷ 5 ∷ 6 ∷ []) (tag_of outcome.the_type o) → o ≡ out.Zero → ⊥
-not-zero o h e = miss (1 ∷ 2 ∷ 3 ∷ 4 ∷ 5 ∷ 6 ∷ []) 0 tt (subst (λ (z : Outcome). OneOf (1 ∷ 2 ∷ 3 ∷ 4 ∷ 5 ∷ 6 ∷ []) (tag_of outcome.the_type z)) e h)
-
--- and one that is not `Unfinished`
-pub not-unfinished : (o : Outcome) → OneOf (0 ∷ 1 ∷ 2 ∷ 3 ∷ 4 ∷ 5 ∷ []) (tag_of outcome.the_type o) → o ≡ out.Unfinished → ⊥
-not-unfinished o h e =
-    miss (0 ∷ 1 ∷ 2 ∷ 3 ∷ 4 ∷ 5 ∷ []) 6 tt (subst (λ (z : Outcome). OneOf (0 ∷ 1 ∷ 2 ∷ 3 ∷ 4 ∷ 5 ∷ []) (tag_of outcome.the_type z)) e h)
+pub not-zero : (o : Outcome) → OneOf (1 ∷ 2 ∷ 3 ∷ 4 ∷ 5 ∷ []) (tag_of outcome.the_type o) → o ≡ out.Zero → ⊥
+not-zero o h e = miss (1 ∷ 2 ∷ 3 ∷ 4 ∷ 5 ∷ []) 0 tt (subst (λ (z : Outcome). OneOf (1 ∷ 2 ∷ 3 ∷ 4 ∷ 5 ∷ []) (tag_of outcome.the_type z)) e h)
 
 deep_of : (o : Outcome) (p m e : ℕ) → (o ≡ out.Zero → ⊥) → EndsWith o p m e → Deep e
 deep_of out.Zero p m e n h = absurd (n refl)
@@ -151,7 +145,6 @@ deep_of out.Inexact p m e n h = h.1
 deep_of out.Below p m e n h = h.1
 deep_of out.On p m e n h = h.1
 deep_of out.Above p m e n h = h.1
-deep_of out.Unfinished p m e n h = absurd h
 
 roundable-of : (o : Outcome) (p m e : ℕ) → p ≤ 64 → (o ≡ out.Zero → ⊥) → EndsWith o p m e → Roundable o m
 roundable-of o p m e l n h = go o n h
@@ -166,7 +159,6 @@ roundable-of o p m e l n h = go o n h
     go out.Below n h = bounded h.0
     go out.On n h = bounded h.0
     go out.Above n h = bounded h.0
-    go out.Unfinished n h = absurd h
 
 -- what `near_boundary` requires
 pub ended-roundable : (p : ℕ) (e : ExactSum) → p ≤ 64 → (e.outcome ≡ out.Zero → ⊥) → Ended p e

@@ -3,7 +3,7 @@
 use mathlib.Core.Path.{◌≡◌, refl, sym, ap, ap₂, ◌∙◌, subst}
 use mathlib.Core.Bool.{Bool, true, false, cond}
 use mathlib.Core.List.{List}
-use Prim.Native.Nat.{ℕ, suc, ◌+◌, ◌-◌, ◌*◌, ◌/◌, ◌≤◌, ◌<◌}
+use Prim.Native.Nat.{ℕ, ◌+◌, ◌-◌, ◌*◌, ◌/◌, ◌≤◌, ◌<◌}
 use native.Mathlib.Nat.{add-zero}
 use native.Mathlib.Numerals.{add-one}
 use native.Mathlib.Omega.{arith}
@@ -19,16 +19,16 @@ use Rattle.totals_spec.proofs.Margin.{terms-max}
 use Rattle.totals_spec.proofs.Invariant.{Inv}
 use Rattle.totals_spec.proofs.Limit.{GoesOn, fair-look, pass-goes-on, lost-deep}
 use Rattle.totals_spec.proofs.Vanish.{vanishes}
-use Rattle.further_spec.proofs.Reached.{Reached, at-start, at_next, at_done, at_onward}
+use Rattle.further_spec.proofs.Reached.{Reached, at-start, at_next, at_done}
 use Rattle.totals_spec.proofs.Kept.{Kept, KeptStep, EndsAs, kept-start, kept-pass}
-use Rattle.further_spec.proofs.Skip.{Empty, Skipped, pass-empty, skip, empty-sum, inside}
+use Rattle.further_spec.proofs.Skip.{Empty, Skipped, pass-empty, skip}
 use Rattle.window.specs.declared.Pass.{Pass}
 use Rattle.window.specs.declared.Chain.{Chain}
 use Rattle.window.specs.declared.Step.{Step}
 use Rattle.window.specs.declared.Outcome.{Outcome}
 use Rattle.window.specs.declared.Outcome.TheVariants as out
 use Rattle.window.specs.declared.Verdict.TheVariants.{Done, Next}
-use Rattle.window.specs.Joined.{Passed, bound_of, outcome_by, run_of, counted, Ready, Follows, total_of, width_of, Steps, Deep, EndsWith, Ended, StoppedAt}
+use Rattle.window.specs.Joined.{Passed, bound_of, outcome_by, run_of, counted, Ready, Follows, total_of, width_of, Steps, Deep, EndsWith, Ended}
 use Rattle.window.proofs.Decided.{no_bits}
 
 -- S without the boundary is S
@@ -79,7 +79,6 @@ ends_with out.Exact p top c s h = (h.0, deep-place top c.place 0 s h.1 (omega (a
 ends_with out.Inexact p top c s h = (h.0, deep-place top c.place 0 s h.1 (omega (arith, h.2)) (omega arith))
 ends_with out.Below p top c s h = (record { many = h.0; few = h.1 }, deep-place top c.place 768 s h.2 h.3 (omega arith))
 ends_with out.On p top c s h = (record { many = h.0; few = h.1 }, deep-place top c.place 768 s h.2 h.3 (omega arith))
-ends_with out.Unfinished p top c s h = absurd h
 ends_with out.Above p top c s h = (record { many = h.0; few = h.1 }, deep-place top c.place 768 s h.2 h.3 (omega arith))
 
 module _ (p : ℕ) (ts : List terms.Term) (hp : p ≤ 64) (good : AllGood ts) (len : length ts ≤ terms-max) (small : terms.top_of ts < 2147483648) where
@@ -181,49 +180,3 @@ module _ (p : ℕ) (ts : List terms.Term) (hp : p ≤ 64) (good : AllGood ts) (l
       where
         f : Follows (Done o) (says p c q) (counted c.edge (width_of q) q.lost) c r.chain
         f = rw v at s
-
-    -- a step that goes on past the allowance: pass number a is the pass at hand, or an empty one that was counted with it, 766 lower each
-    module _ (r : Step) (s : Steps p c q r) (v : r.verdict ≡ Next) (a : ℕ) (l : c.passes < a) (m : a ≤ r.chain.passes) where
-      abbrev down : ℕ
-      down = 766 * (a - c.passes - 1)
-
-      -- the pass at hand
-      at-hand : (b : chain.Boundary) (w : ℕ) → says p c q ≡ chain.next b w → r.chain.passes ≡ c.passes + 1
-          → (down ≤ c.edge) × StoppedAt p ts a (bound_of c) (c.edge - down) (total_of q)
-      at-hand b w e k =
-          let n : suc c.passes ≡ a = omega (arith, l, m, k) in
-          let d : c.edge ≡ c.edge - down = omega (arith, n) in
-          let o = at_onward p ts hp good len c.passes (bound_of c) c.edge b w h.reached (seen ∙ e) in (
-            omega (arith, n),
-            subst (λ (y : ℕ). StoppedAt p ts a (bound_of c) y (total_of q)) d
-                (subst (λ (x : ℕ). StoppedAt p ts x (bound_of c) c.edge (total_of q)) n
-                (record { stands = o.stands; longer = o.longer; sum = total-seen p ts (bound_of c) c.edge q h.reached.inv g })),
-          )
-
-      -- an empty one
-      hollow : width_of q ≡ 0 → q.lost + 63 < c.edge → 0 < q.lost → r.chain.passes ≡ c.passes + (c.edge - q.lost + 702) / 766
-          → (down ≤ c.edge) × StoppedAt p ts a (bound_of c) (c.edge - down) (total_of q)
-      hollow z far some k =
-          let n : suc (c.passes + (a - c.passes - 1)) ≡ a = omega (arith, l) in
-          let room : down + q.lost + 63 < c.edge = omega (arith, l, m, k, far) in
-          let e = inside p ts hp good len (a - c.passes - 1) c.passes (bound_of c) c.edge q.lost h.reached (empty z) some room in
-          let none : total_of q ≡ record { neg = false; mag = 0 } =
-          sym (total-seen p ts (bound_of c) c.edge q h.reached.inv g)
-          ∙ empty-sum p ts hp good len (bound_of c) c.edge q.lost h.reached.inv (empty z) in (
-            omega (arith, room),
-            subst (λ (x : ℕ). StoppedAt p ts x (bound_of c) (c.edge - down) (total_of q)) n
-                (record { stands = e.onward.stands; longer = e.onward.longer; sum = e.none ∙ sym none }),
-          )
-
-      pub walked-stopped : (down ≤ c.edge) × StoppedAt p ts a (bound_of c) (c.edge - down) (total_of q)
-      walked-stopped = go (eqb (width_of q) 0) (eqb→eq (width_of q) 0) (ltb (q.lost + 63) c.edge) (ltb→lt (q.lost + 63) c.edge) follows
-        where
-          follows : Follows Next (says p c q) (counted c.edge (width_of q) q.lost) c r.chain
-          follows = rw v at s
-
-          go : (x : Bool) → (T x → width_of q ≡ 0) → (b : Bool) → (T b → q.lost + 63 < c.edge)
-              → Follows Next (says p c q) (cond x (cond b ((c.edge - q.lost + 702) / 766) 1) 1) c r.chain
-              → (down ≤ c.edge) × StoppedAt p ts a (bound_of c) (c.edge - down) (total_of q)
-          go true z true y f = hollow (z tt) (y tt) (subst (λ (n : ℕ). 0 < n) (sym g.lost) (going _ _ f.0).0) f.1
-          go true z false y f = at-hand _ _ f.0 f.1
-          go false z b y f = at-hand _ _ f.0 f.1

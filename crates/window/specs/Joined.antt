@@ -1,5 +1,5 @@
 -- The code's passes and chains as those of totals_spec, and what the contracts of this crate cite.
-use Rattle.std.specs.Prelude.{◌≡◌, Bool, true, false, cond, List, ℕ, suc, ◌+◌, ◌-◌, ◌*◌, ◌/◌, ◌^◌, ◌≤◌, ◌<◌, ltb, eqb, replicate, get_or}
+use Rattle.std.specs.Prelude.{◌≡◌, Bool, true, false, cond, List, ℕ, suc, ◌+◌, ◌-◌, ◌*◌, ◌/◌, ◌^◌, ◌≤◌, ◌<◌, ltb, eqb, replicate}
 use Rattle.std.specs.Bool.{beq}
 use Rattle.std.specs.Float.Ieee.{size}
 use Rattle.limbs.specs.Value.{value, term}
@@ -11,7 +11,6 @@ use Rattle.exact.specs.declared.Unrounded.{Unrounded}
 use Rattle.exact.specs.Joined.{significand_of, Stands}
 use Rattle.arithmetic.specs.declared.Term.{Term}
 use Rattle.arithmetic.specs.Joined.{magnitude}
-use Rattle.further_spec.specs.Estimate.{pass_of}
 use Rattle.window.specs.declared.Part.{Part}
 use Rattle.window.specs.declared.Pass.{Pass}
 use Rattle.window.specs.declared.Signed.{Signed}
@@ -41,7 +40,7 @@ pub record Passed (ts : List terms.Term) (w : ℕ) (q : Pass) : Type 0 where
 
 -- the chain before its first pass
 abbrev pub started : ℕ → Chain
-started top = record { near = false; negative = false; minus = false; bound = 0; passes = 0; edge = top - 702; place = 0; whole = replicate 12 0 }
+started top = record { near = false; negative = false; passes = 0; edge = top - 702; place = 0; whole = replicate 12 0 }
 
 abbrev pub signed_of : Signed → words.Signed
 signed_of s = record { neg = s.negative; mag = value s.magnitude }
@@ -60,7 +59,6 @@ outcome_by out.Inexact c = chain.nearly c.negative (value c.whole) c.place
 outcome_by out.Below c = chain.beside chain.below c.negative (value c.whole) c.place
 outcome_by out.On c = chain.beside chain.on c.negative (value c.whole) c.place
 outcome_by out.Above c = chain.beside chain.above c.negative (value c.whole) c.place
-outcome_by out.Unfinished c = chain.unfinished
 
 abbrev pub outcome_of : ExactSum → chain.Outcome
 outcome_of e = outcome_by e.outcome e.chain
@@ -169,7 +167,6 @@ EndsWith out.Inexact p m e = (2 ^ (p + 69) ≤ m) × Deep e
 EndsWith out.Below p m e = Bordered p m × Deep e
 EndsWith out.On p m e = Bordered p m × Deep e
 EndsWith out.Above p m e = Bordered p m × Deep e
-EndsWith out.Unfinished p m e = ⊥
 
 -- what a rounding may count on (`walked-done` of proofs/Walked says that every chain gives it)
 pub record Ended (p : ℕ) (e : ExactSum) : Type 0 where
@@ -184,7 +181,6 @@ is_inexact out.Inexact = true
 is_inexact out.Below = false
 is_inexact out.On = false
 is_inexact out.Above = false
-is_inexact out.Unfinished = false
 
 -- an outcome that is rounded: not zero, and a boundary that leaves room for two bits more
 abbrev pub Roundable : Outcome → ℕ → Type 0
@@ -194,7 +190,6 @@ Roundable out.Inexact m = 0 < m
 Roundable out.Below m = (0 < m) × (m ≤ 2 ^ 65)
 Roundable out.On m = (0 < m) × (m ≤ 2 ^ 65)
 Roundable out.Above m = (0 < m) × (m ≤ 2 ^ 65)
-Roundable out.Unfinished m = ⊥
 
 -- a little more than m quarters of a unit of 2^e
 pub record Quarters (negative : Bool) (e m : ℕ) (v : Unrounded) : Type 0 where
@@ -224,47 +219,3 @@ pub record Remains (p : ℕ) (x : words.Signed) (v : Unrounded) : Type 0 where
 pub record LeftOf (p : ℕ) (x : words.Signed) (v : Unrounded) : Type 0 where
   pub none : significand_of v ≡ 0 → x ≡ record { neg = false; mag = 0 }
   pub some : 0 < significand_of v → Remains p x v
-
--- ---- an allowance of passes (document 02, A.13)
-
--- a chain that is stopped at the pass number a, with S of the pass at hand: its place and S are as those of a chain that is done, and the boundary
--- stands beside them
-pub record Stops (s : Signed) (a : ℕ) (c : Chain) (r : Step) : Type 0 where
-  pub verdict : r.verdict ≡ Done out.Unfinished
-  pub near : r.chain.near ≡ c.near
-  pub minus : r.chain.minus ≡ c.negative
-  pub bound : r.chain.bound ≡ get_or c.whole 0 0
-  pub place : r.chain.place ≡ c.place
-  pub passes : r.chain.passes ≡ a
-  pub edge : r.chain.edge ≡ c.edge - 766 * (a - c.passes - 1)
-  pub sum : signed_of (record { negative = r.chain.negative; magnitude = r.chain.whole }) ≡ signed_of s
-
--- a step that is stopped goes on, past the allowance
-pub record StoppedStep (p a : ℕ) (c : Chain) (q : Pass) (r : Step) : Type 0 where
-  pub step : Step
-  pub steps : Steps p c q step
-  pub goes : step.verdict ≡ Next
-  pub past : a ≤ step.chain.passes
-  pub sign : Signed
-  pub total : signed_of sign ≡ total_of q
-  pub stops : Stops sign a c r
-
-abbrev pub StepsWithin : Verdict → ℕ → ℕ → Chain → Pass → Step → Type 0
-StepsWithin (Done out.Unfinished) p a c q r = StoppedStep p a c q r
-StepsWithin (Done out.Zero) p a c q r = Steps p c q r
-StepsWithin (Done out.Exact) p a c q r = Steps p c q r
-StepsWithin (Done out.Inexact) p a c q r = Steps p c q r
-StepsWithin (Done out.Below) p a c q r = Steps p c q r
-StepsWithin (Done out.On) p a c q r = Steps p c q r
-StepsWithin (Done out.Above) p a c q r = Steps p c q r
-StepsWithin Next p a c q r = Steps p c q r × (r.chain.passes < a)
-
--- there is room for the passes that a step counts, up to the allowance
-abbrev pub Room : ℕ → ℕ → Chain → Pass → Type 0
-Room p a c q = (r : Step) → Steps p c q r → r.verdict ≡ Next → a ≤ r.chain.passes → 766 * (a - c.passes - 1) ≤ c.edge
-
--- where an allowance of a passes ends: pass number a of the definitions' chain, which is longer, with its boundary, its edge and its S
-pub record StoppedAt (p : ℕ) (ts : List terms.Term) (a : ℕ) (b : chain.Boundary) (w : ℕ) (s : words.Signed) : Type 0 where
-  pub stands : pass_of p ts a ≡ record { bound = b; edge = w }
-  pub longer : a < (chain.chain p ts).passes
-  pub sum : chain.sum_of b w (chain.look_at ts w) ≡ s

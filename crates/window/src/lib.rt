@@ -6,7 +6,7 @@ ghost use Rattle.limbs.specs.Value.{value, bit_length};
 ghost use Rattle.totals_spec.specs.Basics.{flag};
 ghost use Rattle.totals_spec.specs.Chain as spec;
 ghost use Rattle.arithmetic.specs.Joined.{magnitude};
-ghost use Rattle.window.specs.Joined.{PartAt, started, bound_of, sided_of, exact_of, signed_of, near_by, counted, Ready, Ends, Sides, Goes, Bounds, Follows, Deep, is_inexact, Roundable, Quarters, Leaves, Stops, StepsWithin, Room};
+ghost use Rattle.window.specs.Joined.{PartAt, started, bound_of, sided_of, exact_of, signed_of, near_by, counted, Ready, Ends, Sides, Goes, Bounds, Follows, Steps, Deep, is_inexact, Roundable, Quarters, Leaves};
 
 use arithmetic::Term;
 use exact::{Unrounded, narrowed};
@@ -102,22 +102,18 @@ fn width(magnitude: [u64; 12]) -> u64
 
 // A chain of passes from inside: how many were counted, the next edge (the Rust's `low`), and, where `near` says that one is set, the boundary
 // beside which the sum lies (the Rust's `offset`): `whole` units of 2^`place`, with the sign. Once the chain is done, the edge is the last one,
-// and `whole` at `place` with the sign is the sum S, or the boundary. A chain that is not finished has both: S in `whole`, with the sign, and of
-// the boundary its sign in `minus` and its lowest word in `bound`.
+// and `whole` at `place` with the sign is the sum S, or the boundary.
 #[derive(Clone, Copy)]
 pub struct Chain {
     pub near: bool,
     pub negative: bool,
-    pub minus: bool,
-    pub bound: u64,
     pub passes: u64,
     pub edge: u64,
     pub place: u64,
     pub whole: [u64; 12],
 }
 
-// What the sum is: zero, S units, between S and S + 1 units, or below, on or above the boundary (in magnitude); or not known within the passes that are
-// allowed.
+// What the sum is: zero, S units, between S and S + 1 units, or below, on or above the boundary (in magnitude).
 #[derive(Clone, Copy)]
 pub enum Outcome {
     Zero,
@@ -126,7 +122,6 @@ pub enum Outcome {
     Below,
     On,
     Above,
-    Unfinished,
 }
 
 // Whether a chain is done, and how its sum came out, or goes on.
@@ -152,8 +147,6 @@ pub fn start(top: u64) -> Chain
     Chain {
         near: false,
         negative: false,
-        minus: false,
-        bound: 0,
         passes: 0,
         edge: top - 702,
         place: 0,
@@ -185,8 +178,6 @@ fn done(c: Chain, o: Outcome, s: Signed) -> Step
         chain: Chain {
             near: c.near,
             negative: s.negative,
-            minus: false,
-            bound: 0,
             passes: c.passes + 1,
             edge: c.edge,
             place: c.edge,
@@ -288,8 +279,6 @@ fn set_boundary(c: Chain, s: Signed, rest: u64, up: bool) -> Step
         chain: Chain {
             near: true,
             negative: s.negative,
-            minus: false,
-            bound: 0,
             passes: c.passes + 1,
             edge: c.edge - 701,
             place: c.edge + rest,
@@ -345,53 +334,20 @@ fn step_with_boundary(c: Chain, s: Signed, n: u64, lost: u64) -> Step
     done_beside(c, s, n)
 }
 
-// The chain at the last pass allowed, with S of that pass, and the boundary that it was compared against. A pass that was counted and not run has the S of
-// the one that was, 0, and an edge 766 lower for each pass between them.
-fn stop(c: Chain, s: Signed, allowance: u64) -> Step
-    requires { (c.passes < allowance) × (766 * (allowance - c.passes - 1) ≤ c.edge) }
-    ensures { Stops s allowance c result }
-{
-    let m = s.magnitude;
-    let b = c.whole;
-    Step {
-        verdict: Verdict::Done(Outcome::Unfinished),
-        chain: Chain {
-            near: c.near,
-            negative: s.negative,
-            minus: c.negative,
-            bound: b[0],
-            passes: allowance,
-            edge: c.edge - 766 * (allowance - c.passes - 1),
-            place: c.place,
-            whole: m,
-        },
-    }
-}
-
-// What follows from a pass, within an allowance of passes.
-pub fn advance(p: u64, allowance: u64, c: Chain, seen: Pass) -> Step
-    requires p_bound { (p ≤ 64) × Ready c seen.lost × (c.passes < allowance) }
-    requires room { Room p allowance c seen }
-    ensures { StepsWithin result.verdict p allowance c seen result }
+// What follows from a pass at the chain's edge.
+pub fn advance(p: u64, c: Chain, seen: Pass) -> Step
+    requires { (p ≤ 64) × Ready c seen.lost }
+    ensures { Steps p c seen result }
 {
     let t = seen.total;
     let s = signed_of(t);
     let m = s.magnitude;
     let n = width(m);
-    let r = if c.near {
+    if c.near {
         step_with_boundary(c, s, n, seen.lost)
     } else {
         step_without_boundary(p, c, s, n, seen.lost)
-    };
-    let v = r.verdict;
-    let Verdict::Next = v else {
-        return r;
-    };
-    let h = r.chain;
-    if h.passes < allowance {
-        return r;
     }
-    stop(c, s, allowance)
 }
 
 // The end of a chain.
@@ -412,7 +368,6 @@ fn is_inexact(o: Outcome) -> bool
         Outcome::Below => false,
         Outcome::On => false,
         Outcome::Above => false,
-        Outcome::Unfinished => false,
     }
 }
 

@@ -1,5 +1,5 @@
 -- `exact::Unrounded::is_nothing` meets its contract.
-use mathlib.Core.Path.{◌≡◌, sym, ap, ◌∙◌}
+use mathlib.Core.Path.{sym, ap, ◌∙◌}
 use Prim.Native.Nat.{ℕ, ◌+◌, ◌*◌, ◌^◌}
 use native.Mathlib.Nat.{add-zero}
 use native.Mathlib.Omega.{arith}
@@ -18,8 +18,7 @@ returns c =
 returns-2 : tie.Need-returns
 returns-2 c =
     let v = c.args.self in
-    same-zero v.high (2 ^ 64) (pow_pos 64)
-    ∙ ap (λ (n : ℕ). eqb n 0) (sym (add-zero (v.high * 2 ^ 64)) ∙ ap (◌+◌ (v.high * 2 ^ 64)) (sym c.if-self-ne0.false))
+    same-zero v.high (2 ^ 64) (pow_pos 64) ∙ ap (λ (n : ℕ). eqb n 0) (sym (add-zero (v.high * 2 ^ 64)) ∙ ap (◌+◌ (v.high * 2 ^ 64)) (sym c.if-self-ne0.false))
 
 pub is_nothing_spec : {M : Type 1} → statement M
 is_nothing_spec = tie.close (tie.spec returns returns-2)

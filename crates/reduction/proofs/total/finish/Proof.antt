@@ -1,11 +1,13 @@
 -- `reduction::total::finish` meets its contract.
-use mathlib.Core.Path.{◌≡◌, ap, ◌∙◌}
-use Prim.Native.Nat.{◌+◌}
+use mathlib.Core.Path.{◌≡◌, sym, ap, ap₂, ◌∙◌, subst}
+use Prim.Native.Nat.{ℕ, ◌+◌, ◌^◌, ◌<◌}
 use native.Mathlib.Omega.{arith}
+use lib.IntN.{ℤ, sub_ℕ}
+use lib.Signed.{mag}
 use mir.Syntax.{w64}
-use mir.Val.{to_z, of_z}
+use mir.Val.{SFits, to_z, of_z}
 use mir.ValLaws.{to_z-of_z}
-use Rattle.reduction.proofs.Records.{leans, moved}
+use Rattle.reduction.proofs.Records.{leans, moved, position-fits}
 use Rattle.totals_spec.specs.Basics.{Signed, flag}
 use Rattle.totals_spec.specs.Bounds.{RangeBounds}
 use Rattle.totals_spec.specs.Encode.{encode}
@@ -68,26 +70,53 @@ round-sum-requires c κs =
 encoded-requires : tie.Need-encoded-b-requires
 encoded-requires c κs = ((entry c).requires.0, (rounded c).encodes)
 
--- once the last edge is known
-abbrev behind : tie.After-last_edge → tie.After-encoded-b
-behind t = t.before.before
+-- once the edge is known, in the chain's units and above the bit worth 1
+abbrev behind : tie.After-fall → tie.After-round_sum-r
+behind t = let h = t.before in h.before.before
 
-last-edge-requires : tie.Need-last_edge-requires
-last-edge-requires c κs = let b = c.before in let s = entry b.before in (range s, s.requires.2.edge)
+abbrev fallen : tie.After-origin → tie.After-fall
+fallen t = t.before.before
+
+low : (t : tie.After-fall) → (entry (behind t)).args.e.chain.edge + t.fall.result < 2 ^ 63
+low t = omega (arith, (entry (behind t)).requires.2.edge, t.fall.ensures.1)
+
+far : (t : tie.After-origin) → t.origin.result < 2 ^ 63
+far t = omega (arith, t.origin.ensures.1)
+
+fall-requires : tie.Need-fall-requires
+fall-requires c κs = range (entry c.before.before)
+
+add-position-of : tie.Need-overflow_add-h
+add-position-of c = omega (arith, low c.before)
+
+origin-requires : tie.Need-origin-requires
+origin-requires c κs = range (entry (behind c.before))
+
+position-of-requires : tie.Need-position_of-last_edge-requires
+position-of-requires c κs = (low (fallen c), far c)
 
 recorded-requires : tie.Need-recorded-answer-requires
-recorded-requires c κs = (rounded (behind c).before).flags
+recorded-requires c κs = (rounded (behind (fallen c.before))).flags
 
-edge-is : (t : tie.After-last_edge) → let s = entry (behind t).before in
-    to_z w64 (of_z w64 t.last_edge.result) ≡ last_edge_of (form s) s.args.products s.args.e.chain.edge
-edge-is t = to_z-of_z w64 t.last_edge.result (record { sfits = t.last_edge.ensures.1 }) ∙ t.last_edge.ensures.0
+edge-is : (t : tie.After-position_of-last_edge) → let s = entry (behind (fallen t.before)) in
+    to_z w64 (of_z w64 t.position_of-last_edge.result) ≡ last_edge_of (form s) s.args.products s.args.e.chain.edge
+edge-is t =
+    let o = t.before in
+    let d = fallen o in
+    let at = (entry (behind d)).args.e.chain.edge in
+    let p = t.position_of-last_edge in
+    let fits : SFits w64 p.result = record {
+      sfits = subst (λ (z : ℤ). mag z < 2 ^ 63) (sym p.ensures) (position-fits (at + d.fall.result) o.origin.result (low d) (far o));
+    } in
+    to_z-of_z w64 p.result fits ∙ p.ensures ∙ ap₂ (λ (m n : ℕ). sub_ℕ (at + m) n) d.fall.ensures.0 o.origin.ensures.0
 
 returns : tie.Need-returns
 unfolding reported
 returns c =
     let q = c.recorded-answer.ensures in
-    let b = behind c.before in
-    let t = b.before in
+    let d = fallen c.before.before in
+    let t = behind d in
+    let b = d.before.before in
     let s = entry t in
     let r = rounded t in
     let w = wide (form s) in
@@ -111,6 +140,9 @@ finish_spec =
     rise-requires
     round-sum-requires
     encoded-requires
-    last-edge-requires
+    fall-requires
+    add-position-of
+    origin-requires
+    position-of-requires
     recorded-requires
     returns)

@@ -1,7 +1,6 @@
 -- `reduction::total::round_sum` meets its contract.
-use mathlib.Core.Path.{◌≡◌, sym, ap, ◌∙◌}
-use mathlib.Core.Bool.{true, false}
-use Prim.Native.Nat.{ℕ, ◌^◌, ◌<◌}
+use mathlib.Core.Path.{sym, ◌∙◌}
+use Prim.Native.Nat.{◌^◌, ◌<◌}
 use native.Mathlib.Nat.{zero-mul, pos_of_ne-zero}
 use native.Mathlib.Omega.{arith}
 use borrow.Author.Rules.{rules}
@@ -13,7 +12,6 @@ use Rattle.totals_spec.specs.Decode.{zero_of}
 use Rattle.totals_spec.specs.Totals.{towards_negative, sum_rounded}
 use Rattle.format.specs.Joined.{format_of, settings_of}
 use Rattle.exact.specs.Joined.{significand_of}
-use Rattle.window.specs.Joined.{Remains}
 use Rattle.window.proofs.Left.{left-sum, left-rounds}
 use Rattle.reduction.proofs.total.round_sum.Statement.{statement}
 use Rattle.reduction.proofs.total.round_sum.Tie as tie
@@ -49,8 +47,7 @@ round-requires c κs =
     let e = c.before in
     let s = entry e in
     let h = s.requires in
-    left-rounds h.decided h.sum s.args.v (some e) (h.left.some (some e)) (form s) (env s) _ _ h.format
-    h.settings h.enough h.grid h.few
+    left-rounds h.decided h.sum s.args.v (some e) (h.left.some (some e)) (form s) (env s) _ _ h.format h.settings h.enough h.grid h.few
 
 returns-2 : tie.Need-returns
 returns-2 c p x l =

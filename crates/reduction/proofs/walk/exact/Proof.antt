@@ -1,7 +1,6 @@
 -- `reduction::walk::exact` meets its contract. The invariant: the chain so far is that of the definitions.
 use mathlib.Core.Path.{sym, ◌∙◌}
 use mathlib.Core.List.{List}
-use Prim.Native.Nat.{◌<◌}
 use borrow.Author.Rules.{rules}
 use Rattle.totals_spec.specs.Settings.{summand_of}
 use Rattle.totals_spec.specs.Terms as terms
@@ -9,17 +8,16 @@ use Rattle.format.specs.Joined.{format_of, settings_of}
 use Rattle.values.specs.Walks.{wide, read_as, is_dot, is_hundred, added_in}
 use Rattle.values.proofs.Walks.{read_length}
 use Rattle.window.proofs.Walked.{Walked}
-use Rattle.reduction.proofs.Loop.{Base, loop-start, loop-holds-at, loop-ready, loop-room, loop-next, loop-done}
+use Rattle.reduction.proofs.Loop.{Base, loop-start, loop-holds-at, loop-ready, loop-next, loop-done}
 use Rattle.reduction.proofs.Items.{added-base}
 use Rattle.reduction.proofs.walk.exact.Statement.{statement}
 use Rattle.reduction.proofs.walk.exact.Tie as tie
 
 abbrev invariant-loop : tie.invariant-loop-o
-invariant-loop f c k lw lb rw' rb p top allowance at₀ at =
-    Walked p (terms.terms (added_in (format_of f) (settings_of c) k lw lb rw' rb)) at × (at.passes < allowance)
+invariant-loop f c k lw lb rw' rb p top at₀ at = Walked p (terms.terms (added_in (format_of f) (settings_of c) k lw lb rw' rb)) at
 
 abbrev decreases-loop : tie.decreases-loop-o
-decreases-loop f c k lw lb rw' rb p top allowance at₀ at = at.edge
+decreases-loop f c k lw lb rw' rb p top at₀ at = at.edge
 
 -- at the entry: the terms, and what the loop may count on
 abbrev Entry : Type 0
@@ -61,38 +59,29 @@ start-requires c κs =
     rw s.requires.1.1.0 (loop-start (base s))
 
 loop-holds : tie.Need-loop-o-init invariant-loop decreases-loop
-loop-holds c =
-    let s = entry c in
-    (loop-holds-at (base s) _ s.requires.1.1.0 c.start-at.ensures, rw c.start-at.ensures s.requires.1.1.2)
+loop-holds c = let s = entry c in loop-holds-at (base s) _ s.requires.1.1.0 c.start-at.ensures
 
 advance-requires : tie.Need-advance-s-requires invariant-loop decreases-loop
-advance-requires c κs =
-    let i = c.loop-o.invariant in
-    let r = loop-ready (turn c) _ _ i.0 c.pass-q.ensures in
-    ((r.0, r.1, i.1), loop-room (turn c) _ _ i.0 c.pass-q.ensures _ i.1)
+advance-requires c κs = loop-ready (turn c) _ _ c.loop-o.invariant c.pass-q.ensures
 
 loop-less : tie.Need-loop-o-smaller invariant-loop decreases-loop
 loop-less c =
     let s = c.before.before in
     let t = s.before in
-    let i = t.loop-o.invariant in
-    (loop-next (turn t) _ _ i.0 t.pass-q.ensures _ i.1 _ s.advance-s.ensures c.in_default.is).0.falls
+    (loop-next (turn t) _ _ t.loop-o.invariant t.pass-q.ensures _ s.advance-s.ensures c.in_default.is).falls
 
 loop-again : tie.Need-loop-o-preserved invariant-loop decreases-loop
 loop-again c =
     let s = c.before.before in
     let t = s.before in
-    let i = t.loop-o.invariant in
-    let n = loop-next (turn t) _ _ i.0 t.pass-q.ensures _ i.1 _ s.advance-s.ensures c.in_default.is in
-    (n.0.walked, n.1)
+    (loop-next (turn t) _ _ t.loop-o.invariant t.pass-q.ensures _ s.advance-s.ensures c.in_default.is).walked
 
 returns : tie.Need-returns invariant-loop decreases-loop
 returns c =
     let v = c in
     let s = v.before.before in
     let t = s.before in
-    let i = t.loop-o.invariant in
-    loop-done (turn t) _ _ i.0 t.pass-q.ensures _ i.1 _ _ s.advance-s.ensures v.in-Done.is
+    loop-done (turn t) _ _ t.loop-o.invariant t.pass-q.ensures _ _ s.advance-s.ensures v.in-Done.is
 
 pub exact_spec : {M : Type 1} → statement M
 exact_spec =

@@ -15,7 +15,6 @@ use Rattle.values.proofs.Walks.{narrow, narrow-known, narrow-tens}
 use Rattle.totals.proofs.Answers.{walk-format}
 use Rattle.totals.proofs.Columns.{column-strided, column-there, column-room}
 use Rattle.totals.proofs.Listed.{total-asked}
-use Rattle.totals.proofs.Shown.{never}
 use Rattle.totals.specs.Reported.{answer_in}
 use Rattle.totals.proofs.lists.column.Statement.{statement}
 use Rattle.totals.proofs.lists.column.Tie as tie
@@ -49,14 +48,14 @@ listed-requires c κs =
     let f = format_of s.args.f in
     let b = bounds s in
     let asked = total-asked f (settings_of s.args.c) 0 _ s.requires.1 _ _ in
-    ((narrow-known f b, narrow-tens f b _ _ _, omega arith), ((within s _, within s _, λ h. absurd (omega (arith, h))), asked))
+    ((narrow-known f b, narrow-tens f b _ _ _), ((within s _, within s _, λ h. absurd (omega (arith, h))), asked))
 
 returns : tie.Need-returns
 returns c =
     let r = c.before in
     let l = r.before in
     let s = entry l.before in
-    c.answer_of.ensures ∙ ap (answer_in false) r.report_of.ensures ∙ rw (narrow (format_of s.args.f) (bounds s), are s _) at (l.listed.ensures.told (never _ _ _ _ _ _ _ _ _ l.listed.ensures))
+    c.answer_of.ensures ∙ ap (answer_in false) r.report_of.ensures ∙ rw (narrow (format_of s.args.f) (bounds s), are s _) at l.listed.ensures.0
 
 pub column_spec : {M : Type 1} → statement M
 column_spec = tie.close (tie.spec listed-requires (λ c κs. search rules) (λ c κs. search rules) returns)

@@ -1,6 +1,5 @@
 -- `totals::lists::keep` meets its contract.
 use borrow.Author.Rules.{rules}
-use Rattle.totals.specs.declared.part.Shown.TheVariants.{Whole}
 use Rattle.totals.proofs.lists.keep.Statement.{statement}
 use Rattle.totals.proofs.lists.keep.Tie as tie
 
@@ -15,7 +14,6 @@ returns c =
       subnormal = s.s.subnormal;
       positive_zero = s.s.positive_zero;
       negative_zero = s.s.negative_zero;
-      shown = Whole;
     }
 
 pub keep_spec : {M : Type 1} → statement M

@@ -1,6 +1,6 @@
 -- `totals::lists::listed` meets its contract.
-use mathlib.Core.Path.{◌≡◌, refl, sym, ap, ◌∙◌}
-use mathlib.Core.Bool.{Bool, true, false, true≢false}
+use mathlib.Core.Path.{◌≡◌, refl, sym}
+use mathlib.Core.Bool.{Bool, true, false}
 use mathlib.Core.List.{List}
 use Prim.Native.Nat.{ℕ}
 use native.Mathlib.Omega.{arith}
@@ -15,11 +15,8 @@ use Rattle.values.specs.declared.Source.{Source}
 use Rattle.values.specs.Sources.{source_of}
 use Rattle.values.specs.Walks.{wide, read_as}
 use Rattle.values.proofs.Walks.{known-range, read_length}
-use Rattle.totals.proofs.Listed.{strayed-refused, strayed-as, strayed-passes, list-strayed, list-asks, list-told, tells-list, list-answer}
-use Rattle.totals.proofs.Shown.{shows-whole}
-use Rattle.totals.specs.Parts.{is_part}
+use Rattle.totals.proofs.Listed.{strayed-refused, list-strayed, list-asks, list-told}
 use Rattle.totals.specs.Kept.{FoundBy}
-use Rattle.totals.specs.Within.{within_by}
 use Rattle.totals.proofs.lists.listed.Statement.{statement}
 use Rattle.totals.proofs.lists.listed.Tie as tie
 
@@ -88,39 +85,22 @@ returns c =
     let i = r.before in
     let t = i.before in
     let s = begun t in
-    let n = c.no_walk.ensures in
-    let told = strayed-as n.0 r.strayed.ensures in
-    let tells = list-strayed (form s) (env s) (u s) (left s) (right s) (many-left s) (many-right s) (eqb (u s) 4) (wide (form s)) refl s.requires.1.1 _ _
-    (found t) i.in-At.is c.no_walk.result.report told in
-    let whole = ap is_part n.1 in
-    record {
-      told = λ _. tells;
-      keeps = λ _ z w e. absurd (strayed-refused c.no_walk.result.report _ told.0 e);
-      few = λ e. absurd (true≢false (sym e ∙ whole));
-      shows = λ h w.
-          shows-whole (eqb (u s) 3) (form s) (env s) (u s) s.args.allowance (left s) (right s) c.no_walk.result _ n.1
-          (tells-list (eqb (u s) 4) (wide (form s)) (eqb (u s) 3) (form s) (env s) (u s) (left s) (right s) _ h w tells)
-          (strayed-passes c.no_walk.result.report _ told.0 s.args.allowance);
-    }
+    let told = r.strayed.ensures in
+    rw c.no_walk.ensures (
+      list-strayed (form s) (env s) (u s) (left s) (right s) (many-left s) (many-right s) (eqb (u s) 4) (wide (form s)) refl s.requires.1.1 _ _ (found t)
+          i.in-At.is _ told,
+      λ z w n. absurd (strayed-refused r.strayed.result _ told.0 n),
+    )
 
 returns-2 : tie.Need-returns-in-Nothing
 returns-2 c =
     let e = c.before in
     let t = e.before in
-    let s = begun t in
-    let o = c.total.ensures in
-    record {
-      told = λ n.
-          list-told (form s) (env s) (u s) (left s) (right s) (many-left s) (many-right s) (eqb (u s) 4) (wide (form s)) refl s.requires.1.1 _ (found t)
-          e.in-Nothing.is _ (o.told n);
-      keeps = λ n z w _. o.keeps n z w;
-      few = o.few;
-      shows = λ h w.
-          o.shows h w
-          ∙ ap (within_by (eqb (u s) 3) (form s) (env s) (u s) s.args.allowance (left s) (right s))
-          (list-answer (form s) (env s) (u s) (left s) (right s) (many-left s) (many-right s) (eqb (u s) 4) (wide (form s)) refl h w s.requires.1.1 _ (found t)
-          e.in-Nothing.is);
-    }
+    let s = begun t in (
+      list-told (form s) (env s) (u s) (left s) (right s) (many-left s) (many-right s) (eqb (u s) 4) (wide (form s)) refl s.requires.1.1 _ (found t)
+          e.in-Nothing.is _ c.total.ensures.0,
+      λ z w n. c.total.ensures.1 z w,
+    )
 
 pub listed_spec : {M : Type 1} → statement M
 listed_spec =

@@ -9,7 +9,6 @@ use Rattle.format.specs.Joined.{format_of}
 use Rattle.values.specs.Sources.{source_of}
 use Rattle.values.proofs.Sources.{Gives, whole-gives, whole-straight}
 use Rattle.values.proofs.Walks.{narrow, narrow-known, narrow-tens}
-use Rattle.totals.proofs.Shown.{never}
 use Rattle.totals.specs.Reported.{pence_in}
 use Rattle.totals.proofs.lists.pence.Statement.{statement}
 use Rattle.totals.proofs.lists.pence.Tie as tie
@@ -26,14 +25,14 @@ listed-requires c κs =
     let s = entry c in
     let f = format_of s.args.f in
     let b = s.requires.0 in
-    ((narrow-known f b, narrow-tens f b _ _ _, omega arith), (((gives s _).within, (gives s _).within, λ _. whole-straight 0 _), (narrow f b, s.requires)))
+    ((narrow-known f b, narrow-tens f b _ _ _), (((gives s _).within, (gives s _).within, λ _. whole-straight 0 _), (narrow f b, s.requires)))
 
 returns : tie.Need-returns
 returns c =
     let r = c.before in
     let l = r.before in
     let s = entry l.before in
-    c.pence_of.ensures ∙ ap pence_in r.report_of.ensures ∙ rw (narrow (format_of s.args.f) s.requires.0, (gives s _).are) at (l.listed.ensures.told (never _ _ _ _ _ _ _ _ _ l.listed.ensures))
+    c.pence_of.ensures ∙ ap pence_in r.report_of.ensures ∙ rw (narrow (format_of s.args.f) s.requires.0, (gives s _).are) at l.listed.ensures.0
 
 pub pence_spec : {M : Type 1} → statement M
 pence_spec = tie.close (tie.spec listed-requires (λ c κs. search rules) (λ c κs. search rules) returns)

@@ -15,7 +15,6 @@ use Rattle.values.proofs.Sources.{Gives, whole-gives, whole-straight}
 use Rattle.values.proofs.Walks.{narrow, narrow-known, narrow-tens}
 use Rattle.totals.proofs.Answers.{walk-format}
 use Rattle.totals.proofs.Listed.{total-asked}
-use Rattle.totals.proofs.Shown.{never}
 use Rattle.totals.proofs.lists.sum_walk.Statement.{statement}
 use Rattle.totals.proofs.lists.sum_walk.Tie as tie
 
@@ -34,7 +33,7 @@ listed-requires c κs =
     let s = entry c in
     let f = format_of s.args.f in
     let b = bounds s in (
-      (narrow-known f b, narrow-tens f b _ _ _, omega arith),
+      (narrow-known f b, narrow-tens f b _ _ _),
       (
         ((gives s _).within, (gives s _).within, λ _. whole-straight 1 _),
         total-asked f (settings_of s.args.c) 0 (length s.args.values.now / 8) s.requires _ _,
@@ -46,8 +45,7 @@ returns c =
     let s = entry c.before in
     let f = format_of s.args.f in
     let o = rw (narrow f (bounds s), (gives s _).are) at c.listed.ensures in
-    let whole = never _ _ _ _ _ _ _ _ _ o in
-    record { told = o.told whole; keeps = o.keeps whole refl refl }
+    record { told = o.0; keeps = o.1 refl refl }
 
 pub sum_walk_spec : {M : Type 1} → statement M
 sum_walk_spec = tie.close (tie.spec (λ c. search rules) (λ c. search rules) listed-requires returns)

@@ -9,7 +9,6 @@ use Rattle.format.specs.Joined.{format_of, settings_of}
 use Rattle.values.proofs.Sources.{whole-straight}
 use Rattle.totals.proofs.Totalled.{heads-alike}
 use Rattle.totals.proofs.Tens.{tens-there, tens-within, tens-asked, tens-told}
-use Rattle.totals.proofs.Shown.{never}
 use Rattle.totals.specs.Reported.{answer_in}
 use Rattle.totals.proofs.lists.tens.Statement.{statement}
 use Rattle.totals.proofs.lists.tens.Tie as tie
@@ -27,9 +26,8 @@ listed-requires c κs =
     let a = s.args in
     let f = format_of x.extended-f.result in
     let l = a.left.now in
-    let r = a.right.now in
-    let there = tens-there f x.extended-f.ensures (settings_of a.c) a.u l r s.requires.0 in (
-      (there.0, there.1, omega arith),
+    let r = a.right.now in (
+      tens-there f x.extended-f.ensures (settings_of a.c) a.u l r s.requires.0,
       (
         (
           tens-within (length l / 10) _ l refl (omega arith),
@@ -51,7 +49,7 @@ returns c =
     let whole = sym (heads-alike true r.report_of.result c.wide_of.result (sym same) (sym head)) in
     whole ∙ ap (answer_in true) r.report_of.ensures
     ∙ tens-told (format_of x.extended-f.result) x.extended-f.ensures (settings_of a.c) a.u a.left.now a.right.now s.requires.0 _ s.requires.1.1 _
-    (l.listed.ensures.told (never _ _ _ _ _ _ _ _ _ l.listed.ensures))
+    l.listed.ensures.0
 
 pub tens_spec : {M : Type 1} → statement M
 tens_spec =

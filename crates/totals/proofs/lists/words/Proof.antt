@@ -14,7 +14,6 @@ use Rattle.values.proofs.Sources.{Gives, whole-gives, whole-straight}
 use Rattle.values.proofs.Walks.{narrow, narrow-known, narrow-tens}
 use Rattle.totals.proofs.Answers.{walk-format}
 use Rattle.totals.proofs.Listed.{total-asked, total-told}
-use Rattle.totals.proofs.Shown.{never}
 use Rattle.totals.specs.Reported.{answer_in}
 use Rattle.totals.proofs.lists.words.Statement.{statement}
 use Rattle.totals.proofs.lists.words.Tie as tie
@@ -37,7 +36,7 @@ listed-requires c κs =
     let s = entry c in
     let f = format_of s.args.f in
     let b = bounds s in (
-      (narrow-known f b, narrow-tens f b _ _ _, omega arith),
+      (narrow-known f b, narrow-tens f b _ _ _),
       (
         ((gives_left s _).within, (gives-right s _).within, λ _. whole-straight 0 _),
         total-asked f (settings_of s.args.c) s.args.u (length s.args.left.now) s.requires.1 _ _,
@@ -51,7 +50,7 @@ returns c =
     let s = entry l.before in
     c.answer_of.ensures ∙ ap (answer_in false) r.report_of.ensures
     ∙ total-told (format_of s.args.f) (settings_of s.args.c) s.args.u (length s.args.left.now) s.requires.1 _ _ _
-    (rw (narrow (format_of s.args.f) (bounds s), (gives_left s _).are, (gives-right s _).are) at (l.listed.ensures.told (never _ _ _ _ _ _ _ _ _ l.listed.ensures)))
+    (rw (narrow (format_of s.args.f) (bounds s), (gives_left s _).are, (gives-right s _).are) at l.listed.ensures.0)
 
 pub words_spec : {M : Type 1} → statement M
 words_spec = tie.close (tie.spec listed-requires (λ c κs. search rules) (λ c κs. search rules) returns)

@@ -1,11 +1,10 @@
 -- `totals::pence::whole_pence` meets its contract.
-use mathlib.Core.Path.{◌≡◌, sym, ap, ◌∙◌}
+use mathlib.Core.Path.{sym, ap, ◌∙◌}
 use mathlib.Core.Bool.{Bool}
 use Prim.Native.Nat.{◌<◌}
 use native.Mathlib.Nat.{pos_of_ne-zero}
 use borrow.Author.Rules.{rules}
 use borrow.Author.Tests.{eqb-true, eqb-false}
-use Rattle.totals_spec.specs.Basics.{Signed}
 use Rattle.totals_spec.specs.Hundredfold.{whole_figure}
 use Rattle.totals_spec.proofs.Nearest.{figure-none}
 use Rattle.format.specs.Joined.{format_of}
@@ -31,8 +30,7 @@ returns-2 : tie.Need-returns
 returns-2 c x l =
     let e = c.before in
     let r = l.some (some e) in
-    c.nearest.ensures x.mag r.stands
-    ∙ ap (λ (n : Bool). whole_figure (format_of e.args.f) (record { neg = n; mag = x.mag })) r.negative
+    c.nearest.ensures x.mag r.stands ∙ ap (λ (n : Bool). whole_figure (format_of e.args.f) (record { neg = n; mag = x.mag })) r.negative
 
 pub whole_pence_spec : {M : Type 1} → statement M
 whole_pence_spec = tie.close (tie.spec (λ c κs. search rules) (λ c κs. search rules) returns nearest-requires returns-2)

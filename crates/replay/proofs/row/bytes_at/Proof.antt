@@ -1,0 +1,32 @@
+-- `replay::row::bytes_at` meets its contract.
+use mathlib.Core.Path.{◌≡◌}
+use Prim.Native.Nat.{◌-◌, ◌≤◌}
+use lib.ListN.{length}
+use borrow.Author.Rules.{rules}
+use Rattle.replay.proofs.row.bytes_at.Statement.{statement}
+use Rattle.replay.proofs.row.bytes_at.Tie as tie
+
+abbrev invariant-loop : tie.invariant-loop-i
+invariant-loop s first bytes₀ i₀ bytes i = (i ≤ 12) × (length bytes ≡ 104)
+
+abbrev decreases-loop : tie.decreases-loop-i
+decreases-loop s first bytes₀ i₀ bytes i = 12 - i
+
+pub bytes_at_spec : {M : Type 1} → statement M
+bytes_at_spec =
+    tie.close
+    (tie.spec
+    invariant-loop
+    decreases-loop
+    (λ c. search rules)
+    (λ c. search rules)
+    (λ c. search rules)
+    (λ c. search rules)
+    (λ c. search rules)
+    (λ c. search rules)
+    (λ c κs. search rules)
+    (λ c κs. search rules)
+    (λ c. search rules)
+    (λ c. search rules)
+    (λ c. search rules)
+    (λ c. search rules))

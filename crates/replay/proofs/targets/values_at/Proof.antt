@@ -1,0 +1,31 @@
+-- `replay::targets::values_at` meets its contract.
+use mathlib.Core.Path.{◌≡◌}
+use Prim.Native.Nat.{◌-◌, ◌≤◌}
+use lib.ListN.{length}
+use borrow.Author.Rules.{rules}
+use Rattle.replay.proofs.targets.values_at.Statement.{statement}
+use Rattle.replay.proofs.targets.values_at.Tie as tie
+
+abbrev invariant-loop : tie.invariant-loop-i
+invariant-loop s bytes₀ i₀ bytes i = (i ≤ 13) × (length bytes ≡ 104)
+
+abbrev decreases-loop : tie.decreases-loop-i
+decreases-loop s bytes₀ i₀ bytes i = 13 - i
+
+pub values_at_spec : {M : Type 1} → statement M
+values_at_spec =
+    tie.close
+    (tie.spec
+    invariant-loop
+    decreases-loop
+    (λ c. search rules)
+    (λ c. search rules)
+    (λ c. search rules)
+    (λ c. search rules)
+    (λ c. search rules)
+    (λ c κs. search rules)
+    (λ c κs. search rules)
+    (λ c. search rules)
+    (λ c. search rules)
+    (λ c. search rules)
+    (λ c. search rules))

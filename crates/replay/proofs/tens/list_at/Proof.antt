@@ -1,0 +1,29 @@
+-- `replay::tens::list_at` meets its contract.
+use mathlib.Core.Path.{◌≡◌}
+use Prim.Native.Nat.{◌-◌, ◌≤◌}
+use lib.ListN.{length}
+use borrow.Author.Rules.{rules}
+use Rattle.replay.proofs.tens.list_at.Statement.{statement}
+use Rattle.replay.proofs.tens.list_at.Tie as tie
+
+abbrev invariant-loop : tie.invariant-loop-i
+invariant-loop s column bytes₀ i₀ bytes i = (i ≤ 128) × (length bytes ≡ 128)
+
+abbrev decreases-loop : tie.decreases-loop-i
+decreases-loop s column bytes₀ i₀ bytes i = 128 - i
+
+pub list_at_spec : {M : Type 1} → statement M
+list_at_spec =
+    tie.close
+    (tie.spec
+    invariant-loop
+    decreases-loop
+    (λ c. search rules)
+    (λ c. search rules)
+    (λ c. search rules)
+    (λ c κs. search rules)
+    (λ c. search rules)
+    (λ c. search rules)
+    (λ c. search rules)
+    (λ c. search rules)
+    (λ c. search rules))
