@@ -1,1 +1,4 @@
 pub mod Below
+pub mod Built
+pub mod Compared
+pub mod Lacking

@@ -2,19 +2,35 @@
 // modulo 2^768 where it could be more.
 #![tactic(auto)]
 
-ghost use Rattle.std.specs.Prelude.{◌≡◌, ◌∷◌, not, ◌-◌, ◌*◌, ◌/◌, ◌%◌, ◌^◌, ◌<◌, eqb, get_or};
+ghost use Rattle.std.specs.Prelude.{◌≡◌, ◌∷◌, not, ◌+◌, ◌-◌, ◌*◌, ◌/◌, ◌%◌, ◌^◌, ◌<◌, ◌≤◌, eqb, get_or};
 ghost use Rattle.limbs.specs.Value.{value, bit_length, plus, minus};
 ghost use Rattle.limbs_window.specs.Compared.{compared};
 
 use limbs::word;
-use limbs::word::{add_word, funnel, minus, smaller, split, sub_word};
+use limbs::word::{add_word, funnel, split};
+use std::array;
+use std::cmp::Ordering;
 
 // a + b
 pub fn add(a: [u64; 12], b: [u64; 12]) -> [u64; 12]
     ensures { value result ≡ plus (value a) (value b) }
 {
+    add_with(a, b, 0)
+}
+
+// a - b: a, the complement of b, and 1
+pub fn sub(a: [u64; 12], b: [u64; 12]) -> [u64; 12]
+    ensures { value result ≡ minus (value a) (value b) }
+{
+    add_with(a, complement(b), 1)
+}
+
+// a + b + carry, word by word
+fn add_with(a: [u64; 12], b: [u64; 12], mut carry: u64) -> [u64; 12]
+    requires { carry ≤ 1 }
+    ensures { value result ≡ plus (value a) (value b + carry) }
+{
     let mut r = a;
-    let mut carry: u64 = 0;
     for i in 0..12 {
         let s = add_word(r[i], b[i], carry);
         r[i] = s.word;
@@ -23,18 +39,11 @@ pub fn add(a: [u64; 12], b: [u64; 12]) -> [u64; 12]
     r
 }
 
-// a - b
-pub fn sub(a: [u64; 12], b: [u64; 12]) -> [u64; 12]
-    ensures { value result ≡ minus (value a) (value b) }
+// What a lacks to the greatest window.
+fn complement(a: [u64; 12]) -> [u64; 12]
+    ensures { value result ≡ 2 ^ 768 - 1 - value a }
 {
-    let mut r = a;
-    let mut borrow: u64 = 0;
-    for i in 0..12 {
-        let s = sub_word(r[i], b[i], borrow);
-        r[i] = s.word;
-        borrow = s.borrow;
-    }
-    r
+    a.map(|w| !w)
 }
 
 // The two's complement of a.
@@ -47,33 +56,24 @@ pub fn negate(a: [u64; 12]) -> [u64; 12]
 pub fn is_zero(a: [u64; 12]) -> bool
     ensures { result ≡ eqb (value a) 0 }
 {
-    for k in 0..12 {
-        if a[k] != 0 {
-            return false;
-        }
-    }
-    true
+    a.iter().all(|w| *w == 0)
 }
 
 // The number of bits up to the highest set one, 0 for 0.
 pub fn bit_length(a: [u64; 12]) -> usize
     ensures { result ≡ bit_length (value a) }
 {
-    let mut i: usize = 12;
-    while i > 0 {
-        i -= 1;
-        if a[i] != 0 {
-            return i * 64 + (word::bit_length(a[i]) as usize);
-        }
+    match a.iter().rposition(|w| *w != 0) {
+        Some(i) => i * 64 + word::bit_length(a[i]) as usize,
+        None => 0,
     }
-    0
 }
 
 // The word i, 0 past the end.
 fn word_at(a: [u64; 12], i: usize) -> u64
     ensures { result ≡ get_or a i 0 }
 {
-    if i < 12 { a[i] } else { 0 }
+    a.get(i).copied().unwrap_or(0)
 }
 
 // The word below the word i, 0 below the first and past the end.
@@ -99,11 +99,7 @@ pub fn shr_at(a: [u64; 12], count: usize, i: usize) -> u64
 pub fn shr(a: [u64; 12], count: usize) -> [u64; 12]
     ensures { value result ≡ value a / 2 ^ count }
 {
-    let mut r = [0u64; 12];
-    for i in 0..12 {
-        r[i] = shr_at(a, count, i);
-    }
-    r
+    array::from_fn(|i| shr_at(a, count, i))
 }
 
 // The word i of a * 2^count.
@@ -123,11 +119,7 @@ fn shl_at(a: [u64; 12], count: usize, i: usize) -> u64
 pub fn shl(a: [u64; 12], count: usize) -> [u64; 12]
     ensures { value result ≡ value a * 2 ^ count % 2 ^ 768 }
 {
-    let mut r = [0u64; 12];
-    for i in 0..12 {
-        r[i] = shl_at(a, count, i);
-    }
-    r
+    array::from_fn(|i| shl_at(a, count, i))
 }
 
 // The word i of the lowest `count` bits.
@@ -135,18 +127,14 @@ fn low_at(a: [u64; 12], count: usize, i: usize) -> u64
     requires { i < 12 }
     ensures { result ≡ value a % 2 ^ count / 2 ^ (64 * i) % 2 ^ 64 }
 {
-    word::low_bits(a[i], minus(count, 64 * i))
+    word::low_bits(a[i], count.saturating_sub(64 * i))
 }
 
 // The lowest `count` bits.
 pub fn low_bits(a: [u64; 12], count: usize) -> [u64; 12]
     ensures { value result ≡ value a % 2 ^ count }
 {
-    let mut r = [0u64; 12];
-    for i in 0..12 {
-        r[i] = low_at(a, count, i);
-    }
-    r
+    array::from_fn(|i| low_at(a, count, i))
 }
 
 // Whether one of the lowest `count` bits is set: in one of the words that lie below `count` as a whole, or in the next word.
@@ -154,16 +142,7 @@ pub fn any_below(a: [u64; 12], count: usize) -> bool
     ensures { result ≡ not (eqb (value a % 2 ^ count) 0) }
 {
     let p = split(count);
-    let end = smaller(p.word, 12);
-    let mut whole: u64 = 0;
-    for i in 0..end {
-        whole = whole | a[i];
-    }
-    if whole != 0 {
-        return true;
-    }
-    let w = word_at(a, end);
-    word::low_bits(w, p.bit) != 0
+    a.iter().take(p.word).any(|w| *w != 0) || word::low_bits(word_at(a, p.word), p.bit) != 0
 }
 
 // The bit at a position, false past the end.
@@ -189,26 +168,9 @@ pub fn power(position: usize) -> [u64; 12]
     shl([1, 0, 0, 0, 0, 0, 0, 0, 0, 0, 0, 0], position)
 }
 
-#[derive(Clone, Copy)]
-pub enum Order {
-    Less,
-    Equal,
-    Greater,
-}
-
-// How two windows compare.
-pub fn compare(a: [u64; 12], b: [u64; 12]) -> Order
+// How two windows compare: as their highest words that differ.
+pub fn compare(a: [u64; 12], b: [u64; 12]) -> Ordering
     ensures { result ≡ compared (value a) (value b) }
 {
-    let mut i: usize = 12;
-    while i > 0 {
-        i -= 1;
-        if a[i] < b[i] {
-            return Order::Less;
-        }
-        if b[i] < a[i] {
-            return Order::Greater;
-        }
-    }
-    Order::Equal
+    a.iter().rev().cmp(b.iter().rev())
 }

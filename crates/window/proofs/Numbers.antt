@@ -2,22 +2,14 @@
 -- unit off a boundary.
 use mathlib.Core.Path.{◌≡◌, refl, sym, ap, ◌∙◌}
 use mathlib.Core.Bool.{Bool, true, false, not, cond}
-use mathlib.Core.List.{[], ◌∷◌}
-use mathlib.Core.Logic.{◌⊎◌, inl, inr}
 use Prim.Native.Nat.{ℕ, suc, ◌+◌, ◌-◌, ◌*◌, ◌/◌, ◌%◌, ◌^◌, ◌≤◌, ◌<◌}
 use native.Mathlib.Nat.{div-eq_of_lt, div-eq_of_lt-le, mod-eq_of_lt, add-mod_right, lt_of_lt_of_le, lt_of_le_of_lt, le_of_lt, one-mul, mul_comm, suc-mul}
 use native.Mathlib.Omega.{arith}
 use lib.Dec.{T, ltb, eqb, ltb→lt, nltb→le, lit<, lit≤}
 use lib.Pow.{pow-add, pow_pos, pow_mono, pow-lt, shr_lt}
 use borrow.Author.Tests.{ltb-true, le-ltb}
-use types.Run.{OneOf}
-use denote.Enum.Declared.{tag_of}
-use Rattle.limbs_window.specs.declared.Order.{Order}
-use Rattle.limbs_window.specs.declared.Order.TheVariants.{Less, Greater}
-use Rattle.limbs_window.specs.contracts.Order as order
+use Rattle.std.specs.Ordering.{is_lt, is_gt}
 use Rattle.limbs_window.specs.Compared.{order_of, compared}
-use Rattle.window.specs.Joined.{near_by}
-use Rattle.window.specs.declared.Nearness.TheVariants.{Low, High, Between}
 use Rattle.totals_spec.specs.Basics.{Signed}
 use Rattle.totals_spec.specs.Chain.{half, signed_from}
 
@@ -96,59 +88,21 @@ ceiling-is r a b c l u ea eb ec =
 
 -- ---- how two numbers compare
 
-pub compared-less : (a b : ℕ) → compared a b ≡ Less → ltb a b ≡ true
-compared-less a b e = go (ltb a b) (ltb b a) e
+pub compared-less : (a b : ℕ) → is_lt (compared a b) ≡ ltb a b
+compared-less a b = go (ltb a b) (ltb b a)
   where
-    go : (s t : Bool) → order_of s t ≡ Less → s ≡ true
-    go true t q = refl
-    go false true q = cc
-    go false false q = cc
+    go : (s t : Bool) → is_lt (order_of s t) ≡ s
+    go true t = refl
+    go false true = refl
+    go false false = refl
 
-pub compared-greater : (a b : ℕ) → compared a b ≡ Greater → ltb b a ≡ true
-compared-greater a b e = go (ltb a b) (ltb b a) e
+pub compared-greater : (a b : ℕ) → is_gt (compared a b) ≡ ltb b a
+compared-greater a b = go (ltb a b) (ltb b a) (λ q. le-ltb b a (le_of_lt (ltb-true a b q)))
   where
-    go : (s t : Bool) → order_of s t ≡ Greater → t ≡ true
-    go true t q = cc
-    go false true q = refl
-    go false false q = cc
-
-pub compared-not-less : (a b : ℕ) → OneOf (1 ∷ 2 ∷ []) (tag_of order.the_type (compared a b)) → ltb a b ≡ false
-compared-not-less a b e = go (ltb a b) (ltb b a) e
-  where
-    none : (◌≡◌ {A = ℕ} 0 1) ⊎ (◌≡◌ {A = ℕ} 0 2) → ⊥
-    none (inl q) = omega arith
-    none (inr q) = omega arith
-
-    go : (s t : Bool) → OneOf (1 ∷ 2 ∷ []) (tag_of order.the_type (order_of s t)) → s ≡ false
-    go true t q = absurd (none q)
-    go false t q = refl
-
-pub compared-not-greater : (a b : ℕ) → OneOf (0 ∷ 1 ∷ []) (tag_of order.the_type (compared a b)) → ltb b a ≡ false
-compared-not-greater a b e = go (ltb a b) (ltb b a) (λ q. le-ltb b a (le_of_lt (ltb-true a b q))) e
-  where
-    none : (◌≡◌ {A = ℕ} 2 0) ⊎ (◌≡◌ {A = ℕ} 2 1) → ⊥
-    none (inl q) = omega arith
-    none (inr q) = omega arith
-
-    go : (s t : Bool) → (s ≡ true → t ≡ false) → OneOf (0 ∷ 1 ∷ []) (tag_of order.the_type (order_of s t)) → t ≡ false
-    go true t k q = k refl
-    go false true k q = absurd (none q)
-    go false false k q = refl
-
--- where a remainder d by 2^r stands, by its comparisons with the margin 2^65 and with the ceiling 2^r − 2^65
-module _ (d r : ℕ) (o : Order) (eo : o ≡ compared d (2 ^ 65)) where
-  pub near-low : o ≡ Less → Low ≡ near_by d r
-  near-low e = rw (compared-less d (2 ^ 65) (sym eo ∙ e))
-
-  module _ (off : OneOf (1 ∷ 2 ∷ []) (tag_of order.the_type o)) (h : Order) (eh : h ≡ compared d (2 ^ r - 2 ^ 65)) where
-    not_low : ltb d (2 ^ 65) ≡ false
-    not_low = compared-not-less d (2 ^ 65) (rw eo at off)
-
-    pub near-high : h ≡ Greater → High ≡ near_by d r
-    near-high e = rw (not_low, compared-greater d (2 ^ r - 2 ^ 65) (sym eh ∙ e))
-
-    pub near-neither : OneOf (0 ∷ 1 ∷ []) (tag_of order.the_type h) → Between ≡ near_by d r
-    near-neither e = rw (not_low, compared-not-greater d (2 ^ r - 2 ^ 65) (rw eh at e))
+    go : (s t : Bool) → (s ≡ true → t ≡ false) → is_gt (order_of s t) ≡ t
+    go true t k = sym (k refl)
+    go false true k = refl
+    go false false k = refl
 
 -- ---- a quarter of a unit off a boundary m × 2^e
 

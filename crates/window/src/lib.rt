@@ -13,7 +13,6 @@ use exact::{Unrounded, narrowed};
 use limbs::pair;
 use limbs::word::larger;
 use limbs_window as window;
-use limbs_window::Order;
 
 // The part of a term at or above an edge, to be added `up` bits above it, whether there is some, and the lost bit plus one.
 #[derive(Clone, Copy)]
@@ -243,13 +242,11 @@ fn how_near(magnitude: [u64; 12], rest: usize) -> Nearness
 {
     let margin = window::power(65);
     let below = window::low_bits(magnitude, rest);
-    let low = window::compare(below, margin);
-    if let Order::Less = low {
+    if window::compare(below, margin).is_lt() {
         return Nearness::Low;
     }
     let ceiling = window::sub(window::power(rest), margin);
-    let high = window::compare(below, ceiling);
-    if let Order::Greater = high {
+    if window::compare(below, ceiling).is_gt() {
         return Nearness::High;
     }
     Nearness::Between
