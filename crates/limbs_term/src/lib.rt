@@ -1,7 +1,7 @@
 // A term of at most 128 bits, high * 2^64 + low, shifted and added to a window or taken off it, touching only the words that change.
 #![tactic(auto)]
 
-ghost use Rattle.std.specs.Prelude.{◌≡◌, ◌^◌, if◌then◌else◌, nat_lt};
+ghost use Rattle.std.specs.Prelude.{◌≡◌, ◌^◌, nat_lt};
 ghost use Rattle.limbs.specs.Value.{value, term, moved};
 ghost use Rattle.limbs_term.specs.Placed.{flip, Lays, Turns, Settles};
 
@@ -30,17 +30,11 @@ pub struct Placed {
     pub inside: bool,
 }
 
-fn one_if(negative: bool) -> u64
-    ensures { result ≡ (if negative then 1 else 0) }
-{
-    if negative { 1 } else { 0 }
-}
-
 // A word, or its complement: without a branch, since the signs of a list come in no order.
 fn flipped(negative: bool, w: u64) -> u64
     ensures { result ≡ flip negative w }
 {
-    w ^ std::num::wrapping_sub_u64(0, one_if(negative))
+    w ^ 0u64.wrapping_sub(u64::from(negative))
 }
 
 // total + or - the shifted term, by the window's own operations: for any shift.
@@ -62,39 +56,35 @@ fn lay(low: u64, high: u64, up: usize) -> Laid
     let p = split(up);
     let s = shl_word(low, 0, p.bit);
     let t = shl_word(high, s.carry, p.bit);
-    if p.word <= 9 {
-        return Laid {
+    match p.word {
+        0..=9 => Laid {
             at: p.word,
             v0: s.word,
             v1: t.word,
             v2: t.carry,
             inside: true,
-        };
-    }
-    if p.word == 10 {
-        return Laid {
+        },
+        10 => Laid {
             at: 9,
             v0: 0,
             v1: s.word,
             v2: t.word,
             inside: true,
-        };
-    }
-    if p.word == 11 {
-        return Laid {
+        },
+        11 => Laid {
             at: 9,
             v0: 0,
             v1: 0,
             v2: s.word,
             inside: true,
-        };
-    }
-    Laid {
-        at: 9,
-        v0: 0,
-        v1: 0,
-        v2: 0,
-        inside: false,
+        },
+        _ => Laid {
+            at: 9,
+            v0: 0,
+            v1: 0,
+            v2: 0,
+            inside: false,
+        },
     }
 }
 
@@ -104,45 +94,40 @@ fn lay_single(low: u64, up: usize) -> Laid
 {
     let p = split(up);
     let s = shl_word(low, 0, p.bit);
-    if p.word <= 10 {
-        return Laid {
+    match p.word {
+        0..=10 => Laid {
             at: p.word,
             v0: s.word,
             v1: s.carry,
             v2: 0,
             inside: true,
-        };
-    }
-    if p.word == 11 {
-        return Laid {
+        },
+        11 => Laid {
             at: 10,
             v0: 0,
             v1: s.word,
             v2: 0,
             inside: true,
-        };
-    }
-    Laid {
-        at: 10,
-        v0: 0,
-        v1: 0,
-        v2: 0,
-        inside: false,
+        },
+        _ => Laid {
+            at: 10,
+            v0: 0,
+            v1: 0,
+            v2: 0,
+            inside: false,
+        },
     }
 }
 
 fn turned(p: Laid, negative: bool) -> Placed
     ensures { Turns negative p result }
 {
-    let w0 = flipped(negative, p.v0);
-    let w1 = flipped(negative, p.v1);
-    let w2 = flipped(negative, p.v2);
     Placed {
         at: p.at,
-        w0,
-        w1,
-        w2,
-        carry: one_if(negative),
+        w0: flipped(negative, p.v0),
+        w1: flipped(negative, p.v1),
+        w2: flipped(negative, p.v2),
+        carry: u64::from(negative),
         inside: p.inside,
     }
 }

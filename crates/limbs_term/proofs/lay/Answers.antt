@@ -1,0 +1,42 @@
+use Rattle.std.proofs.Common.{◌≡◌, ◌≤◌, arith, sym, true≢false, rules}
+use Rattle.limbs.specs.Value.{term}
+use Rattle.limbs_term.proofs.Term.{term_words}
+use Rattle.limbs_term.proofs.Within.{at-word, inside-three, at-ten, at-eleven, past_end, shifted-room, ends}
+use Rattle.limbs_term.proofs.lay.Goals as goal
+use Rattle.limbs_term.proofs.lay.Goals.{After-shl_word-t}
+
+-- once both words are shifted: the three words make the term
+whole : (k : After-shl_word-t) → let a = k.args in
+    at-word k.split-p.result.word k.shl_word-s.result.word k.shl_word-t.result.word k.shl_word-t.result.carry ≡ term a.low a.high a.up
+whole k = term_words k.args.low k.args.high _ _ _ k.shl_word-s.result.carry k.split-p.ensures k.shl_word-s.ensures.0 k.shl_word-t.ensures.0
+
+pub returns-in-0-to-9 : goal.returns-in-0-to-9
+returns-in-0-to-9 c =
+    let low : c.split-p.result.word ≤ 9 = omega arith in
+    record {
+      word = low;
+      exact = inside-three _ _ _ _ _ low (search rules) (search rules) (search rules) (whole c.before);
+      past = λ e. absurd (true≢false e);
+      room = λ _. shifted-room _ _ c.split-p.ensures.small c.shl_word-t.ensures.1;
+    }
+
+pub returns-in-10 : goal.returns-in-10
+returns-in-10 c = record {
+  word = search rules;
+  exact = at-ten _ _ _ _ _ (omega arith) (search rules) (search rules) (whole c.before);
+  past = λ e. absurd (true≢false e);
+  room = ends _ _;
+}
+
+pub returns-in-11 : goal.returns-in-11
+returns-in-11 c = record {
+  word = search rules;
+  exact = at-eleven _ _ _ _ _ (omega arith) (search rules) (whole c.before);
+  past = λ e. absurd (true≢false e);
+  room = ends _ _;
+}
+
+pub returns-in_default : goal.returns-in_default
+returns-in_default c =
+    let e = past_end _ _ _ _ _ (omega arith) (whole c.before) in
+    record { word = search rules; exact = e; past = λ _. sym e; room = ends 9 0 }
