@@ -8,6 +8,11 @@ ghost use Rattle.limbs_term.specs.Placed.{flip, Lays, Turns, Settles};
 use limbs::word::{shl_word, split};
 use limbs_window::{add, shl, sub};
 
+// The last word of a window from which three words lie within it, and two.
+const LAST_OF_THREE: usize = 9;
+
+const LAST_OF_TWO: usize = 10;
+
 // A term's part within the window, in words from the word `at` on: what lies past the window's end is left off, and where all of it does, it is not
 // inside.
 #[derive(Clone, Copy)]
@@ -57,29 +62,29 @@ fn lay(low: u64, high: u64, up: usize) -> Laid
     let s = shl_word(low, 0, p.bit);
     let t = shl_word(high, s.carry, p.bit);
     match p.word {
-        0..=9 => Laid {
-            at: p.word,
+        at if at <= LAST_OF_THREE => Laid {
+            at,
             v0: s.word,
             v1: t.word,
             v2: t.carry,
             inside: true,
         },
         10 => Laid {
-            at: 9,
+            at: LAST_OF_THREE,
             v0: 0,
             v1: s.word,
             v2: t.word,
             inside: true,
         },
         11 => Laid {
-            at: 9,
+            at: LAST_OF_THREE,
             v0: 0,
             v1: 0,
             v2: s.word,
             inside: true,
         },
         _ => Laid {
-            at: 9,
+            at: LAST_OF_THREE,
             v0: 0,
             v1: 0,
             v2: 0,
@@ -95,22 +100,22 @@ fn lay_single(low: u64, up: usize) -> Laid
     let p = split(up);
     let s = shl_word(low, 0, p.bit);
     match p.word {
-        0..=10 => Laid {
-            at: p.word,
+        at if at <= LAST_OF_TWO => Laid {
+            at,
             v0: s.word,
             v1: s.carry,
             v2: 0,
             inside: true,
         },
         11 => Laid {
-            at: 10,
+            at: LAST_OF_TWO,
             v0: 0,
             v1: s.word,
             v2: 0,
             inside: true,
         },
         _ => Laid {
-            at: 10,
+            at: LAST_OF_TWO,
             v0: 0,
             v1: 0,
             v2: 0,

@@ -10,8 +10,8 @@ whole : (k : After-shl_word-t) → let a = k.args in
     at-word k.split-p.result.word k.shl_word-s.result.word k.shl_word-t.result.word k.shl_word-t.result.carry ≡ term a.low a.high a.up
 whole k = term_words k.args.low k.args.high _ _ _ k.shl_word-s.result.carry k.split-p.ensures k.shl_word-s.ensures.0 k.shl_word-t.ensures.0
 
-pub returns-in-0-to-9 : goal.returns-in-0-to-9
-returns-in-0-to-9 c =
+pub returns-then-at-le-LAST_OF_THREE : goal.returns-then-at-le-LAST_OF_THREE
+returns-then-at-le-LAST_OF_THREE c =
     let low : c.split-p.result.word ≤ 9 = omega arith in
     record {
       word = low;
@@ -23,7 +23,7 @@ returns-in-0-to-9 c =
 pub returns-in-10 : goal.returns-in-10
 returns-in-10 c = record {
   word = search rules;
-  exact = at-ten _ _ _ _ _ (omega arith) (search rules) (search rules) (whole c.before);
+  exact = at-ten _ _ _ _ _ (omega arith) (search rules) (search rules) (whole c.before.before);
   past = λ e. absurd (true≢false e);
   room = ends _ _;
 }
@@ -31,12 +31,12 @@ returns-in-10 c = record {
 pub returns-in-11 : goal.returns-in-11
 returns-in-11 c = record {
   word = search rules;
-  exact = at-eleven _ _ _ _ _ (omega arith) (search rules) (whole c.before);
+  exact = at-eleven _ _ _ _ _ (omega arith) (search rules) (whole c.before.before);
   past = λ e. absurd (true≢false e);
   room = ends _ _;
 }
 
-pub returns-in_default : goal.returns-in_default
-returns-in_default c =
-    let e = past_end _ _ _ _ _ (omega arith) (whole c.before) in
+pub returns-in_default-2 : goal.returns-in_default-2
+returns-in_default-2 c =
+    let e = past_end _ _ _ _ _ (omega arith) (whole c.before.before) in
     record { word = search rules; exact = e; past = λ _. sym e; room = ends 9 0 }

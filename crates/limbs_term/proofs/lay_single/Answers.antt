@@ -9,8 +9,8 @@ use Rattle.limbs_term.proofs.lay_single.Goals.{After-shl_word-s}
 whole : (k : After-shl_word-s) → at-word k.split-p.result.word k.shl_word-s.result.word k.shl_word-s.result.carry 0 ≡ term k.args.low 0 k.args.up
 whole k = term_words k.args.low 0 _ _ 0 k.shl_word-s.result.carry k.split-p.ensures k.shl_word-s.ensures.0 (omega arith)
 
-pub returns-in-0-to-10 : goal.returns-in-0-to-10
-returns-in-0-to-10 c =
+pub returns-then-at-le-LAST_OF_TWO : goal.returns-then-at-le-LAST_OF_TWO
+returns-then-at-le-LAST_OF_TWO c =
     let low : c.split-p.result.word ≤ 10 = omega arith in (
       record {
         word = low;
@@ -23,10 +23,10 @@ returns-in-0-to-10 c =
 
 pub returns-in-11 : goal.returns-in-11
 returns-in-11 c =
-    let e = single-at-eleven _ _ _ _ (omega arith) (search rules) (whole c.before) in
+    let e = single-at-eleven _ _ _ _ (omega arith) (search rules) (whole c.before.before) in
     (record { word = search rules; exact = e; past = λ e. absurd (true≢false e); room = ends _ _ }, refl)
 
-pub returns-in_default : goal.returns-in_default
-returns-in_default c =
-    let e = past_end c.split-p.result.word _ _ 0 _ (omega arith) (whole c.before) in
+pub returns-in_default-2 : goal.returns-in_default-2
+returns-in_default-2 c =
+    let e = past_end c.split-p.result.word _ _ 0 _ (omega arith) (whole c.before.before) in
     (record { word = search rules; exact = e; past = λ _. sym e; room = ends 10 0 }, refl)
