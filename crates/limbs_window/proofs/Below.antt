@@ -1,5 +1,7 @@
 -- Whether one of the lowest c bits of a list's number is set: in a word that lies below c as a whole, or in the word after these.
-use Rattle.std.proofs.Common.{◌≡◌, ℕ, ◌+◌, ◌-◌, ◌*◌, ◌/◌, ◌%◌, ◌^◌, ◌<◌, ◌≤◌, min, lt_of_not-le, true, not, eqb, ◌⊎◌, inl, inr, List, get_or, sym, ap, ◌∙◌, ap₂, add-zero, mod-eq_of_lt, le_of_lt, sub-add_cancel, mul-le-mul_right, eq-zero-or-pos, zero-mul, arith, pow_pos, eq-eqb, ne_eqb}
+use Rattle.std.proofs.Common.{◌≡◌, ℕ, ◌+◌, ◌-◌, ◌*◌, ◌/◌, ◌%◌, ◌^◌, ◌<◌, ◌≤◌, min, lt_of_not-le, true, not, eqb, ◌⊎◌, inl, inr, List, get_or, sym, ap}
+use Rattle.std.proofs.Common.{◌∙◌, ap₂, add-zero, mod-eq_of_lt, le_of_lt, sub-add_cancel, mul-le-mul_right, eq-zero-or-pos, zero-mul, arith, pow_pos}
+use Rattle.std.proofs.Common.{eq-eqb, ne_eqb}
 use native.Mathlib.Nat.{add-mul-mod_self_right}
 use native.Mathlib.Decide.{dec_le}
 use lib.ListN.{get_or-eq_default}

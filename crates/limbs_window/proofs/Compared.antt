@@ -1,5 +1,6 @@
 -- How two numbers compare, and two windows from their highest words on.
-use Rattle.std.proofs.Common.{◌≡◌, ℕ, ◌-◌, ◌<◌, ◌≤◌, Bool, List, get_or, ltb, ap, ap₂, subst, refl, le_of_lt, le_of_eq, lt_of_not-le, sym, ◌∙◌, arith, lt-ltb, le-ltb}
+use Rattle.std.proofs.Common.{◌≡◌, ℕ, ◌-◌, ◌<◌, ◌≤◌, Bool, List, get_or, ltb, ap, ap₂, subst, refl, le_of_lt, le_of_eq, lt_of_not-le, sym, ◌∙◌, arith}
+use Rattle.std.proofs.Common.{lt-ltb, le-ltb}
 use native.Mathlib.Decide.{dec_le}
 use lib.ListN.{get_or-eq_default}
 use Rattle.std.specs.declared.cmp.Ordering.{Ordering}

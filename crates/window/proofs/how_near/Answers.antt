@@ -16,7 +16,8 @@ greater d m e f g = sym (compared-greater d m) ∙ ap is_gt (sym e) ∙ sym f �
 pub returns-then-is_gt : goal.returns-then-is_gt
 returns-then-is_gt c =
     rw (
-      less (value c.args.magnitude % 2 ^ c.args.rest) (2 ^ 65) (rw (c.low_bits-below.ensures, c.power-margin.ensures) at c.compare.ensures) c.is_lt.ensures c.if-is_lt.false,
+      less (value c.args.magnitude % 2 ^ c.args.rest) (2 ^ 65) (rw (c.low_bits-below.ensures, c.power-margin.ensures) at c.compare.ensures)
+          c.is_lt.ensures c.if-is_lt.false,
       greater (value c.args.magnitude % 2 ^ c.args.rest) (2 ^ c.args.rest - 2 ^ 65)
           (rw (c.low_bits-below.ensures, ceiling-is c.args.rest _ _ _ c.requires.0 c.requires.1 c.power.ensures c.power-margin.ensures c.sub-ceiling.ensures)
           at c.compare-2.ensures) c.is_gt.ensures c.if-is_gt.true,

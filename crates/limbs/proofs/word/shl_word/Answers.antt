@@ -1,0 +1,5 @@
+use Rattle.limbs.proofs.Funnel.{shl-law}
+use Rattle.limbs.proofs.word.shl_word.Goals as goal
+
+pub returns : goal.returns
+returns c = shl-law c.args.a c.args.carry c.args.offset c.ranges.a.fits c.requires.0 c.requires.1
