@@ -8,13 +8,13 @@ ghost use Rattle.limbs_term.specs.Placed.{flip, Lays, Turns, Settles};
 use limbs::word::{shl_word, split};
 use limbs_window::{add, shl, sub};
 
-// The last word of a window from which three words lie within it, and two.
+// The last word of a window from which on three words lie within it, and two.
 const LAST_OF_THREE: usize = 9;
 
 const LAST_OF_TWO: usize = 10;
 
 // A term's part within the window, in words from the word `at` on: what lies past the window's end is left off, and where all of it does, it is not
-// inside.
+// inside. No Option: its words are zeros then, and `settle` promises what they make with a sign there too.
 #[derive(Clone, Copy)]
 pub struct Laid {
     pub at: usize,
@@ -93,7 +93,8 @@ fn lay(low: u64, high: u64, up: usize) -> Laid
     }
 }
 
-// The same of a term of one word, which reaches two.
+// The same of a term of one word, which reaches two. Not one function by a size: at the window's last word but one a third word has room or none by the
+// size alone, so each case would ask for it again.
 fn lay_single(low: u64, up: usize) -> Laid
     ensures { Lays 10 result.v1 (term low 0 up) result × (result.v2 ≡ 0) }
 {

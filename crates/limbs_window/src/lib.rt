@@ -53,6 +53,7 @@ pub fn negate(a: [u64; 12]) -> [u64; 12]
     sub([0; 12], a)
 }
 
+// Whether no word has a bit.
 pub fn is_zero(a: [u64; 12]) -> bool
     ensures { result ≡ eqb (value a) 0 }
 {
