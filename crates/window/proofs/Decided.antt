@@ -1,8 +1,8 @@
 -- The step that the definitions' chain takes, by the tests that the code makes; and the code's step follows it.
 use mathlib.Core.Path.{◌≡◌, refl, sym, ap, ap₂, ◌∙◌, subst}
-use mathlib.Core.Bool.{Bool, true, false, not, ◌&&◌, beq, cond}
+use mathlib.Core.Bool.{Bool, true, false, not, ◌&&◌, beq, cond, true≢false}
 use mathlib.Core.Logic.{◌⊎◌, inl, inr}
-use Prim.Native.Nat.{ℕ, zero, suc, ◌+◌, ◌-◌, ◌*◌, ◌/◌, ◌%◌, ◌^◌, ◌≤◌, ◌<◌, max}
+use Prim.Native.Nat.{ℕ, zero, suc, ◌+◌, ◌-◌, ◌*◌, ◌/◌, ◌%◌, ◌^◌, ◌≤◌, ◌<◌}
 use native.Mathlib.Nat.{add-zero, pow-succ'}
 use native.Mathlib.Numerals.{add-one}
 use native.Mathlib.Omega.{arith}
@@ -10,7 +10,7 @@ use lib.Dec.{T, leb, ltb, eqb, ltb→lt, nltb→le, eqb→eq}
 use lib.Pow.{pow_mono}
 use lib.Ieee.{size}
 use lib.Ieee.Digits.{size-lt}
-use borrow.Author.Tests.{eq-eqb, ne_eqb, lt-ltb, le-ltb, le-leb, lt-leb}
+use borrow.Author.Tests.{eq-eqb, ne_eqb, le-leb, lt-leb}
 use Rattle.std.specs.declared.ops.ControlFlow.{ControlFlow}
 use Rattle.std.specs.declared.ops.ControlFlow.TheVariants.{Continue, Break}
 use Rattle.std.specs.Prelude.{Some}
@@ -18,8 +18,7 @@ use Rattle.limbs.specs.Value.{value}
 use Rattle.limbs.proofs.Length.{size-zero}
 use Rattle.totals_spec.specs.Basics as words
 use Rattle.totals_spec.specs.Chain as chain
-use Rattle.window.specs.Joined.{signed_of, boundary_of, bound_of, outcome_by, beside_of, near_by, counted, Ready, Goes, Bounds, Follows, total_of, Steps}
-use Rattle.window.specs.declared.Pass.{Pass}
+use Rattle.window.specs.Joined.{signed_of, boundary_of, bound_of, outcome_by, beside_of, near_by, counted, Goes, Bounds, Follows}
 use Rattle.window.specs.declared.Units.{Units}
 use Rattle.window.specs.declared.Chain.{Chain}
 use Rattle.window.specs.declared.Outcome.{Outcome}
@@ -32,51 +31,18 @@ use Rattle.window.specs.declared.Nearness.TheVariants.{Low, High, Between}
 pub counted-some : (w n lost : ℕ) → (n ≡ 0 → ⊥) → counted w n lost ≡ 1
 counted-some w n lost h = rw (ne_eqb n 0 h)
 
-pub counted-near : (w n lost : ℕ) → w ≤ lost + 63 → counted w n lost ≡ 1
-counted-near w n lost h = rw (le-ltb (lost + 63) w h) (same (eqb n 0))
-  where
-    same : (b : Bool) → ◌≡◌ {A = ℕ} (cond b 1 1) 1
-    same true = refl
-    same false = refl
-
-pub counted-far : (w n lost : ℕ) → n ≡ 0 → lost + 63 < w → counted w n lost ≡ (w - lost + 702) / 766
-counted-far w n lost e h = rw (eq-eqb n 0 e, lt-ltb (lost + 63) w h)
-
--- at least this one, and not more than there is room for
-pub record Fits (w n lost k : ℕ) : Type 0 where
-  pub one : 1 ≤ k
-  pub room : 766 * k ≤ max (w + n) (lost + 64)
-
-counted-fits : (w n lost : ℕ) → 1024 < lost → lost ≤ w → Fits w n lost (counted w n lost)
-counted-fits w n lost h l = go (eqb n 0) (eqb→eq n 0) (ltb (lost + 63) w) (ltb→lt (lost + 63) w)
-  where
-    go : (b : Bool) → (T b → n ≡ 0) → (t : Bool) → (T t → lost + 63 < w) → Fits w n lost (cond b (cond t ((w - lost + 702) / 766) 1) 1)
-    go false e t k = record { one = omega arith; room = omega arith }
-    go true e false k = record { one = omega arith; room = omega arith }
-    go true e true k = record { one = omega (arith, k tt); room = omega (arith, k tt) }
-
-pub ready-fits : (c : Chain) (n lost : ℕ) → Ready c lost → 0 < lost → Fits c.edge n lost (counted c.edge n lost)
-ready-fits c n lost h k = counted-fits c.edge n lost (h.high k) h.low
-
--- this pass lowers the edge to the next one, and each of the others by 766 more
-pub lowered : (w n lost k : ℕ) → Fits w n lost k → max (w + n) (lost + 64) - 766 * k + 766 * (k - 1) ≡ chain.next_edge w n lost
-lowered w n lost k f = omega arith
-
 -- ---- what `decide` says, by the tests
 
 -- a number of no bits is 0, and no other
 pub no_bits : (x : ℕ) → size x ≡ 0 → x ≡ 0
 no_bits x e = let h : x < 1 = subst (λ (n : ℕ). x < 2 ^ n) e (size-lt x) in omega arith
 
-pub differ : true ≡ false → ⊥
-differ u = let z : ◌≡◌ {A = ℕ} 0 1 = cc in omega arith
-
 pub bits : (n x : ℕ) → n ≡ size x → eqb x 0 ≡ eqb n 0
 bits n x e = go (eqb n 0) (eqb→eq n 0) refl
   where
     go : (b : Bool) → (T b → n ≡ 0) → eqb n 0 ≡ b → eqb x 0 ≡ b
     go true h q = eq-eqb x 0 (no_bits x (sym e ∙ h tt))
-    go false h q = ne_eqb x 0 (λ z. differ (sym (eq-eqb n 0 (e ∙ ap size z ∙ size-zero)) ∙ q))
+    go false h q = ne_eqb x 0 (λ z. true≢false (sym (eq-eqb n 0 (e ∙ ap size z ∙ size-zero)) ∙ q))
 
 leb-ltb : (a b : ℕ) → leb a b ≡ not (ltb b a)
 leb-ltb a b = go (ltb b a) (ltb→lt b a) (nltb→le b a)
@@ -241,11 +207,3 @@ module _ (p : ℕ) (c : Chain) (s : Units) (n lost : ℕ) where
         sides true t q = rw q
         sides false true q = rw q
         sides false false q = rw q
-
--- S of a pass, as its sign and magnitude were worked out
-pub steps-by : (p : ℕ) (c : Chain) (q : Pass) (s : Units) (n : ℕ) (r : ControlFlow Outcome Chain) → signed_of s ≡ total_of q → n ≡ size (value s.whole)
-    → Follows r (chain.decide p (bound_of c) c.edge q.lost (signed_of s) n) (counted c.edge n q.lost) c → Steps p c q r
-steps-by p c q s n r e f h = subst (λ (x : words.Signed). By x (size x.mag)) e (subst (By (signed_of s)) f h)
-  where
-    By : words.Signed → ℕ → Type 0
-    By x k = Follows r (chain.decide p (bound_of c) c.edge q.lost x k) (counted c.edge k q.lost) c

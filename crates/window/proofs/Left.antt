@@ -26,7 +26,7 @@ use Rattle.window.specs.Joined.{outcome_by, Deep, Bordered, EndsWith, Roundable,
 use Rattle.window.specs.declared.Units.{Units}
 use Rattle.window.specs.declared.Outcome.{Outcome}
 use Rattle.window.specs.declared.Outcome.TheVariants as out
-use Rattle.window.proofs.Numbers.{fourfold, fourfold-small, one_less, above-is, below-is, midway}
+use Rattle.window.proofs.Numbers.{fourfold, one_less, above-is, below-is, midway}
 
 -- the window's number, narrowed
 module _ (s : Units) (v : Unrounded) where
@@ -67,14 +67,6 @@ module _ (s : Units) (v : Unrounded) where
     low = n.high;
     long = λ p l k t. size_reaches (significand_of v) p (omega (arith, n.long t, l, size_above (value s.whole) (p + 69) k.0));
   }
-
--- four times a boundary, or one less, is a number of two words
-module _ (m : ℕ) (some : 0 < m) (few : m ≤ 2 ^ 65) where
-  pub above-small : (x : ℕ) → x ≡ m * 2 ^ 2 % 2 ^ 768 → x < 2 ^ 128
-  above-small x e = fourfold-small m some few x (omega (arith, fourfold m some few x e))
-
-  pub below-small : (x y z : ℕ) → y ≡ m * 2 ^ 2 % 2 ^ 768 → z ≡ 2 ^ 0 % 2 ^ 768 → x ≡ (y + (2 ^ 768 - z % 2 ^ 768)) % 2 ^ 768 → x < 2 ^ 128
-  below-small x y z ey ez e = fourfold-small m some few x (omega (arith, one_less m some few y z x ey ez e))
 
 -- a quarter of a unit off the boundary: x is four times its whole number, or one less
 module _ (b : Units) (v : Unrounded) (x : ℕ) (deep : 3 ≤ b.place) (some : 0 < value b.whole) (few : value b.whole ≤ 2 ^ 65) (a : Quarters b.negative b.place x v) where
