@@ -1,13 +1,13 @@
 -- Overflow: numbers above the largest, the largest number, and what an overflow gives.
 use mathlib.Core.Path.{◌≡◌, refl, sym, ap, ap₂, ◌∙◌, subst}
-use mathlib.Core.Bool.{Bool, true, false, ◌&&◌, and-false, true≢false}
+use mathlib.Core.Bool.{Bool, true, false, not, ◌&&◌, cond, and-false, true≢false}
 use Prim.Native.Nat.{ℕ, zero, suc, ◌+◌, ◌-◌, ◌*◌, ◌^◌, ◌≤◌, ◌<◌}
 use native.Mathlib.Nat.{le_trans, le_of_lt, lt_of_lt_of_le, not-le_of_lt, lt_of_not-le, sub_self, mul-one, one-mul, mul-le-mul_right}
 use native.Mathlib.Omega.{arith}
-use lib.Dec.{leb, eqb}
+use lib.Dec.{T, leb, ltb, eqb, ltb→lt, nltb→le}
 use lib.Pow.{pow_pos, pow_mono}
 use lib.Ieee.{size}
-use borrow.Author.Tests.{eq-eqb, le-leb, lt-leb, ne_eqb}
+use borrow.Author.Tests.{eqb-true, eqb-false, eq-eqb, le-leb, lt-leb, ne_eqb}
 use Rattle.totals_spec.specs.Format.{Format, kind_of, digits, emax_at, exponent_range}
 use Rattle.totals_spec.specs.Settings.{Settings, rounding_of}
 use Rattle.totals_spec.specs.Decode.{Unpacked, finite, infinity, nan}
@@ -71,6 +71,29 @@ module _ (f : Format) (q g k l : ℕ) (q0 : 1 ≤ q) (p0 : 1 ≤ digits f) (sz :
 
       same : (2 ^ q - 1) * 2 ^ l ≡ all_ones f g p0
       same = ap₂ (λ (a b : ℕ). (2 ^ a - 1) * 2 ^ b) d place
+
+  -- at emax: NoInf's pattern of all ones
+  pub over-top : l + (q - 1) ≡ emax_at f g
+      → cond (is_no_inf (kind_of f.kind) && eqb q (digits f)) (eqb k (2 ^ q - 1)) false ≡ overflows f q g (k * 2 ^ l)
+  over-top h = go (is_no_inf (kind_of f.kind)) refl (eqb q (digits f)) refl
+    where
+      go : (n : Bool) → is_no_inf (kind_of f.kind) ≡ n → (d : Bool) → eqb q (digits f) ≡ d → cond (n && d) (eqb k (2 ^ q - 1)) false ≡ overflows f q g (k * 2 ^ l)
+      go true n true d = over-at h n (eqb-true q (digits f) d)
+      go true n false d = sym (over-digits (omega arith) n (eqb-false q (digits f) d))
+      go false n d e = sym (over-kind (omega arith) n)
+
+  -- where its highest bit is not at emax, that alone tells
+  pub over-off : (l + (q - 1) ≡ emax_at f g → ⊥) → ltb (emax_at f g) (l + (q - 1)) ≡ overflows f q g (k * 2 ^ l)
+  over-off h = go (ltb (emax_at f g) (l + (q - 1))) (ltb→lt (emax_at f g) (l + (q - 1))) (nltb→le (emax_at f g) (l + (q - 1)))
+    where
+      below : l + (q - 1) < emax_at f g → (b : Bool) → is_no_inf (kind_of f.kind) ≡ b → (d : Bool) → eqb q (digits f) ≡ d → false ≡ overflows f q g (k * 2 ^ l)
+      below u false n d e = sym (over-kind (le_of_lt u) n)
+      below u true n true e = sym (over-lower u n (eqb-true q (digits f) e))
+      below u true n false e = sym (over-digits (le_of_lt u) n (eqb-false q (digits f) e))
+
+      go : (b : Bool) → (T b → emax_at f g < l + (q - 1)) → (T (not b) → l + (q - 1) ≤ emax_at f g) → b ≡ overflows f q g (k * 2 ^ l)
+      go true a n = sym (over-above (a tt))
+      go false a n = let m = n tt in below (omega arith) (is_no_inf (kind_of f.kind)) refl (eqb q (digits f)) refl
 
   -- where it does not overflow, its exponent is at most emax
   pub over-not : overflows f q g (k * 2 ^ l) ≡ false → l + q ≤ suc (emax_at f g)

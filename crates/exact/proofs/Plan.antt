@@ -116,9 +116,6 @@ module _ {f : Format} {c : Settings} {g : ℕ} {v : Unrounded} {end : ℕ} (B : 
 
   -- below emin, cut at the subnormal grid
   module _ (h : end ≤ emin_at f g) where
-    pub small_word : v.position + bit_length (significand_of v) ≤ g + (digits f - q) + 64
-    small_word = omega (arith, B.is, h, p-most, Q.1, Q.2)
-
     pub small-sticky : v.sticky ≡ true → v.position < g + (digits f - q)
     small-sticky t = omega (arith, B.is, h, sticky-long t, Q.1, Q.2)
 

@@ -20,7 +20,7 @@ use format::env::{INEXACT, OVERFLOW, ROUNDED_UP, Settings, flag, precision_withi
 use format::unpacked::Unpacked;
 use format::{Format, digits, emax, emin, exponent_range};
 use limbs::pair;
-use limbs::word::{either, funnel, ones, power, scaled};
+use limbs::word::{funnel, ones, power, scaled};
 
 // A magnitude to round: the significand high * 2^64 + low, times 2^position units, or with a sticky bit any number between that and significand + 1
 // of these.
@@ -75,7 +75,7 @@ pub fn narrowed(negative: bool, sticky: bool, position: u64, w: [u64; 12]) -> Un
     let under = top - 1;
     Unrounded {
         negative,
-        sticky: either(sticky, limbs_window::any_below(w, 64 * under)),
+        sticky: sticky || limbs_window::any_below(w, 64 * under),
         position: position + 64 * (under as u64),
         low: w[under],
         high: w[top],
@@ -99,10 +99,7 @@ impl Unrounded {
     pub fn is_nothing(self) -> bool
         ensures { result ≡ eqb (significand_of self) 0 }
     {
-        if self.low != 0 {
-            return false;
-        }
-        self.high == 0
+        self.low == 0 && self.high == 0
     }
 
     // The digits of the significand.
@@ -126,11 +123,10 @@ impl Unrounded {
         }
         let below = (lowest - self.position - 1) as usize;
         let one = pair::shr(self.low, self.high, below);
-        let rest = either(self.sticky, pair::any_below(self.low, self.high, below));
-        let d = Dropped::new(one.low % 2 == 1, rest);
+        let rest = self.sticky || pair::any_below(self.low, self.high, below);
         Cut {
             kept: funnel(one.low, one.high, 1),
-            dropped: d,
+            dropped: Dropped::new(one.low % 2 == 1, rest),
         }
     }
 }
@@ -147,26 +143,26 @@ fn first_digits(rounding: u64, v: Unrounded, end: u64, q: u64) -> Digits
     let up = rounds_up(rounding, v.negative, first.kept, d);
     let inexact = d.is_inexact();
     if !up {
-        return Digits {
+        Digits {
             kept: first.kept,
             lowest,
             up,
             inexact,
-        };
-    }
-    if first.kept < ones(q) {
-        return Digits {
+        }
+    } else if first.kept < ones(q) {
+        Digits {
             kept: first.kept + 1,
             lowest,
             up,
             inexact,
-        };
-    }
-    Digits {
-        kept: power(q - 1),
-        lowest: lowest + 1,
-        up,
-        inexact,
+        }
+    } else {
+        Digits {
+            kept: power(q - 1),
+            lowest: lowest + 1,
+            up,
+            inexact,
+        }
     }
 }
 
@@ -178,19 +174,10 @@ fn overflows(f: Format, q: u64, g: u64, kept: u64, lowest: u64) -> bool
 {
     let top = lowest + (q - 1);
     let most = emax(f, g);
-    if top > most {
-        return true;
-    }
-    if f.kind != 1 {
-        return false;
-    }
-    if q != digits(f) {
-        return false;
-    }
     if top != most {
-        return false;
+        return top > most;
     }
-    kept == ones(q)
+    f.kind == 1 && q == digits(f) && kept == ones(q)
 }
 
 // The largest finite number of q digits.
@@ -200,20 +187,10 @@ fn largest(f: Format, q: u64, negative: bool) -> Unpacked
 {
     let p = digits(f);
     let all = scaled(ones(q), p - q);
-    let shift = exponent_range(f);
-    if f.kind == 1 {
-        if q == p {
-            return Unpacked::Finite {
-                negative,
-                shift,
-                significand: all - 1,
-            };
-        }
-    }
     Unpacked::Finite {
         negative,
-        shift,
-        significand: all,
+        shift: exponent_range(f),
+        significand: if f.kind == 1 && q == p { all - 1 } else { all },
     }
 }
 
@@ -231,28 +208,23 @@ fn overflow(f: Format, c: Settings, q: u64, negative: bool) -> Rounded
         value: largest(f, q, negative),
         flags: OVERFLOWED,
     };
-    if c.saturate != 0 {
+    if c.saturate != 0 || !overflows_to_infinity(c.rounding, negative) {
         return most;
     }
-    if !overflows_to_infinity(c.rounding, negative) {
-        return most;
-    }
-    if f.kind == 0 {
-        return Rounded {
+    match f.kind {
+        0 => Rounded {
             value: Unpacked::Infinity(negative),
             flags: OVERFLOWED_UP,
-        };
-    }
-    if f.kind == 3 {
-        return most;
-    }
-    Rounded {
-        value: Unpacked::Nan {
-            negative,
-            signaling: false,
-            payload: 0,
         },
-        flags: most.flags,
+        3 => most,
+        _ => Rounded {
+            value: Unpacked::Nan {
+                negative,
+                signaling: false,
+                payload: 0,
+            },
+            ..most
+        },
     }
 }
 
@@ -279,10 +251,7 @@ fn round_normal(f: Format, c: Settings, g: u64, v: Unrounded, q: u64, d: Digits)
 fn is_tiny(tininess: u64, end: u64, least: u64) -> bool
     ensures { result ≡ cond (basics.is_set tininess) (leb end least) true }
 {
-    if tininess == 0 {
-        return true;
-    }
-    end <= least
+    tininess == 0 || end <= least
 }
 
 // Digits on the subnormal grid.
@@ -291,12 +260,13 @@ fn small_number(negative: bool, kept: u64, n: u64) -> Unpacked
     ensures { unpacked_of result ≡ small_of negative kept n }
 {
     if kept == 0 {
-        return Unpacked::Zero(negative);
-    }
-    Unpacked::Finite {
-        negative,
-        shift: 0,
-        significand: scaled(kept, n),
+        Unpacked::Zero(negative)
+    } else {
+        Unpacked::Finite {
+            negative,
+            shift: 0,
+            significand: scaled(kept, n),
+        }
     }
 }
 

@@ -21,27 +21,18 @@ impl Dropped {
     pub fn new(first: bool, rest: bool) -> Self
         ensures { dropped_of result ≡ dropped_by first rest }
     {
-        if first {
-            if rest {
-                return Dropped::AboveHalf;
-            }
-            return Dropped::Half;
+        match (first, rest) {
+            (true, true) => Dropped::AboveHalf,
+            (true, false) => Dropped::Half,
+            (false, true) => Dropped::BelowHalf,
+            (false, false) => Dropped::Nothing,
         }
-        if rest {
-            return Dropped::BelowHalf;
-        }
-        Dropped::Nothing
     }
 
     pub fn is_inexact(self) -> bool
         ensures { result ≡ spec.inexact (dropped_of self) }
     {
-        match self {
-            Dropped::Nothing => false,
-            Dropped::BelowHalf => true,
-            Dropped::Half => true,
-            Dropped::AboveHalf => true,
-        }
+        !matches!(self, Dropped::Nothing)
     }
 }
 
@@ -50,8 +41,7 @@ fn nearest(d: Dropped, tie: bool) -> bool
     ensures { result ≡ nearest_up (dropped_of d) tie }
 {
     match d {
-        Dropped::Nothing => false,
-        Dropped::BelowHalf => false,
+        Dropped::Nothing | Dropped::BelowHalf => false,
         Dropped::Half => tie,
         Dropped::AboveHalf => true,
     }
@@ -102,18 +92,14 @@ impl Underflow {
     pub fn new(tiny: bool, inexact: bool, flush_to_zero: u64) -> Self
         ensures { result ≡ underflow_of tiny inexact (basics.is_set flush_to_zero) }
     {
-        if tiny {
-            if flush_to_zero != 0 {
-                return Underflow::Flushed(TINY_INEXACT);
-            }
-            if inexact {
-                return Underflow::Kept(TINY_INEXACT);
-            }
-            return Underflow::Kept(TINY);
+        if tiny && flush_to_zero != 0 {
+            return Underflow::Flushed(TINY_INEXACT);
         }
-        if inexact {
-            return Underflow::Kept(INEXACT);
-        }
-        Underflow::Kept(0)
+        Underflow::Kept(match (tiny, inexact) {
+            (true, true) => TINY_INEXACT,
+            (true, false) => TINY,
+            (false, true) => INEXACT,
+            (false, false) => 0,
+        })
     }
 }

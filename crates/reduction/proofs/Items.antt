@@ -36,8 +36,10 @@ use Rattle.binary.proofs.Blank.{operand-blank}
 use Rattle.values.specs.declared.Source.{Source}
 use Rattle.values.specs.Sources.{elements}
 use Rattle.values.specs.Tens.{tens_items}
-use Rattle.values.specs.Walks.{Known, items_of, added_by}
+use Rattle.values.specs.declared.Walk.{Walk}
+use Rattle.values.specs.Walks.{wide, Known, items_of, added_by, added_in, read_as, is_dot, is_hundred}
 use Rattle.values.proofs.Sources.{elements-length}
+use Rattle.values.proofs.Walks.{read_length}
 use Rattle.scan.specs.Walked.{subnormal_in, signaling_in, operands_in}
 use Rattle.reduction.specs.Answered.{given_as, products_in, first_in, Accepted, answer_in}
 use Rattle.reduction.proofs.Loop.{Base, sum-base, dot-base, hundred-base, tens-base}
@@ -184,3 +186,12 @@ module _ (f : Format) (c : Settings) (u : ℕ) (x y : List ℕ) where
       ap (λ (z : Format). with_spread (answer_by true false z)) g ∙ rw (square-is u, e, first-is u) (sym (supported-record c _ _ _ _ s))
   answer-is false true e a = rw (three u (eqb-true u 3 e), e)
   answer-is false false e a = rw (square-is u, e, first-is u)
+
+-- what the loop of passes may count on, for the walk k
+pub walk-base : (f : Format) (c : Settings) (k : Walk) (lw lb rw' rb : List ℕ) {p top : ℕ} → Known (wide f) f → p ≤ 64 → k.source.count ≤ limit
+    → top ≡ top_of (terms (added_in f c k lw lb rw' rb)) → 0 < top → Base p (terms (added_in f c k lw lb rw' rb))
+walk-base f c k lw lb rw' rb h d n e g =
+    let left = read_length (wide f) k.source lw lb in
+    let right = read_length (wide f) k.source rw' rb in
+    added-base f c (summand_of k.summand) (read_as (wide f) k.source lw lb) (read_as (wide f) k.source rw' rb) d (wide f) h (right ∙ sym left)
+    (rw left n) (is_dot k) (is_hundred k) (rw e at g)

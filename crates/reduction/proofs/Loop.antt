@@ -1,13 +1,14 @@
 -- What the loop of passes may count on, for the terms of an accepted list, of words or of bytes.
-use mathlib.Core.Path.{◌≡◌, sym, ap, ◌∙◌}
+use mathlib.Core.Path.{◌≡◌, sym, ◌∙◌}
 use mathlib.Core.Bool.{Bool, true, false}
 use mathlib.Core.List.{List, [], ◌∷◌, map}
-use Prim.Native.Nat.{ℕ, ◌+◌, ◌-◌, ◌≤◌, ◌<◌}
+use Prim.Native.Nat.{ℕ, ◌+◌, ◌≤◌, ◌<◌}
 use native.Mathlib.Nat.{le_trans, not-suc-le-zero, zero-lt-suc}
 use native.Mathlib.Omega.{arith}
 use lib.Dec.{lit≤}
 use lib.ListN.{length, length-map}
 use lib.Pow.{pow_mono}
+use Rattle.std.specs.declared.ops.ControlFlow.TheVariants.{Continue, Break}
 use Rattle.totals_spec.specs.Format.{Format}
 use Rattle.totals_spec.specs.Settings.{Settings, Summand}
 use Rattle.totals_spec.specs.Bounds.{RangeBounds}
@@ -26,9 +27,7 @@ use Rattle.totals_spec.proofs.Edges.{first_edge}
 use Rattle.values.specs.Tens.{tens_items}
 use Rattle.window.specs.declared.Pass.{Pass}
 use Rattle.window.specs.declared.Chain.{Chain}
-use Rattle.window.specs.declared.Step.{Step}
 use Rattle.window.specs.declared.Outcome.{Outcome}
-use Rattle.window.specs.declared.Verdict.TheVariants.{Done, Next}
 use Rattle.window.specs.Joined.{Passed, Ready, Steps, started}
 use Rattle.window.proofs.Walked.{Walked, Lower, walked_start, walked-ready, walked_next, walked-done}
 use Rattle.reduction.specs.Held.{Sums}
@@ -102,18 +101,14 @@ loop-start {ts} b = first_edge ts b.good b.some
 
 module _ {p : ℕ} {ts : List Term} (b : Base p ts) where
   pub loop-holds-at : (c : Chain) {top : ℕ} → top ≡ top_of ts → c ≡ started top → Walked p ts c
-  loop-holds-at c e h =
-      walked_start p ts b.digits_le b.good b.few b.small b.some c (ap (λ (k : Chain). k.near) h) (ap (λ (k : Chain). k.passes) h)
-      (ap (λ (k : Chain). k.edge) h ∙ ap (λ (n : ℕ). n - 702) e)
+  loop-holds-at c e h = rw (h, e) (walked_start p ts b.digits_le b.good b.few b.small b.some)
 
   module _ (c : Chain) (q : Pass) (h : Walked p ts c) (g : Passed ts c.edge q) where
     pub loop-ready : (p ≤ 64) × Ready c q.lost
     loop-ready = (b.digits_le, walked-ready p ts b.digits_le b.good b.few b.small c q h g)
 
-    pub loop-next : (r : Step) → Steps p c q r → r.verdict ≡ Next → Lower p ts c r.chain
-    loop-next r s v = walked_next p ts b.digits_le b.good b.few b.small c q h g r s v
+    pub loop-next : (r : Chain) → Steps p c q (Continue r) → Lower p ts c r
+    loop-next r s = walked_next p ts b.digits_le b.good b.few b.small c q h g r s
 
-    pub loop-done : (r : Step) (o : Outcome) → Steps p c q r → r.verdict ≡ Done o → Sums p ts (record { outcome = o; chain = r.chain })
-    loop-done r o s v =
-        let d = walked-done p ts b.digits_le b.good b.few b.small c q h g r o s v in
-        record { run = sym d.0; ended = d.1 }
+    pub loop-done : (o : Outcome) → Steps p c q (Break o) → Sums p ts (record { outcome = o; passes = c.passes + 1; edge = c.edge })
+    loop-done o s = let d = walked-done p ts b.digits_le b.good b.few b.small c q h g o s in record { run = d.0; ended = d.1 }

@@ -20,7 +20,7 @@ ghost use Rattle.reduction.specs.Answered.{words_as, written_as, answer_of, answ
 
 use binary::encode;
 use binary::extended::encode as encode_ten;
-use exact::{Rounded, Unrounded, nothing, round};
+use exact::{Rounded, Unrounded, round};
 use format::env::{
     DENORMAL_INPUT, INEXACT, INVALID, ROUNDED_UP, Settings, flag, has_flag, zero_sum_is_negative,
     zero_sum_sign,
@@ -28,7 +28,7 @@ use format::env::{
 use format::unpacked::Unpacked;
 use format::{Format, depth, fall, grid, lift, origin, rise};
 use values::Ten;
-use window::{ExactSum, Outcome, near_boundary};
+use window::ExactSum;
 
 // Where a result lies beside the exact sum. A NaN or an infinity is not compared.
 pub const EQUAL: u64 = 0;
@@ -148,11 +148,7 @@ pub fn left(p: u64, e: ExactSum) -> Unrounded
     requires { (p ≤ 64) × Ended p e }
     ensures { LeftOf p (settled.settled (outcome_of e)) result }
 {
-    let o = e.outcome;
-    let Outcome::Zero = o else {
-        return near_boundary(e);
-    };
-    nothing()
+    e.outcome.left()
 }
 
 // The exact sum, of which v is left, counted from a unit `up` positions lower and rounded once on the grid g. Terms that cancel give a zero.
@@ -211,9 +207,8 @@ pub fn finish(
     let r = round_sum(f, c, grid(f, products), rise(f, products), v);
     let x = r.value;
     let b = encoded(f, x);
-    let h = e.chain;
-    let last_edge = position_of(h.edge + fall(f, products), origin(f, products));
-    let answer = recorded(subnormal, b.significand, r, h.passes, last_edge);
+    let last_edge = position_of(e.edge + fall(f, products), origin(f, products));
+    let answer = recorded(subnormal, b.significand, r, e.passes, last_edge);
     Wide {
         head: b.head,
         answer,

@@ -18,8 +18,9 @@ use format::Format;
 use format::env::Settings;
 use limbs::word::{add_word, larger};
 use limbs_term::{goes_on, move_term, settle, settle_single};
+use std::ops::ControlFlow;
 use values::{HUNDREDFOLD, Source, Walk, element};
-use window::{ExactSum, Pass, Verdict, advance, start, window_part};
+use window::{Chain, ExactSum, Pass, window_part};
 
 // One pass at the edge w over the values or magnitudes of a list: terms of one word, which reach two words of the window. Only these are stored, unless a
 // carry goes on. A zero, as of a missing month, ends its turn at once: where it is told, here and for squares, is what was measured to be fastest.
@@ -265,7 +266,7 @@ pub fn exact(
     requires top_value { (top ≡ terms.top_of (terms.terms (added_in (format_of f) (settings_of c) k left_words.now left_bytes.now right_words.now right_bytes.now))) × (0 < top) }
     ensures { Sums p (terms.terms (added_in (format_of f) (settings_of c) k left_words.now left_bytes.now right_words.now right_bytes.now)) result }
 {
-    let mut at = start(top);
+    let mut at = Chain::start(top);
     let outcome = loop {
         let q = pass(
             f,
@@ -277,13 +278,14 @@ pub fn exact(
             right_bytes,
             at.edge,
         );
-        let s = advance(p, at, q);
-        let next = s.chain;
-        at = next;
-        let v = s.verdict;
-        if let Verdict::Done(o) = v {
-            break o;
+        match at.advance(p, q) {
+            ControlFlow::Continue(next) => at = next,
+            ControlFlow::Break(outcome) => break outcome,
         }
     };
-    ExactSum { outcome, chain: at }
+    ExactSum {
+        outcome,
+        passes: at.passes + 1,
+        edge: at.edge,
+    }
 }

@@ -1,7 +1,8 @@
 -- The step that the definitions' chain takes, by the tests that the code makes; and the code's step follows it.
 use mathlib.Core.Path.{◌≡◌, refl, sym, ap, ap₂, ◌∙◌, subst}
-use mathlib.Core.Bool.{Bool, true, false, not, ◌&&◌, beq, cond}
-use Prim.Native.Nat.{ℕ, zero, suc, ◌+◌, ◌-◌, ◌*◌, ◌/◌, ◌%◌, ◌^◌, ◌≤◌, ◌<◌, max}
+use mathlib.Core.Bool.{Bool, true, false, not, ◌&&◌, beq, cond, true≢false}
+use mathlib.Core.Logic.{◌⊎◌, inl, inr}
+use Prim.Native.Nat.{ℕ, zero, suc, ◌+◌, ◌-◌, ◌*◌, ◌/◌, ◌%◌, ◌^◌, ◌≤◌, ◌<◌}
 use native.Mathlib.Nat.{add-zero, pow-succ'}
 use native.Mathlib.Numerals.{add-one}
 use native.Mathlib.Omega.{arith}
@@ -9,20 +10,19 @@ use lib.Dec.{T, leb, ltb, eqb, ltb→lt, nltb→le, eqb→eq}
 use lib.Pow.{pow_mono}
 use lib.Ieee.{size}
 use lib.Ieee.Digits.{size-lt}
-use borrow.Author.Tests.{eqb-true, eqb-false, eq-eqb, ne_eqb, lt-ltb, le-ltb, le-leb, lt-leb}
+use borrow.Author.Tests.{eq-eqb, ne_eqb, le-leb, lt-leb}
+use Rattle.std.specs.declared.ops.ControlFlow.{ControlFlow}
+use Rattle.std.specs.declared.ops.ControlFlow.TheVariants.{Continue, Break}
+use Rattle.std.specs.Prelude.{Some}
 use Rattle.limbs.specs.Value.{value}
 use Rattle.limbs.proofs.Length.{size-zero}
 use Rattle.totals_spec.specs.Basics as words
 use Rattle.totals_spec.specs.Chain as chain
-use Rattle.window.specs.Joined.{signed_of, bound_by, bound_of, outcome_by, sided_of, exact_of, near_by, counted}
-use Rattle.window.specs.Joined.{Ready, Ends, Sides, Goes, Bounds, Follows, total_of, Steps}
-use Rattle.window.specs.declared.Pass.{Pass}
-use Rattle.window.specs.declared.Signed.{Signed}
+use Rattle.window.specs.Joined.{signed_of, boundary_of, bound_of, outcome_by, beside_of, near_by, counted, Goes, Bounds, Follows}
+use Rattle.window.specs.declared.Units.{Units}
 use Rattle.window.specs.declared.Chain.{Chain}
-use Rattle.window.specs.declared.Step.{Step}
 use Rattle.window.specs.declared.Outcome.{Outcome}
 use Rattle.window.specs.declared.Outcome.TheVariants as out
-use Rattle.window.specs.declared.Verdict.TheVariants.{Done, Next}
 use Rattle.window.specs.declared.Nearness.{Nearness}
 use Rattle.window.specs.declared.Nearness.TheVariants.{Low, High, Between}
 
@@ -31,51 +31,18 @@ use Rattle.window.specs.declared.Nearness.TheVariants.{Low, High, Between}
 pub counted-some : (w n lost : ℕ) → (n ≡ 0 → ⊥) → counted w n lost ≡ 1
 counted-some w n lost h = rw (ne_eqb n 0 h)
 
-pub counted-near : (w n lost : ℕ) → w ≤ lost + 63 → counted w n lost ≡ 1
-counted-near w n lost h = rw (le-ltb (lost + 63) w h) (same (eqb n 0))
-  where
-    same : (b : Bool) → ◌≡◌ {A = ℕ} (cond b 1 1) 1
-    same true = refl
-    same false = refl
-
-pub counted-far : (w n lost : ℕ) → n ≡ 0 → lost + 63 < w → counted w n lost ≡ (w - lost + 702) / 766
-counted-far w n lost e h = rw (eq-eqb n 0 e, lt-ltb (lost + 63) w h)
-
--- at least this one, and not more than there is room for
-pub record Fits (w n lost k : ℕ) : Type 0 where
-  pub one : 1 ≤ k
-  pub room : 766 * k ≤ max (w + n) (lost + 64)
-
-counted-fits : (w n lost : ℕ) → 1024 < lost → lost ≤ w → Fits w n lost (counted w n lost)
-counted-fits w n lost h l = go (eqb n 0) (eqb→eq n 0) (ltb (lost + 63) w) (ltb→lt (lost + 63) w)
-  where
-    go : (b : Bool) → (T b → n ≡ 0) → (t : Bool) → (T t → lost + 63 < w) → Fits w n lost (cond b (cond t ((w - lost + 702) / 766) 1) 1)
-    go false e t k = record { one = omega arith; room = omega arith }
-    go true e false k = record { one = omega arith; room = omega arith }
-    go true e true k = record { one = omega (arith, k tt); room = omega (arith, k tt) }
-
-pub ready-fits : (c : Chain) (n lost : ℕ) → Ready c lost → 0 < lost → Fits c.edge n lost (counted c.edge n lost)
-ready-fits c n lost h k = counted-fits c.edge n lost (h.high k) h.low
-
--- this pass lowers the edge to the next one, and each of the others by 766 more
-pub lowered : (w n lost k : ℕ) → Fits w n lost k → max (w + n) (lost + 64) - 766 * k + 766 * (k - 1) ≡ chain.next_edge w n lost
-lowered w n lost k f = omega arith
-
 -- ---- what `decide` says, by the tests
 
 -- a number of no bits is 0, and no other
 pub no_bits : (x : ℕ) → size x ≡ 0 → x ≡ 0
 no_bits x e = let h : x < 1 = subst (λ (n : ℕ). x < 2 ^ n) e (size-lt x) in omega arith
 
-pub differ : true ≡ false → ⊥
-differ u = let z : ◌≡◌ {A = ℕ} 0 1 = cc in omega arith
-
 pub bits : (n x : ℕ) → n ≡ size x → eqb x 0 ≡ eqb n 0
 bits n x e = go (eqb n 0) (eqb→eq n 0) refl
   where
     go : (b : Bool) → (T b → n ≡ 0) → eqb n 0 ≡ b → eqb x 0 ≡ b
     go true h q = eq-eqb x 0 (no_bits x (sym e ∙ h tt))
-    go false h q = ne_eqb x 0 (λ z. differ (sym (eq-eqb n 0 (e ∙ ap size z ∙ size-zero)) ∙ q))
+    go false h q = ne_eqb x 0 (λ z. true≢false (sym (eq-eqb n 0 (e ∙ ap size z ∙ size-zero)) ∙ q))
 
 leb-ltb : (a b : ℕ) → leb a b ≡ not (ltb b a)
 leb-ltb a b = go (ltb b a) (ltb→lt b a) (nltb→le b a)
@@ -165,124 +132,78 @@ module _ (p w : ℕ) (x : words.Signed) (n lost : ℕ) where
 
 -- ---- the code's step is that step
 
-module _ (c : Chain) (r : Step) (d : chain.Step) (k : ℕ) where
-  done-follows : (o : Outcome) → r.verdict ≡ Done o → d ≡ chain.done (outcome_by o r.chain) → r.chain.passes ≡ c.passes + 1 → r.chain.edge ≡ c.edge
-      → Follows r.verdict d k c r.chain
-  done-follows o v e f g = rw v (e, f, g)
+-- the chain goes on at a lower edge
+pub goes-on : (c r : Chain) (d : chain.Step) (n lost : ℕ) → d ≡ chain.next (bound_of c) (chain.next_edge c.edge n lost) → Goes n lost c r
+    → Follows (Continue r) d (counted c.edge n lost) c
+goes-on c r d n lost e g = (e ∙ ap₂ chain.next (ap boundary_of (sym g.boundary)) (sym g.edge), g.passes)
 
-  next-follows : r.verdict ≡ Next → d ≡ chain.next (bound_of r.chain) (r.chain.edge + 766 * (k - 1)) → r.chain.passes ≡ c.passes + k
-      → Follows r.verdict d k c r.chain
-  next-follows v e f = rw v (e, f)
-
-same-bound : (c d : Chain) → d.near ≡ c.near → d.negative ≡ c.negative → d.place ≡ c.place → d.whole ≡ c.whole → bound_of d ≡ bound_of c
-same-bound c d e f g h = ap (λ (b : Bool). bound_by b d) e ∙ go c.near
-  where
-    go : (b : Bool) → bound_by b d ≡ bound_by b c
-    go true = cc
-    go false = refl
-
-module _ (p : ℕ) (c : Chain) (s : Signed) (n lost : ℕ) (r : Step) where
-  abbrev with : chain.Boundary → chain.Step
-  with b = chain.decide p b c.edge lost (signed_of s) n
-
-  abbrev AsDecided : Type 0
-  AsDecided = Follows r.verdict (with (bound_of c)) (counted c.edge n lost) c r.chain
-
-  goes-follows : with (bound_of c) ≡ chain.next (bound_of c) (chain.next_edge c.edge n lost) → Goes n lost c r → AsDecided
-  goes-follows e g =
-      next-follows c r _ _ g.verdict
-      (e ∙ ap₂ chain.next (sym (same-bound c r.chain g.near g.negative g.place g.whole)) (sym g.edge))
-      g.passes
-
+module _ (p : ℕ) (c : Chain) (s : Units) (n lost : ℕ) where
   -- no boundary
-  module _ (free : c.near ≡ false) where
-    no_bound : bound_of c ≡ chain.no_boundary
-    no_bound = ap (λ (b : Bool). bound_by b c) free
+  abbrev AsDecided : ControlFlow Outcome Chain → Type 0
+  AsDecided r = Follows r (chain.decide p chain.no_boundary c.edge lost (signed_of s) n) (counted c.edge n lost) c
 
-    decided : with (bound_of c) ≡ with chain.no_boundary
-    decided = ap with no_bound
+  module _ (at : s.place ≡ c.edge) where
+    pub zero-follows : lost ≡ 0 → n ≡ size (value s.whole) → n ≡ 0 → AsDecided (Break out.Zero)
+    zero-follows l e z = decide-zero p c.edge (signed_of s) n lost l (no_bits _ (sym e ∙ z))
 
-    pub exactly-follows : lost ≡ 0 → (zero : Bool) → zero ≡ eqb (value s.magnitude) 0 → Ends (exact_of zero) s c r → AsDecided
-    exactly-follows l true z g =
-        done-follows c r _ _ out.Zero g.verdict (decided ∙ decide-zero p c.edge (signed_of s) n lost l (eqb-true (value s.magnitude) 0 (sym z)))
-        g.passes g.edge
-    exactly-follows l false z g =
-        done-follows c r _ _ out.Exact g.verdict (decided ∙ decide-exact p c.edge (signed_of s) n lost l (eqb-false (value s.magnitude) 0 (sym z)) ∙ cc)
-        g.passes g.edge
+    pub exact-follows : lost ≡ 0 → n ≡ size (value s.whole) → (n ≡ 0 → ⊥) → AsDecided (Break (out.Exact s))
+    exact-follows l e h = rw at (decide-exact p c.edge (signed_of s) n lost l (λ z. h (e ∙ ap size z ∙ size-zero)))
 
-    pub lower-follows : (lost ≡ 0 → ⊥) → n < p + 70 → Goes n lost c r → AsDecided
-    lower-follows l h g =
-        goes-follows (decided ∙ decide-lower p c.edge (signed_of s) n lost l h
-        ∙ ap (λ (b : chain.Boundary). chain.next b (chain.next_edge c.edge n lost)) (sym no_bound)) g
-
-    module _ (l : lost ≡ 0 → ⊥) (h : p + 70 ≤ n) (v : Nearness) (e : v ≡ near_by (value s.magnitude % 2 ^ (n - p - 1)) (n - p - 1)) where
+    module _ (l : lost ≡ 0 → ⊥) (h : p + 70 ≤ n) (v : Nearness) (e : v ≡ near_by (value s.whole % 2 ^ (n - p - 1)) (n - p - 1)) where
       far : counted c.edge n lost ≡ 1
       far = counted-some c.edge n lost (λ z. omega (arith, z))
 
-      -- the step by where the remainder stands, and the multiple of 2^(n − p − 1) that `up` chooses
-      abbrev by : Nearness → chain.Step
-      by u = settled_by u c.edge (signed_of s) (n - p - 1)
+      settled : (u : Nearness) → v ≡ u
+          → chain.decide p chain.no_boundary c.edge lost (signed_of s) n ≡ settled_by u c.edge (signed_of s) (n - p - 1)
+      settled u q =
+          decide-settles p c.edge (signed_of s) n lost l h ∙ ap (λ (u : Nearness). settled_by u c.edge (signed_of s) (n - p - 1)) (sym e ∙ q)
 
-      abbrev multiple : Bool → chain.Boundary
-      multiple up = chain.boundary s.negative (value s.magnitude / 2 ^ (n - p - 1) + words.flag 1 up) (c.edge + (n - p - 1))
+      pub inexact-follows : v ≡ Between → AsDecided (Break (out.Inexact s))
+      inexact-follows q = rw at (settled Between q)
 
-      settled : with (bound_of c) ≡ by v
-      settled = decided ∙ decide-settles p c.edge (signed_of s) n lost l h ∙ ap by (sym e)
+      -- the multiple of 2^(n − p − 1) that `up` chooses
+      bound-follows : (up : Bool) (r : Chain)
+          → chain.decide p chain.no_boundary c.edge lost (signed_of s) n
+          ≡ chain.next (chain.boundary s.negative (value s.whole / 2 ^ (n - p - 1) + words.flag 1 up) (c.edge + (n - p - 1))) (c.edge - 701)
+          → Bounds s (n - p - 1) up c r → AsDecided (Continue r)
+      bound-follows up r d g = (
+        d ∙ ap₂ chain.next (sym (g.boundary ∙ rw at refl)) (sym (rw far (omega (arith, g.edge)))),
+        g.passes ∙ ap (λ (k : ℕ). c.passes + k) (sym far),
+      )
 
-      pub inexact-follows : v ≡ Between → Ends out.Inexact s c r → AsDecided
-      inexact-follows u g = done-follows c r _ _ out.Inexact g.verdict (settled ∙ ap by u ∙ cc) g.passes g.edge
+      pub low-follows : (r : Chain) → v ≡ Low → Bounds s (n - p - 1) false c r → AsDecided (Continue r)
+      low-follows r q g = bound-follows false r (settled Low q) g
 
-      bounds-follow : (up : Bool) → by v ≡ chain.next (multiple up) (c.edge - 701) → Bounds s (n - p - 1) up c r → AsDecided
-      bounds-follow up u g = next-follows c r _ _ g.verdict (settled ∙ u ∙ ap₂ chain.next bound edge) (g.passes ∙ ap (λ (k : ℕ). c.passes + k) (sym far))
-        where
-          bound : multiple up ≡ bound_of r.chain
-          bound = sym (ap (λ (b : Bool). bound_by b r.chain) g.near ∙ cc)
+      pub high-follows : (r : Chain) → v ≡ High → Bounds s (n - p - 1) true c r → AsDecided (Continue r)
+      high-follows r q g = bound-follows true r (settled High q) g
 
-          edge : c.edge - 701 ≡ r.chain.edge + 766 * (counted c.edge n lost - 1)
-          edge = rw far (omega (arith, g.edge))
+  pub lower-follows : (r : Chain) → bound_of c ≡ chain.no_boundary → (lost ≡ 0 → ⊥) → n < p + 70 → Goes n lost c r → AsDecided (Continue r)
+  lower-follows r free l h g =
+      goes-on c r _ n lost (decide-lower p c.edge (signed_of s) n lost l h
+      ∙ ap (λ (b : chain.Boundary). chain.next b (chain.next_edge c.edge n lost)) (sym free)) g
 
-      pub low-follows : v ≡ Low → Bounds s (n - p - 1) false c r → AsDecided
-      low-follows u g = bounds-follow false (ap by u) g
+  -- beside the boundary b
+  module _ (b : Units) where
+    abbrev AsBeside : ControlFlow Outcome Chain → Type 0
+    AsBeside r = Follows r (chain.decide p (boundary_of (Some b)) c.edge lost (signed_of s) n) (counted c.edge n lost) c
 
-      pub high-follows : v ≡ High → Bounds s (n - p - 1) true c r → AsDecided
-      high-follows u g = bounds-follow true (ap by u) g
+    pub again-follows : (r : Chain) → bound_of c ≡ boundary_of (Some b) → (lost ≡ 0 → ⊥) → n < 66 → Goes n lost c r → AsBeside (Continue r)
+    again-follows r near l h g =
+        goes-on c r _ n lost (decide-again p c.edge (signed_of s) n lost b.negative (value b.whole) b.place l h
+        ∙ ap (λ (b : chain.Boundary). chain.next b (chain.next_edge c.edge n lost)) (sym near)) g
 
-  -- beside a boundary
-  module _ (near : c.near ≡ true) (e : n ≡ size (value s.magnitude)) where
-    a-bound : bound_of c ≡ bound_by true c
-    a-bound = ap (λ (b : Bool). bound_by b c) near
-
-    with_bound : with (bound_of c) ≡ with (bound_by true c)
-    with_bound = ap with a-bound
-
-    pub again-follows : (lost ≡ 0 → ⊥) → n < 66 → Goes n lost c r → AsDecided
-    again-follows l h g =
-        goes-follows (with_bound ∙ decide-again p c.edge (signed_of s) n lost c.negative (value c.whole) c.place l h
-        ∙ ap (λ (b : chain.Boundary). chain.next b (chain.next_edge c.edge n lost)) (sym a-bound)) g
-
-    side-follows : with (bound_by true c) ≡ chain.done (chain.beside (chain.side_of c.negative (signed_of s)) c.negative (value c.whole) c.place)
-        → Sides s n c r → AsDecided
-    side-follows d g =
-        done-follows c r _ _ (sided_of c.negative s.negative n) g.verdict
-        (with_bound ∙ d ∙ ap chain.done (sides (eqb n 0) (beq s.negative c.negative) (bits n (value s.magnitude) e))) g.passes g.edge
+    pub beside-follows : (lost ≡ 0) ⊎ ((lost ≡ 0 → ⊥) × (66 ≤ n)) → n ≡ size (value s.whole) → AsBeside (Break (beside_of b s.negative n))
+    beside-follows h e = decided h ∙ ap chain.done (sides (eqb n 0) (beq s.negative b.negative) (bits n (value s.whole) e))
       where
-        sides : (a b : Bool) → eqb (value s.magnitude) 0 ≡ a
-            → chain.beside (cond (eqb (value s.magnitude) 0) chain.on (cond b chain.above chain.below)) c.negative (value c.whole) c.place
-            ≡ outcome_by (cond a out.On (cond b out.Above out.Below)) r.chain
-        sides true b q = rw q (cc)
-        sides false true q = rw q (cc)
-        sides false false q = rw q (cc)
+        decided : (lost ≡ 0) ⊎ ((lost ≡ 0 → ⊥) × (66 ≤ n))
+            → chain.decide p (boundary_of (Some b)) c.edge lost (signed_of s) n
+            ≡ chain.done (chain.beside (chain.side_of b.negative (signed_of s)) b.negative (value b.whole) b.place)
+        decided (inl l) = decide-on p c.edge (signed_of s) n lost b.negative (value b.whole) b.place l
+        decided (inr h) = decide-beside p c.edge (signed_of s) n lost b.negative (value b.whole) b.place h.1
 
-    pub on-follows : lost ≡ 0 → Sides s n c r → AsDecided
-    on-follows l g = side-follows (decide-on p c.edge (signed_of s) n lost c.negative (value c.whole) c.place l) g
-
-    pub beside-follows : 66 ≤ n → Sides s n c r → AsDecided
-    beside-follows h g = side-follows (decide-beside p c.edge (signed_of s) n lost c.negative (value c.whole) c.place h) g
-
--- S of a pass, as its sign and magnitude were worked out
-pub steps-by : (p : ℕ) (c : Chain) (q : Pass) (s : Signed) (n : ℕ) (r : Step) → signed_of s ≡ total_of q → n ≡ size (value s.magnitude)
-    → Follows r.verdict (chain.decide p (bound_of c) c.edge q.lost (signed_of s) n) (counted c.edge n q.lost) c r.chain → Steps p c q r
-steps-by p c q s n r e f h = subst (λ (x : words.Signed). By x (size x.mag)) e (subst (By (signed_of s)) f h)
-  where
-    By : words.Signed → ℕ → Type 0
-    By x k = Follows r.verdict (chain.decide p (bound_of c) c.edge q.lost x k) (counted c.edge k q.lost) c r.chain
+        sides : (a t : Bool) → eqb (value s.whole) 0 ≡ a
+            → chain.beside (cond (eqb (value s.whole) 0) chain.on (cond t chain.above chain.below)) b.negative (value b.whole) b.place
+            ≡ outcome_by (cond a (out.On b) (cond t (out.Above b) (out.Below b)))
+        sides true t q = rw q
+        sides false true q = rw q
+        sides false false q = rw q

@@ -113,9 +113,6 @@ module _ (m : ℕ) (pos : 0 < m) (small : m ≤ 2 ^ 65) where
   fourfold-fits : m * 2 ^ 2 < 2 ^ 768
   fourfold-fits = lt_of_lt_of_le (omega (arith, under)) (pow_mono {i = 68} {j = 768} (lit≤ tt))
 
-  pub fourfold-small : (x : ℕ) → x ≤ 4 * m → x < 2 ^ 128
-  fourfold-small x h = lt_of_le_of_lt h (lt_of_lt_of_le under (pow_mono {i = 68} {j = 128} (lit≤ tt)))
-
   pub fourfold : (x : ℕ) → x ≡ m * 2 ^ 2 % 2 ^ 768 → x ≡ 4 * m
   fourfold x e = e ∙ mod-eq_of_lt fourfold-fits ∙ mul_comm m 4
 

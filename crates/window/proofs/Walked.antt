@@ -10,7 +10,7 @@ use native.Mathlib.Omega.{arith}
 use lib.Dec.{T, eqb, ltb, eqb→eq, ltb→lt}
 use lib.ListN.{length}
 use lib.Ieee.{size}
-use Rattle.limbs.specs.Value.{value}
+use Rattle.std.specs.declared.ops.ControlFlow.TheVariants.{Continue, Break}
 use Rattle.totals_spec.specs.Basics as basics
 use Rattle.totals_spec.specs.Terms as terms
 use Rattle.totals_spec.specs.Chain as chain
@@ -24,11 +24,10 @@ use Rattle.totals_spec.proofs.Kept.{Kept, KeptStep, EndsAs, kept-start, kept-pas
 use Rattle.further_spec.proofs.Skip.{Empty, Skipped, pass-empty, skip}
 use Rattle.window.specs.declared.Pass.{Pass}
 use Rattle.window.specs.declared.Chain.{Chain}
-use Rattle.window.specs.declared.Step.{Step}
 use Rattle.window.specs.declared.Outcome.{Outcome}
 use Rattle.window.specs.declared.Outcome.TheVariants as out
-use Rattle.window.specs.declared.Verdict.TheVariants.{Done, Next}
-use Rattle.window.specs.Joined.{Passed, bound_of, outcome_by, run_of, counted, Ready, Follows, total_of, width_of, Steps, Deep, EndsWith, Ended}
+use Rattle.window.specs.declared.ExactSum.{ExactSum}
+use Rattle.window.specs.Joined.{Passed, bound_of, outcome_by, run_of, Ready, Follows, total_of, width_of, Steps, Deep, EndsWith, Ended, started}
 use Rattle.window.proofs.Decided.{no_bits}
 
 -- S without the boundary is S
@@ -73,22 +72,18 @@ next_edge b b' v v' e = cc
 deep-place : (top e k : ℕ) → top < 2147483648 → 322 ≤ e → e ≤ top + k → k ≤ 768 → Deep e
 deep-place top e k s l h g = record { high = omega arith; small = omega arith }
 
-ends_with : (o : Outcome) (p top : ℕ) (c : Chain) → top < 2147483648 → EndsAs p top (outcome_by o c) → EndsWith o p (value c.whole) c.place
-ends_with out.Zero p top c s h = tt
-ends_with out.Exact p top c s h = (h.0, deep-place top c.place 0 s h.1 (omega (arith, h.2)) (omega arith))
-ends_with out.Inexact p top c s h = (h.0, deep-place top c.place 0 s h.1 (omega (arith, h.2)) (omega arith))
-ends_with out.Below p top c s h = (record { many = h.0; few = h.1 }, deep-place top c.place 768 s h.2 h.3 (omega arith))
-ends_with out.On p top c s h = (record { many = h.0; few = h.1 }, deep-place top c.place 768 s h.2 h.3 (omega arith))
-ends_with out.Above p top c s h = (record { many = h.0; few = h.1 }, deep-place top c.place 768 s h.2 h.3 (omega arith))
+ends_with : (o : Outcome) (p top : ℕ) → top < 2147483648 → EndsAs p top (outcome_by o) → EndsWith p o
+ends_with out.Zero p top s h = tt
+ends_with (out.Exact x) p top s h = (h.0, deep-place top x.place 0 s h.1 (omega (arith, h.2)) (omega arith))
+ends_with (out.Inexact x) p top s h = (h.0, deep-place top x.place 0 s h.1 (omega (arith, h.2)) (omega arith))
+ends_with (out.Below b) p top s h = (record { many = h.0; few = h.1 }, deep-place top b.place 768 s h.2 h.3 (omega arith))
+ends_with (out.On b) p top s h = (record { many = h.0; few = h.1 }, deep-place top b.place 768 s h.2 h.3 (omega arith))
+ends_with (out.Above b) p top s h = (record { many = h.0; few = h.1 }, deep-place top b.place 768 s h.2 h.3 (omega arith))
 
 module _ (p : ℕ) (ts : List terms.Term) (hp : p ≤ 64) (good : AllGood ts) (len : length ts ≤ terms-max) (small : terms.top_of ts < 2147483648) where
   -- the first edge
-  pub walked_start : 0 < length ts → (c : Chain) → c.near ≡ false → c.passes ≡ 0 → c.edge ≡ terms.top_of ts - 702 → Walked p ts c
-  walked_start some c n z e = record {
-    reached = rw (n, z, e) (at-start p ts hp good len);
-    kept = rw (n, e) (kept-start p ts good some);
-    most = omega (arith, z, e);
-  }
+  pub walked_start : 0 < length ts → Walked p ts (started (terms.top_of ts))
+  walked_start some = record { reached = at-start p ts hp good len; kept = kept-start p ts good some; most = omega arith }
 
   module _ (c : Chain) (q : Pass) (h : Walked p ts c) (g : Passed ts c.edge q) where
     pub walked-ready : Ready c q.lost
@@ -153,30 +148,24 @@ module _ (p : ℕ) (ts : List terms.Term) (hp : p ≤ 64) (good : AllGood ts) (l
           falls = omega (arith, edge, pos, s.above);
         }
 
-    pub walked_next : (r : Step) → Steps p c q r → r.verdict ≡ Next → Lower p ts c r.chain
-    walked_next r s v = go (eqb (width_of q) 0) (eqb→eq (width_of q) 0) (ltb (q.lost + 63) c.edge) (ltb→lt (q.lost + 63) c.edge) follows
+    pub walked_next : (r : Chain) → Steps p c q (Continue r) → Lower p ts c r
+    walked_next r s = go (eqb (width_of q) 0) (eqb→eq (width_of q) 0) (ltb (q.lost + 63) c.edge) (ltb→lt (q.lost + 63) c.edge) s
       where
-        follows : Follows Next (says p c q) (counted c.edge (width_of q) q.lost) c r.chain
-        follows = rw v at s
-
         go : (a : Bool) → (T a → width_of q ≡ 0) → (b : Bool) → (T b → q.lost + 63 < c.edge)
-            → Follows Next (says p c q) (cond a (cond b ((c.edge - q.lost + 702) / 766) 1) 1) c r.chain
-            → Lower p ts c r.chain
-        go true z true l f = many r.chain ((c.edge - q.lost + 702) / 766) refl (z tt) (l tt) f.0 f.1
-        go true z false l f = one r.chain (f.0 ∙ ap (chain.next (bound_of r.chain)) (add-zero r.chain.edge)) f.1
-        go false z b l f = one r.chain (f.0 ∙ ap (chain.next (bound_of r.chain)) (add-zero r.chain.edge)) f.1
+            → Follows (Continue r) (says p c q) (cond a (cond b ((c.edge - q.lost + 702) / 766) 1) 1) c → Lower p ts c r
+        go true z true l f = many r ((c.edge - q.lost + 702) / 766) refl (z tt) (l tt) f.0 f.1
+        go true z false l f = one r (f.0 ∙ ap (chain.next (bound_of r)) (add-zero r.edge)) f.1
+        go false z b l f = one r (f.0 ∙ ap (chain.next (bound_of r)) (add-zero r.edge)) f.1
 
     -- done: the chain of the definitions, and what it ended with
-    pub walked-done : (r : Step) (o : Outcome) → Steps p c q r → r.verdict ≡ Done o
-        → (chain.chain p ts ≡ run_of (record { outcome = o; chain = r.chain })) × Ended p (record { outcome = o; chain = r.chain })
-    walked-done r o s v = (
-      at_done p ts hp good len c.passes (bound_of c) c.edge (outcome_by o r.chain) h.reached (seen ∙ f.0)
-          ∙ (λ i. record { outcome = outcome_by o r.chain; passes = sym f.1 i; edge = sym f.2 i }),
+    abbrev ended_as : Outcome → ExactSum
+    ended_as o = record { outcome = o; passes = c.passes + 1; edge = c.edge }
+
+    pub walked-done : (o : Outcome) → Steps p c q (Break o) → (run_of (ended_as o) ≡ chain.chain p ts) × Ended p (ended_as o)
+    walked-done o s = (
+      sym (at_done p ts hp good len c.passes (bound_of c) c.edge (outcome_by o) h.reached (seen ∙ s)),
       record {
-        ends = ends_with o p (terms.top_of ts) r.chain small (rw (seen ∙ f.0) at (kept-pass p ts (bound_of c) c.edge hp good h.kept));
-        edge = omega (arith, f.2, h.most, small);
+        ends = ends_with o p (terms.top_of ts) small (rw (seen ∙ s) at (kept-pass p ts (bound_of c) c.edge hp good h.kept));
+        edge = omega (arith, h.most, small);
       },
     )
-      where
-        f : Follows (Done o) (says p c q) (counted c.edge (width_of q) q.lost) c r.chain
-        f = rw v at s

@@ -1,5 +1,7 @@
 -- The code's passes and chains as those of totals_spec, and what the contracts of this crate cite.
-use Rattle.std.specs.Prelude.{◌≡◌, Bool, true, false, cond, List, ℕ, suc, ◌+◌, ◌-◌, ◌*◌, ◌/◌, ◌^◌, ◌≤◌, ◌<◌, ltb, eqb, replicate}
+use Rattle.std.specs.Prelude.{◌≡◌, Bool, true, false, cond, List, ℕ, suc, ◌+◌, ◌-◌, ◌*◌, ◌/◌, ◌^◌, ◌≤◌, ◌<◌, ltb, eqb, Option, Some, None}
+use Rattle.std.specs.declared.ops.ControlFlow.{ControlFlow}
+use Rattle.std.specs.declared.ops.ControlFlow.TheVariants.{Continue, Break}
 use Rattle.std.specs.Bool.{beq}
 use Rattle.std.specs.Float.Ieee.{size}
 use Rattle.limbs.specs.Value.{value, term}
@@ -13,14 +15,11 @@ use Rattle.arithmetic.specs.declared.Term.{Term}
 use Rattle.arithmetic.specs.Joined.{magnitude}
 use Rattle.window.specs.declared.Part.{Part}
 use Rattle.window.specs.declared.Pass.{Pass}
-use Rattle.window.specs.declared.Signed.{Signed}
+use Rattle.window.specs.declared.Units.{Units}
 use Rattle.window.specs.declared.Chain.{Chain}
-use Rattle.window.specs.declared.Step.{Step}
 use Rattle.window.specs.declared.ExactSum.{ExactSum}
 use Rattle.window.specs.declared.Outcome.{Outcome}
 use Rattle.window.specs.declared.Outcome.TheVariants as out
-use Rattle.window.specs.declared.Verdict.{Verdict}
-use Rattle.window.specs.declared.Verdict.TheVariants.{Done, Next}
 use Rattle.window.specs.declared.Nearness.{Nearness}
 use Rattle.window.specs.declared.Nearness.TheVariants.{Low, High, Between}
 
@@ -40,39 +39,35 @@ pub record Passed (ts : List terms.Term) (w : ℕ) (q : Pass) : Type 0 where
 
 -- the chain before its first pass
 abbrev pub started : ℕ → Chain
-started top = record { near = false; negative = false; passes = 0; edge = top - 702; place = 0; whole = replicate 12 0 }
+started top = record { boundary = None; passes = 0; edge = top - 702 }
 
-abbrev pub signed_of : Signed → words.Signed
-signed_of s = record { neg = s.negative; mag = value s.magnitude }
+abbrev pub signed_of : Units → words.Signed
+signed_of s = record { neg = s.negative; mag = value s.whole }
 
-abbrev pub bound_by : Bool → Chain → chain.Boundary
-bound_by true c = chain.boundary c.negative (value c.whole) c.place
-bound_by false c = chain.no_boundary
+abbrev pub boundary_of : Option Units → chain.Boundary
+boundary_of None = chain.no_boundary
+boundary_of (Some b) = chain.boundary b.negative (value b.whole) b.place
 
 abbrev pub bound_of : Chain → chain.Boundary
-bound_of c = bound_by c.near c
+bound_of c = boundary_of c.boundary
 
-abbrev pub outcome_by : Outcome → Chain → chain.Outcome
-outcome_by out.Zero c = chain.zero_sum
-outcome_by out.Exact c = chain.exactly c.negative (value c.whole) c.place
-outcome_by out.Inexact c = chain.nearly c.negative (value c.whole) c.place
-outcome_by out.Below c = chain.beside chain.below c.negative (value c.whole) c.place
-outcome_by out.On c = chain.beside chain.on c.negative (value c.whole) c.place
-outcome_by out.Above c = chain.beside chain.above c.negative (value c.whole) c.place
+abbrev pub outcome_by : Outcome → chain.Outcome
+outcome_by out.Zero = chain.zero_sum
+outcome_by (out.Exact s) = chain.exactly s.negative (value s.whole) s.place
+outcome_by (out.Inexact s) = chain.nearly s.negative (value s.whole) s.place
+outcome_by (out.Below b) = chain.beside chain.below b.negative (value b.whole) b.place
+outcome_by (out.On b) = chain.beside chain.on b.negative (value b.whole) b.place
+outcome_by (out.Above b) = chain.beside chain.above b.negative (value b.whole) b.place
 
 abbrev pub outcome_of : ExactSum → chain.Outcome
-outcome_of e = outcome_by e.outcome e.chain
+outcome_of e = outcome_by e.outcome
 
 abbrev pub run_of : ExactSum → chain.Run
-run_of e = record { outcome = outcome_of e; passes = e.chain.passes; edge = e.chain.edge }
+run_of e = record { outcome = outcome_of e; passes = e.passes; edge = e.edge }
 
--- the side of a boundary of the sign s on which a sum lies, for S of the sign x and of n bits
-abbrev pub sided_of : Bool → Bool → ℕ → Outcome
-sided_of s x n = cond (eqb n 0) out.On (cond (beq x s) out.Above out.Below)
-
--- how a sum of which nothing is lost comes out
-abbrev pub exact_of : Bool → Outcome
-exact_of zero = cond zero out.Zero out.Exact
+-- how a sum comes out beside the boundary b, for S of the sign x and of n bits
+abbrev pub beside_of : Units → Bool → ℕ → Outcome
+beside_of b x n = cond (eqb n 0) (out.On b) (cond (beq x b.negative) (out.Above b) (out.Below b))
 
 -- where a remainder d by 2^r stands
 abbrev pub near_by : ℕ → ℕ → Nearness
@@ -92,49 +87,23 @@ pub record Ready (c : Chain) (lost : ℕ) : Type 0 where
   pub high : 0 < lost → 1024 < lost
   pub low : lost ≤ c.edge
 
--- done, with the sum s at the edge
-pub record Ends (o : Outcome) (s : Signed) (c : Chain) (r : Step) : Type 0 where
-  pub verdict : r.verdict ≡ Done o
-  pub negative : r.chain.negative ≡ s.negative
-  pub passes : r.chain.passes ≡ c.passes + 1
-  pub edge : r.chain.edge ≡ c.edge
-  pub place : r.chain.place ≡ c.edge
-  pub whole : r.chain.whole ≡ s.magnitude
-
--- done, on a side of its boundary, which stays as it was, with S of the sign of s and of n bits
-pub record Sides (s : Signed) (n : ℕ) (c : Chain) (r : Step) : Type 0 where
-  pub verdict : r.verdict ≡ Done (sided_of c.negative s.negative n)
-  pub negative : r.chain.negative ≡ c.negative
-  pub passes : r.chain.passes ≡ c.passes + 1
-  pub edge : r.chain.edge ≡ c.edge
-  pub place : r.chain.place ≡ c.place
-  pub whole : r.chain.whole ≡ c.whole
-
 -- on, at a lower edge, with the boundary as it was; each pass that is only counted lowers the edge by 766
-pub record Goes (n lost : ℕ) (c : Chain) (r : Step) : Type 0 where
-  pub verdict : r.verdict ≡ Next
-  pub near : r.chain.near ≡ c.near
-  pub negative : r.chain.negative ≡ c.negative
-  pub place : r.chain.place ≡ c.place
-  pub whole : r.chain.whole ≡ c.whole
-  pub passes : r.chain.passes ≡ c.passes + counted c.edge n lost
-  pub edge : r.chain.edge + 766 * (counted c.edge n lost - 1) ≡ chain.next_edge c.edge n lost
+pub record Goes (n lost : ℕ) (c r : Chain) : Type 0 where
+  pub boundary : r.boundary ≡ c.boundary
+  pub passes : r.passes ≡ c.passes + counted c.edge n lost
+  pub edge : r.edge + 766 * (counted c.edge n lost - 1) ≡ chain.next_edge c.edge n lost
 
 -- on, with a boundary: a multiple of 2^rest units next to the sum s
-pub record Bounds (s : Signed) (rest : ℕ) (up : Bool) (c : Chain) (r : Step) : Type 0 where
-  pub verdict : r.verdict ≡ Next
-  pub near : r.chain.near ≡ true
-  pub negative : r.chain.negative ≡ s.negative
-  pub place : r.chain.place ≡ c.edge + rest
-  pub whole : value r.chain.whole ≡ value s.magnitude / 2 ^ rest + words.flag 1 up
-  pub passes : r.chain.passes ≡ c.passes + 1
-  pub edge : r.chain.edge ≡ c.edge - 701
+pub record Bounds (s : Units) (rest : ℕ) (up : Bool) (c r : Chain) : Type 0 where
+  pub boundary : bound_of r ≡ chain.boundary s.negative (value s.whole / 2 ^ rest + words.flag 1 up) (s.place + rest)
+  pub passes : r.passes ≡ c.passes + 1
+  pub edge : r.edge ≡ c.edge - 701
 
--- The code's chain went from c to r, and what it did is the step s of the definitions' chain; but where it counts k passes, k − 1 of them follow that
--- step, each 766 lower.
-abbrev pub Follows : Verdict → chain.Step → ℕ → Chain → Chain → Type 0
-Follows (Done o) s k c r = (s ≡ chain.done (outcome_by o r)) × (r.passes ≡ c.passes + 1) × (r.edge ≡ c.edge)
-Follows Next s k c r = (s ≡ chain.next (bound_of r) (r.edge + 766 * (k - 1))) × (r.passes ≡ c.passes + k)
+-- What the code's chain c came to is the step s of the definitions' chain; but where it counts k passes, k − 1 of them follow that step, each 766
+-- lower.
+abbrev pub Follows : ControlFlow Outcome Chain → chain.Step → ℕ → Chain → Type 0
+Follows (Break o) s k c = s ≡ chain.done (outcome_by o)
+Follows (Continue r) s k c = (s ≡ chain.next (bound_of r) (r.edge + 766 * (k - 1))) × (r.passes ≡ c.passes + k)
 
 -- S as the code has it, without the boundary: `vanishes` of totals_spec says that this is no other
 abbrev pub total_of : Pass → words.Signed
@@ -143,9 +112,8 @@ total_of q = chain.signed_from chain.half (value q.total)
 abbrev pub width_of : Pass → ℕ
 width_of q = size (total_of q).mag
 
-abbrev pub Steps : ℕ → Chain → Pass → Step → Type 0
-Steps p c q r =
-    Follows r.verdict (chain.decide p (bound_of c) c.edge q.lost (total_of q) (width_of q)) (counted c.edge (width_of q) q.lost) c r.chain
+abbrev pub Steps : ℕ → Chain → Pass → ControlFlow Outcome Chain → Type 0
+Steps p c q r = Follows r (chain.decide p (bound_of c) c.edge q.lost (total_of q) (width_of q)) (counted c.edge (width_of q) q.lost) c
 
 -- ---- the end of a chain
 
@@ -159,37 +127,28 @@ pub record Bordered (p m : ℕ) : Type 0 where
   pub many : 2 ^ p ≤ m
   pub few : m ≤ 2 ^ suc p
 
--- what a chain ends with: m units of 2^e
-abbrev pub EndsWith : Outcome → ℕ → ℕ → ℕ → Type 0
-EndsWith out.Zero p m e = Unit
-EndsWith out.Exact p m e = (0 < m) × Deep e
-EndsWith out.Inexact p m e = (2 ^ (p + 69) ≤ m) × Deep e
-EndsWith out.Below p m e = Bordered p m × Deep e
-EndsWith out.On p m e = Bordered p m × Deep e
-EndsWith out.Above p m e = Bordered p m × Deep e
+-- what a chain ends with
+abbrev pub EndsWith : ℕ → Outcome → Type 0
+EndsWith p out.Zero = Unit
+EndsWith p (out.Exact s) = (0 < value s.whole) × Deep s.place
+EndsWith p (out.Inexact s) = (2 ^ (p + 69) ≤ value s.whole) × Deep s.place
+EndsWith p (out.Below b) = Bordered p (value b.whole) × Deep b.place
+EndsWith p (out.On b) = Bordered p (value b.whole) × Deep b.place
+EndsWith p (out.Above b) = Bordered p (value b.whole) × Deep b.place
 
 -- what a rounding may count on (`walked-done` of proofs/Walked says that every chain gives it)
 pub record Ended (p : ℕ) (e : ExactSum) : Type 0 where
-  pub ends : EndsWith e.outcome p (value e.chain.whole) e.chain.place
-  pub edge : e.chain.edge < 2 ^ 62
+  pub ends : EndsWith p e.outcome
+  pub edge : e.edge < 2 ^ 62
 
--- an outcome between two neighbouring multiples of the unit
-abbrev pub is_inexact : Outcome → Bool
-is_inexact out.Zero = false
-is_inexact out.Exact = false
-is_inexact out.Inexact = true
-is_inexact out.Below = false
-is_inexact out.On = false
-is_inexact out.Above = false
-
--- an outcome that is rounded: not zero, and a boundary that leaves room for two bits more
-abbrev pub Roundable : Outcome → ℕ → Type 0
-Roundable out.Zero m = ⊥
-Roundable out.Exact m = 0 < m
-Roundable out.Inexact m = 0 < m
-Roundable out.Below m = (0 < m) × (m ≤ 2 ^ 65)
-Roundable out.On m = (0 < m) × (m ≤ 2 ^ 65)
-Roundable out.Above m = (0 < m) × (m ≤ 2 ^ 65)
+-- an outcome that is rounded: a sum that is not zero, and a boundary that leaves room for two bits more
+abbrev pub Roundable : Outcome → Type 0
+Roundable out.Zero = Unit
+Roundable (out.Exact s) = (0 < value s.whole) × Deep s.place
+Roundable (out.Inexact s) = (0 < value s.whole) × Deep s.place
+Roundable (out.Below b) = (0 < value b.whole) × (value b.whole ≤ 2 ^ 65) × Deep b.place
+Roundable (out.On b) = (0 < value b.whole) × (value b.whole ≤ 2 ^ 65) × Deep b.place
+Roundable (out.Above b) = (0 < value b.whole) × (value b.whole ≤ 2 ^ 65) × Deep b.place
 
 -- a little more than m quarters of a unit of 2^e
 pub record Quarters (negative : Bool) (e m : ℕ) (v : Unrounded) : Type 0 where
@@ -198,14 +157,23 @@ pub record Quarters (negative : Bool) (e m : ℕ) (v : Unrounded) : Type 0 where
   pub position : v.position ≡ e - 2
   pub is : significand_of v ≡ m
 
--- the value that a chain's end leaves to round, with what `round` of the crate exact asks of it
-pub record Leaves (e : ExactSum) (v : Unrounded) : Type 0 where
-  pub stands : Stands v (settled.settled (outcome_of e)).mag
-  pub negative : v.negative ≡ (settled.settled (outcome_of e)).neg
+-- the value that a sum of units of 2^e leaves to round, with what `round` of the crate exact asks of it
+pub record LeavesAt (o : Outcome) (e : ℕ) (v : Unrounded) : Type 0 where
+  pub stands : Stands v (settled.settled (outcome_by o)).mag
+  pub negative : v.negative ≡ (settled.settled (outcome_by o)).neg
   pub some : 0 < significand_of v
-  pub high : e.chain.place ≤ v.position + 2
-  pub low : v.position ≤ e.chain.place + 640
-  pub long : (p : ℕ) → p ≤ 64 → EndsWith e.outcome p (value e.chain.whole) e.chain.place → v.sticky ≡ true → 2 ^ p ≤ significand_of v
+  pub high : e ≤ v.position + 2
+  pub low : v.position ≤ e + 640
+  pub long : (p : ℕ) → p ≤ 64 → EndsWith p o → v.sticky ≡ true → 2 ^ p ≤ significand_of v
+
+-- and an outcome; terms that cancel leave nothing
+abbrev pub Leaves : Outcome → Unrounded → Type 0
+Leaves out.Zero v = significand_of v ≡ 0
+Leaves (out.Exact s) v = LeavesAt (out.Exact s) s.place v
+Leaves (out.Inexact s) v = LeavesAt (out.Inexact s) s.place v
+Leaves (out.Below b) v = LeavesAt (out.Below b) b.place v
+Leaves (out.On b) v = LeavesAt (out.On b) b.place v
+Leaves (out.Above b) v = LeavesAt (out.Above b) b.place v
 
 -- what is left to round of a signed sum x, by which its first p digits are decided
 pub record Remains (p : ℕ) (x : words.Signed) (v : Unrounded) : Type 0 where

@@ -1,0 +1,59 @@
+-- A window in two words: all of it, or those from its highest word on.
+use Rattle.std.proofs.Common.{◌≡◌, ℕ, ◌+◌, ◌-◌, ◌*◌, ◌/◌, ◌%◌, ◌^◌, ◌≤◌, ◌<◌, List, arith}
+use native.Mathlib.Nat.{div-add-mod, mod-lt}
+use lib.Ieee.Digits.{size-le}
+use Rattle.limbs.specs.Value.{value, bit_length}
+use Rattle.limbs.proofs.Words.{words, value-lt}
+use Rattle.exact.proofs.Narrow.{all-narrowed, top-narrowed}
+use Rattle.exact.proofs.narrowed.Goals as goal
+use Rattle.exact.proofs.narrowed.Goals.{then-sticky, else-sticky}
+
+-- the word of the highest of n bits
+record Highest (n : ℕ) : Type 0 where
+  pub low : 64 * ((n - 1) / 64) < n
+  pub high : n ≤ 64 * ((n - 1) / 64) + 64
+
+highest : (n : ℕ) → 0 < n → Highest n
+highest n h =
+    let d = div-add-mod (n - 1) 64 in
+    let m : (n - 1) % 64 < 64 = mod-lt (n - 1) (omega arith) in
+    record { low = omega (arith, d); high = omega (arith, d, m) }
+
+most : (w : List ℕ) (n : ℕ) → value w < 2 ^ 768 → n ≡ bit_length (value w) → n ≤ 768
+most w n h e = omega (arith, e, size-le (value w) 768 h)
+
+pub returns-then-n-le128 : goal.returns-then-n-le128
+returns-then-n-le128 c =
+    let w = c.args.w in
+    all-narrowed w (words 12 w _ c.well_formed.1.1.1.0).fit _ _ _ (omega (arith, c.if-n-le128.true, c.bit_length-n.ensures))
+
+pub overflow_add-result : goal.overflow_add-result
+overflow_add-result c =
+    let n = c.bit_length-n.result in
+    let l = most c.args.w n (value-lt (words 12 c.args.w _ c.well_formed.1.1.1.0)) c.bit_length-n.ensures in
+    record { fits = omega (arith, l, (highest n (omega arith)).low, c.requires) }
+
+pub bounds-w-under : goal.bounds-w-under
+bounds-w-under c =
+    let n = c.bit_length-n.result in
+    let l = most c.args.w n (value-lt (words 12 c.args.w _ c.well_formed.1.1.1.0)) c.bit_length-n.ensures in
+    omega (arith, l, (highest n (omega arith)).low)
+
+pub bounds-w-top : goal.bounds-w-top
+bounds-w-top c =
+    let n = c.bit_length-n.result in
+    let l = most c.args.w n (value-lt (words 12 c.args.w _ c.well_formed.1.1.1.0)) c.bit_length-n.ensures in
+    omega (arith, l, (highest n (omega arith)).low)
+
+pub returns : goal.returns
+returns c =
+    let w = c.args.w in
+    let its-words = words 12 w _ c.well_formed.1.1.1.0 in
+    let n = c.bit_length-n.result in
+    let h = highest n (omega arith) in
+    top-narrowed w its-words.fit _ _ _ ((n - 1) / 64) c.bit_length-n.ensures c.if-n-le128.false h.low h.high
+    (most w n (value-lt its-words) c.bit_length-n.ensures)
+    (elim c.if-sticky.branch [
+      | then-sticky k ↦ rw (k.result-is, k.if-sticky.true)
+      | else-sticky k ↦ rw (k.result-is, k.if-sticky.false) k.any_below.ensures
+    ])
