@@ -1,8 +1,6 @@
 -- An element as a term of the code: its significand, its small exponent, its position, and which of its kinds is no term.
 use mathlib.Core.Path.{◌≡◌, refl, sym, ap, ◌∙◌, subst}
-use mathlib.Core.Logic.{◌⊎◌, inl, inr}
 use mathlib.Core.Bool.{Bool, true, false, ◌&&◌, cond, true≢false}
-use mathlib.Core.List.{[], ◌∷◌}
 use Prim.Native.Nat.{ℕ, zero, suc, ◌+◌, ◌-◌, ◌*◌, ◌/◌, ◌^◌, ◌≤◌, ◌<◌, max}
 use native.Mathlib.Nat.{mul-pos, mod-lt, lt_of_lt_of_le, zero-mul, zero-add, add-zero, pow-suc, zero-max, max-zero, suc-max-suc}
 use native.Mathlib.Omega.{arith}
@@ -21,12 +19,6 @@ use Rattle.totals_spec.proofs.Bits.{size_is}
 use Rattle.totals_spec.proofs.Good.{Decoded, decoded-operand}
 use Rattle.totals_spec.proofs.Spread.{extended-bounds}
 use Rattle.totals_spec.proofs.ExtendedTerms.{operand-decoded}
-use types.Run.{OneOf}
-use denote.Enum.Declared.{tag_of}
-use Rattle.format.specs.contracts.unpacked.Unpacked.{the_type}
-use Rattle.format.specs.declared.unpacked.Unpacked.{Unpacked}
-use Rattle.format.specs.declared.unpacked.Unpacked.TheVariants.{Zero, Finite, Infinity, Nan}
-use Rattle.format.specs.Joined.{unpacked_of}
 use Rattle.arithmetic.specs.declared.Term.{Term}
 use Rattle.arithmetic.specs.declared.Item.TheVariants as item
 use Rattle.binary.specs.Joined.{is_plain}
@@ -51,11 +43,17 @@ extended-bounded c b x e = subst Bounded e (bounded extended extended-bounds (ex
 pub field-small : (f : spec.Format) (b : ℕ) → FormatBounds f → dec.field_of f b < 268435456
 field-small f b h = lt_of_lt_of_le (mod-lt (b / 2 ^ spec.fraction_bits f) (pow_pos f.E)) (pow_mono h.e-le)
 
-pub fraction-le : (f : spec.Format) → FormatBounds f → 2 ^ spec.fraction_bits f ≤ 2 ^ 62
-fraction-le f h = pow_mono {j = 62} (omega (arith, h.e-ge, h.w_le))
-
-pub significand-pos : (f : spec.Format) (b : ℕ) → 0 < 2 ^ spec.fraction_bits f + dec.fraction_of f b
+significand-pos : (f : spec.Format) (b : ℕ) → 0 < 2 ^ spec.fraction_bits f + dec.fraction_of f b
 significand-pos f b = omega (arith, pow_pos (spec.fraction_bits f))
+
+pub ruleset operands = (operand-bounded, extended-bounded)
+
+-- as the code reads them
+pub field-shift : (f : spec.Format) (b x : ℕ) → FormatBounds f → x ≡ dec.field_of f b → x - 1 < 268435456
+field-shift f b x h e = omega (arith, field-small f b h, e)
+
+pub normal-pos : (f : spec.Format) (b m : ℕ) → m ≡ 2 ^ spec.fraction_bits f + dec.fraction_of f b → 0 < m
+normal-pos f b m e = rw e (significand-pos f b)
 
 -- ---- what is no term
 
@@ -76,18 +74,6 @@ no-hundred (dec.finite s k m) t e z h = absurd (true≢false e)
 no-hundred (dec.zero_of s) t e z h = (z, h)
 no-hundred (dec.infinity s) t e z h = (z, h)
 no-hundred (dec.nan s g m) t e z h = (z, h)
-
--- the arms of a match other than that of a finite number
-pub other_arm : (v : Unpacked) → OneOf (0 ∷ 2 ∷ 3 ∷ []) (tag_of the_type v) → dec.is_finite (unpacked_of v) ≡ false
-other_arm (Zero s) h = refl
-other_arm (Finite s k m) h = absurd (none h)
-  where
-    none : (◌≡◌ {A = ℕ} 1 0) ⊎ ((◌≡◌ {A = ℕ} 1 2) ⊎ (◌≡◌ {A = ℕ} 1 3)) → ⊥
-    none (inl e) = omega arith
-    none (inr (inl e)) = omega arith
-    none (inr (inr e)) = omega arith
-other_arm (Infinity s) h = refl
-other_arm (Nan s g m) h = refl
 
 pub no-magnitude : (t : Term) → t.low ≡ 0 → t.high ≡ 0 → magnitude t ≡ 0
 unfolding magnitude
@@ -110,12 +96,6 @@ square-of (suc (suc n)) h = refl
 two-le : (n : ℕ) → suc (suc n) < 2 → ⊥
 two-le n h = omega arith
 
--- the sign counts in a sum of values alone
-pub sign-dropped : (u : ℕ) (s : Bool) → (u ≡ 0 → ⊥) → false ≡ (is_value (env.summand_of u) && s)
-sign-dropped zero s h = absurd (h refl)
-sign-dropped (suc zero) s h = refl
-sign-dropped (suc (suc n)) s h = refl
-
 -- a number's own term, where it is not squared
 pub single_of : (u : ℕ) (s b : Bool) (k m : ℕ) → u < 2 → k < 268435456 → 0 < m → b ≡ (is_value (env.summand_of u) && s)
     → StandsFor (record { negative = b; low = m; high = 0; shift = k + 1024 }) (terms.item_of (env.summand_of u) (dec.finite s k m))
@@ -123,31 +103,6 @@ unfolding magnitude terms.single
 single_of zero s b k m h g z e = (ap (λ (n : ℕ). n * 2 ^ (k + 1024)) (zero-add m), e, omega arith, mul-pos z (pow_pos (k + 1024)))
 single_of (suc zero) s b k m h g z e = (ap (λ (n : ℕ). n * 2 ^ (k + 1024)) (zero-add m), e, omega arith, mul-pos z (pow_pos (k + 1024)))
 single_of (suc (suc n)) s b k m h g z e = absurd (two-le n h)
-
--- ---- items, by the summand
-
--- a zero, and an infinity
-pub signed_items : (u : ℕ) (s b : Bool) → b ≡ (is_value (env.summand_of u) && s)
-    → (item.Zero b ≡ item_of (terms.item_of (env.summand_of u) (dec.zero_of s))) × (item.Infinite b ≡ item_of (terms.item_of (env.summand_of u) (dec.infinity s)))
-signed_items zero s b e = (ap item.Zero e, ap item.Infinite e)
-signed_items (suc zero) s b e = (ap item.Zero e, ap item.Infinite e)
-signed_items (suc (suc n)) s b e = (ap item.Zero e, ap item.Infinite e)
-
-pub nan-item : (u : ℕ) (s g : Bool) (m : ℕ) → item.Nan ≡ item_of (terms.item_of (env.summand_of u) (dec.nan s g m))
-nan-item zero s g m = refl
-nan-item (suc zero) s g m = refl
-nan-item (suc (suc n)) s g m = refl
-
-pub single-item : (u : ℕ) (s : Bool) (k m r : ℕ) → u < 2 → r ≡ size m + k + 1024 - 1 → item.Top r ≡ item_of (terms.item_of (env.summand_of u) (dec.finite s k m))
-unfolding terms.single
-single-item zero s k m r h e = ap item.Top e
-single-item (suc zero) s k m r h e = ap item.Top e
-single-item (suc (suc n)) s k m r h e = absurd (two-le n h)
-
-pub square-item : (u : ℕ) (s : Bool) (k m r : ℕ) → 2 ≤ u → r ≡ size m + size m + k + k + 1024 - 1
-    → item.Top r ≡ item_of (terms.item_of (env.summand_of u) (dec.finite s k m))
-unfolding terms.product
-square-item u s k m r h e = rw (square-of u h) (ap item.Top e)
 
 -- ---- an element that is plainly a number
 
@@ -207,12 +162,6 @@ pub field-max : (f : spec.Format) (u : env.Summand) (a b : ℕ) → field_top f 
 field-max f env.value a b = above-max (spec.digits f + 1022) a b
 field-max f env.magnitude a b = above-max (spec.digits f + 1022) a b
 field-max f env.square a b = let e : max a b + max a b ≡ max (a + a) (b + b) = omega arith in rw e (fields-max f (a + a) (b + b))
-
--- where the element is not squared
-pub single-top : (f : spec.Format) (u n : ℕ) → u < 2 → field_top f (env.summand_of u) n ≡ above_base (spec.digits f + 1022) n
-single-top f zero n h = refl
-single-top f (suc zero) n h = refl
-single-top f (suc (suc u)) n h = absurd (two-le u h)
 
 -- what the field of a plainly normal element says
 abbrev pub PlainField : ℕ → spec.Format → ℕ → Type 0

@@ -12,23 +12,19 @@ use format::env::Settings;
 use values::Ten;
 
 // The term of an element.
+#[tactic(auto, unfolding(totals_spec::specs::Extended::extended_item), using(crate::proofs::Elements::operands))]
 pub fn ten_term(c: Settings, u: u64, b: Ten) -> Term
     requires { b.head < 65536 }
     ensures { StandsFor result (spec.extended_item (settings_of c) (env.summand_of u) (ten_of b)) }
 {
-    let o = operand(c, b);
-    let v = o.value;
-    operand_term(u, v)
+    operand_term(u, operand(c, b).value)
 }
 
 // The term of a pair.
+#[tactic(auto, unfolding(totals_spec::specs::Extended::extended_pair), using(crate::proofs::Elements::operands))]
 pub fn ten_pair(c: Settings, x: Ten, y: Ten) -> Term
     requires { (x.head < 65536) × (y.head < 65536) }
     ensures { StandsFor result (spec.extended_pair (settings_of c) (ten_of x, ten_of y)) }
 {
-    let o = operand(c, x);
-    let q = operand(c, y);
-    let v = o.value;
-    let w = q.value;
-    operand_pair(v, w)
+    operand_pair(operand(c, x).value, operand(c, y).value)
 }

@@ -62,6 +62,7 @@ pub fn no_term() -> Term
 }
 
 // The product of m * 2^k and n * 2^j.
+#[tactic(auto, unfolding(totals_spec::specs::Terms::product, crate::specs::Joined::magnitude))]
 pub fn product(negative: bool, k: u64, m: u64, j: u64, n: u64) -> Term
     requires { (k < 268435456) × (j < 268435456) × (0 < m) × (0 < n) }
     ensures { StandsFor result (terms.term (terms.product negative k m j n)) }
@@ -79,26 +80,25 @@ pub fn product(negative: bool, k: u64, m: u64, j: u64, n: u64) -> Term
 fn summand_sign(u: u64, negative: bool) -> bool
     ensures { result ≡ (totals.is_value (env.summand_of u) && negative) }
 {
-    if u != 0 {
-        return false;
-    }
-    negative
+    u == 0 && negative
 }
 
 // The term of a number, by the summand: 0 value, 1 magnitude, 2 and above square.
+#[tactic(auto, using(crate::proofs::Elements::single_of))]
 fn summand_term(u: u64, negative: bool, k: u64, m: u64) -> Term
     requires { (k < 268435456) × (0 < m) }
     ensures stands_for { StandsFor result (terms.item_of (env.summand_of u) (dec.finite negative k m)) }
     ensures high_value { u < 2 → result.high ≡ 0 }
 {
     if u >= 2 {
-        return product(false, k, m, k, m);
-    }
-    Term {
-        negative: summand_sign(u, negative),
-        low: m,
-        high: 0,
-        shift: k + ROOM,
+        product(false, k, m, k, m)
+    } else {
+        Term {
+            negative: summand_sign(u, negative),
+            low: m,
+            high: 0,
+            shift: k + ROOM,
+        }
     }
 }
 
@@ -110,40 +110,32 @@ fn plain_significand(f: Format, b: u64) -> u64
     power(fraction_bits(f)) + fraction_of(f, b)
 }
 
-// The term of an operand.
+// The term of an operand. This and `operand_pair` are inlined: a call would take 4 % off a sum.
+#[inline(always)]
+#[tactic(auto, unfolding(crate::specs::Joined::magnitude))]
 fn operand_term(u: u64, v: Unpacked) -> Term
     requires { Bounded (unpacked_of v) }
     ensures stands_for { StandsFor result (terms.item_of (env.summand_of u) (unpacked_of v)) }
     ensures high_value { u < 2 → result.high ≡ 0 }
 {
-    let Unpacked::Finite {
-        negative,
-        shift,
-        significand,
-    } = v
-    else {
-        return no_term();
-    };
-    summand_term(u, negative, shift, significand)
+    match v {
+        Unpacked::Finite {
+            negative,
+            shift,
+            significand,
+        } => summand_term(u, negative, shift, significand),
+        Unpacked::Zero(_) | Unpacked::Infinity(_) | Unpacked::Nan { .. } => no_term(),
+    }
 }
 
-// The term of an element that takes a closer look. This and `looked_pair` do not go by the terms of operands, which would take 4 % off a sum.
+// The term of an element that takes a closer look.
+#[tactic(auto, unfolding(totals_spec::specs::Terms::item), using(crate::proofs::Elements::operands))]
 pub fn looked_term(f: Format, c: Settings, u: u64, b: u64) -> Term
     requires { FormatBounds (format_of f) }
     ensures stands_for { StandsFor result (terms.item (format_of f) (settings_of c) (env.summand_of u) b) }
     ensures high_value { u < 2 → result.high ≡ 0 }
 {
-    let o = operand(f, c, b);
-    let v = o.value;
-    let Unpacked::Finite {
-        negative,
-        shift,
-        significand,
-    } = v
-    else {
-        return no_term();
-    };
-    summand_term(u, negative, shift, significand)
+    operand_term(u, operand(f, c, b).value)
 }
 
 // The term of a normal number.
@@ -161,21 +153,19 @@ pub fn plain_term(f: Format, u: u64, b: u64) -> Term
 }
 
 // A hundred times an element that takes a closer look. Apart from the terms above, whose loops are not to test for it in each turn.
+#[tactic(auto, unfolding(totals_spec::specs::Hundredfold::hundred_item, crate::specs::Joined::magnitude), using(crate::proofs::Elements::operands))]
 pub fn looked_hundred(f: Format, c: Settings, b: u64) -> Term
     requires { FormatBounds (format_of f) }
     ensures { StandsFor result (hundred_item (format_of f) (settings_of c) b) }
 {
-    let o = operand(f, c, b);
-    let v = o.value;
-    let Unpacked::Finite {
-        negative,
-        shift,
-        significand,
-    } = v
-    else {
-        return no_term();
-    };
-    product(negative, shift, significand, 0, 100)
+    match operand(f, c, b).value {
+        Unpacked::Finite {
+            negative,
+            shift,
+            significand,
+        } => product(negative, shift, significand, 0, 100),
+        Unpacked::Zero(_) | Unpacked::Infinity(_) | Unpacked::Nan { .. } => no_term(),
+    }
 }
 
 // A hundred times a normal number.
@@ -193,55 +183,38 @@ pub fn plain_hundred(f: Format, b: u64) -> Term
 }
 
 // The term of a pair of operands.
+#[inline(always)]
+#[tactic(auto, unfolding(crate::specs::Joined::magnitude))]
 fn operand_pair(v: Unpacked, w: Unpacked) -> Term
     requires { Bounded (unpacked_of v) × Bounded (unpacked_of w) }
     ensures { StandsFor result (terms.pair_of (unpacked_of v) (unpacked_of w)) }
 {
-    let Unpacked::Finite {
-        negative,
-        shift,
-        significand,
-    } = v
-    else {
-        return no_term();
-    };
-    let Unpacked::Finite {
-        negative: other,
-        shift: j,
-        significand: n,
-    } = w
-    else {
-        return no_term();
-    };
-    product(negative != other, shift, significand, j, n)
+    use Unpacked::{Finite, Infinity, Nan, Zero};
+    match (v, w) {
+        (
+            Finite {
+                negative,
+                shift,
+                significand,
+            },
+            Finite {
+                negative: minus,
+                shift: j,
+                significand: n,
+            },
+        ) => product(negative != minus, shift, significand, j, n),
+        (Zero(_) | Infinity(_) | Nan { .. }, _) | (_, Zero(_) | Infinity(_) | Nan { .. }) =>
+            no_term(),
+    }
 }
 
 // The term of a pair that takes a closer look.
+#[tactic(auto, unfolding(totals_spec::specs::Terms::pair_item), using(crate::proofs::Elements::operands))]
 pub fn looked_pair(f: Format, c: Settings, x: u64, y: u64) -> Term
     requires { FormatBounds (format_of f) }
     ensures { StandsFor result (terms.pair_item (format_of f) (settings_of c) (x, y)) }
 {
-    let o = operand(f, c, x);
-    let v = o.value;
-    let Unpacked::Finite {
-        negative,
-        shift,
-        significand,
-    } = v
-    else {
-        return no_term();
-    };
-    let q = operand(f, c, y);
-    let w = q.value;
-    let Unpacked::Finite {
-        negative: minus,
-        shift: j,
-        significand: n,
-    } = w
-    else {
-        return no_term();
-    };
-    product(negative != minus, shift, significand, j, n)
+    operand_pair(operand(f, c, x).value, operand(f, c, y).value)
 }
 
 // The term of two normal numbers.
@@ -265,10 +238,7 @@ pub fn both_plain(f: Format, x: u64, y: u64) -> bool
     requires { FormatBounds (format_of f) }
     ensures { result ≡ both_plain (format_of f) x y }
 {
-    if is_plain(f, x) {
-        return is_plain(f, y);
-    }
-    false
+    is_plain(f, x) && is_plain(f, y)
 }
 
 // The position of the highest bit of m * 2^k.
@@ -292,10 +262,7 @@ pub fn plain_field(f: Format, b: u64) -> u64
     requires { FormatBounds (format_of f) }
     ensures { result ≡ plain_field (format_of f) b }
 {
-    if !is_plain(f, b) {
-        return 0;
-    }
-    field_of(f, b)
+    if is_plain(f, b) { field_of(f, b) } else { 0 }
 }
 
 // The same of a pair: the sum of the two fields.
@@ -303,10 +270,11 @@ pub fn plain_fields(f: Format, x: u64, y: u64) -> u64
     requires { FormatBounds (format_of f) }
     ensures { result ≡ plain_fields (format_of f) x y }
 {
-    if !both_plain(f, x, y) {
-        return 0;
+    if both_plain(f, x, y) {
+        field_of(f, x) + field_of(f, y)
+    } else {
+        0
     }
-    field_of(f, x) + field_of(f, y)
 }
 
 // The bit length of every normal number's significand, that of the least one.
@@ -323,9 +291,10 @@ pub fn plain_pair_top(f: Format, fields: u64) -> u64
     ensures { result ≡ fields_top (format_of f) fields }
 {
     if fields == 0 {
-        return 0;
+        0
+    } else {
+        fields + 2 * normal_length(f) + FIELDS_TOP
     }
-    fields + 2 * normal_length(f) + FIELDS_TOP
 }
 
 // The same of elements, from the greatest field, by the summand: a square is a pair of an element with itself.
@@ -334,15 +303,16 @@ pub fn plain_top(f: Format, u: u64, field: u64) -> u64
     ensures { result ≡ field_top (format_of f) (env.summand_of u) field }
 {
     if u >= 2 {
-        return plain_pair_top(f, field + field);
+        plain_pair_top(f, field + field)
+    } else if field == 0 {
+        0
+    } else {
+        field + normal_length(f) + FIELD_TOP
     }
-    if field == 0 {
-        return 0;
-    }
-    field + normal_length(f) + FIELD_TOP
 }
 
 // What an operand is in a sum, by the summand.
+#[tactic(auto, unfolding(totals_spec::specs::Terms::product, totals_spec::specs::Terms::single))]
 pub fn item_of(u: u64, v: Unpacked) -> Item
     requires { Bounded (unpacked_of v) }
     ensures { result ≡ item_of (terms.item_of (env.summand_of u) (unpacked_of v)) }
@@ -350,103 +320,44 @@ pub fn item_of(u: u64, v: Unpacked) -> Item
     match v {
         Unpacked::Zero(negative) => Item::Zero(summand_sign(u, negative)),
         Unpacked::Finite {
-            negative: _,
             shift,
             significand,
-        } => {
-            if u < 2 {
-                Item::Top(top_of(shift, significand))
-            } else {
-                Item::Top(top_of_product(shift, significand, shift, significand))
-            }
-        }
+            ..
+        } => Item::Top(if u < 2 {
+            top_of(shift, significand)
+        } else {
+            top_of_product(shift, significand, shift, significand)
+        }),
         Unpacked::Infinity(negative) => Item::Infinite(summand_sign(u, negative)),
-        Unpacked::Nan {
-            negative: _,
-            signaling: _,
-            payload: _,
-        } => Item::Nan,
-    }
-}
-
-// A zero and another operand.
-fn pair_zero(negative: bool, w: Unpacked) -> Item
-    ensures { result ≡ item_of (terms.pair_of (dec.zero_of negative) (unpacked_of w)) }
-{
-    match w {
-        Unpacked::Zero(minus) => Item::Zero(negative != minus),
-        Unpacked::Finite {
-            negative: minus,
-            shift: _,
-            significand: _,
-        } => Item::Zero(negative != minus),
-        Unpacked::Infinity(_) => Item::Invalid,
-        Unpacked::Nan {
-            negative: _,
-            signaling: _,
-            payload: _,
-        } => Item::Nan,
-    }
-}
-
-// A finite number and another operand.
-fn pair_finite(negative: bool, k: u64, m: u64, w: Unpacked) -> Item
-    requires { Bounded (dec.finite negative k m) × Bounded (unpacked_of w) }
-    ensures { result ≡ item_of (terms.pair_of (dec.finite negative k m) (unpacked_of w)) }
-{
-    match w {
-        Unpacked::Zero(minus) => Item::Zero(negative != minus),
-        Unpacked::Finite {
-            negative: _,
-            shift: j,
-            significand: n,
-        } => Item::Top(top_of_product(k, m, j, n)),
-        Unpacked::Infinity(minus) => Item::Infinite(negative != minus),
-        Unpacked::Nan {
-            negative: _,
-            signaling: _,
-            payload: _,
-        } => Item::Nan,
-    }
-}
-
-// An infinity and another operand.
-fn pair_infinity(negative: bool, w: Unpacked) -> Item
-    ensures { result ≡ item_of (terms.pair_of (dec.infinity negative) (unpacked_of w)) }
-{
-    match w {
-        Unpacked::Zero(_) => Item::Invalid,
-        Unpacked::Finite {
-            negative: minus,
-            shift: _,
-            significand: _,
-        } => Item::Infinite(negative != minus),
-        Unpacked::Infinity(minus) => Item::Infinite(negative != minus),
-        Unpacked::Nan {
-            negative: _,
-            signaling: _,
-            payload: _,
-        } => Item::Nan,
+        Unpacked::Nan { .. } => Item::Nan,
     }
 }
 
 // What a pair of operands is in a dot.
+#[tactic(auto, unfolding(totals_spec::specs::Terms::product))]
 pub fn pair_of(v: Unpacked, w: Unpacked) -> Item
     requires { Bounded (unpacked_of v) × Bounded (unpacked_of w) }
     ensures { result ≡ item_of (terms.pair_of (unpacked_of v) (unpacked_of w)) }
 {
-    match v {
-        Unpacked::Zero(negative) => pair_zero(negative, w),
-        Unpacked::Finite {
-            negative,
-            shift,
-            significand,
-        } => pair_finite(negative, shift, significand, w),
-        Unpacked::Infinity(negative) => pair_infinity(negative, w),
-        Unpacked::Nan {
-            negative: _,
-            signaling: _,
-            payload: _,
-        } => Item::Nan,
+    use Unpacked::{Finite, Infinity, Nan, Zero};
+    match (v, w) {
+        (Nan { .. }, _) | (_, Nan { .. }) => Item::Nan,
+        (Infinity(_), Zero(_)) | (Zero(_), Infinity(_)) => Item::Invalid,
+        (Infinity(s), Infinity(t) | Finite { negative: t, .. })
+        | (Finite { negative: s, .. }, Infinity(t)) => Item::Infinite(s != t),
+        (Zero(s), Zero(t) | Finite { negative: t, .. }) | (Finite { negative: s, .. }, Zero(t)) =>
+            Item::Zero(s != t),
+        (
+            Finite {
+                shift: k,
+                significand: m,
+                ..
+            },
+            Finite {
+                shift: j,
+                significand: n,
+                ..
+            },
+        ) => Item::Top(top_of_product(k, m, j, n)),
     }
 }

@@ -1,5 +1,5 @@
 -- An encoding whose bits are all 0 but for the sign: no finite number.
-use Rattle.std.proofs.Common.{◌≡◌, ℕ, ◌-◌, ◌%◌, ◌^◌, Bool, true, false, cond, ◌&&◌, T, eqb, ltb, sym, refl, ap, subst, eqb→eq, eq-eqb, ne_eqb}
+use Rattle.std.proofs.Common.{◌≡◌, ℕ, ◌-◌, ◌%◌, ◌^◌, Bool, true, false, cond, ◌&&◌, T, eqb, ltb, sym, refl, ap, subst, eqb→eq}
 use Rattle.totals_spec.specs.Basics.{is_set}
 use Rattle.totals_spec.specs.Format as spec
 use Rattle.totals_spec.specs.Settings as env
@@ -8,13 +8,6 @@ use Rattle.totals_spec.specs.Decode.{is_finite, is_subnormal, sign_bit, field_of
 use Rattle.totals_spec.proofs.Valid.{and_left, and_right}
 use Rattle.binary.specs.Joined.{top_field_of, is_blank}
 use Rattle.binary.proofs.Cases.{number-zero}
-
-module _ (f : spec.Format) (b : ℕ) where
-  pub blank-field : (field_of f b ≡ 0 → ⊥) → false ≡ is_blank f b
-  blank-field h = rw (ne_eqb (field_of f b) 0 h)
-
-  pub blank-fraction : field_of f b ≡ 0 → eqb (fraction_of f b) 0 ≡ is_blank f b
-  blank-fraction h = rw (eq-eqb (field_of f b) 0 h)
 
 number-blank : (t : ℕ) (s : Bool) (x m : ℕ) → (eqb x 0 && eqb m 0) ≡ true → is_finite (number t s x m) ≡ false
 number-blank t s x m e =

@@ -1,44 +1,15 @@
--- Values of ten bytes: what their fields stand for, and the fields of what is written.
-use Rattle.std.proofs.Common.{◌≡◌, ℕ, zero, suc, ◌+◌, ◌-◌, ◌^◌, ◌<◌, Bool, true, false, not, eqb, sym, refl, ap, ◌∙◌, arith, eq-eqb, ne_eqb}
+-- Values of ten bytes: whether one is subnormal, and the fields of what is written.
+use Rattle.std.proofs.Common.{◌≡◌, ℕ, ◌+◌, ◌^◌, ◌<◌, Bool, not, ◌&&◌, eqb, sym, ◌∙◌}
 use Rattle.totals_spec.specs.Basics.{flag}
-use Rattle.totals_spec.specs.Decode.{finite, nan, number}
 use Rattle.totals_spec.specs.Encode.{assembled}
-use Rattle.totals_spec.specs.Extended.{extended, sign_in, field_in, significand_in, unsupported, extended_number, extended_top, decode_extended, spread}
+use Rattle.totals_spec.specs.Extended.{extended, field_in, subnormal_extended, spread}
 use Rattle.totals_spec.specs.Halves.{joined}
-use Rattle.totals_spec.proofs.Halves.{bits-joined}
+use Rattle.totals_spec.proofs.Halves.{halves-field, halves-subnormal, bits-joined}
 use Rattle.totals_spec.proofs.Spread.{spread-assembled}
 
--- ---- what the fields stand for: the sign s, the exponent field x, the significand m
-
-module _ (s : Bool) (x m : ℕ) where
-  pub number-field : (x ≡ 0 → ⊥) → finite s (x - 1) m ≡ extended_number s x m
-  number-field = go x
-    where
-      go : (x : ℕ) → (x ≡ 0 → ⊥) → finite s (x - 1) m ≡ extended_number s x m
-      go zero h = absurd (h refl)
-      go (suc x) h = ap (λ (k : ℕ). finite s k m) (omega arith)
-
-  -- below a field of 0 no leading bit is added in either
-  pub number-alike : x ≡ 0 → number 0 s x m ≡ extended_number s x m
-  number-alike h = rw h (go m)
-    where
-      go : (m : ℕ) → number 0 s 0 m ≡ extended_number s 0 m
-      go zero = refl
-      go (suc m) = refl
-
--- the value b, and its fields as they are read
-module _ (b : ℕ) (s : Bool) (es : s ≡ sign_in b) where
-  pub decoded-unsupported : unsupported b ≡ true → nan s false 0 ≡ decode_extended b
-  unfolding decode_extended unsupported
-  decoded-unsupported u = rw (sym es, u)
-
-  pub decoded-top : (x m : ℕ) → x ≡ field_in b → significand_in b ≡ m → unsupported b ≡ false → x ≡ 32767 → extended_top s m ≡ decode_extended b
-  unfolding decode_extended unsupported
-  decoded-top x m ex em u h = rw (sym es, u, eq-eqb (field_in b) 32767 (sym ex ∙ h), em)
-
-  pub decoded-number : (x m : ℕ) → x ≡ field_in b → significand_in b ≡ m → unsupported b ≡ false → (x ≡ 32767 → ⊥) → extended_number s x m ≡ decode_extended b
-  unfolding decode_extended unsupported
-  decoded-number x m ex em u h = rw (sym es, u, ne_eqb (field_in b) 32767 (λ e. h (ex ∙ e)), ex, em)
+-- whether a value is subnormal, by the field that was read
+pub subnormal_by_field : (h m x : ℕ) → h < 65536 → m < 2 ^ 64 → x ≡ field_in (joined h m) → (eqb x 0 && not (eqb m 0)) ≡ subnormal_extended (joined h m)
+subnormal_by_field h m x a b e = rw (e ∙ halves-field h m a b) (sym (halves-subnormal h m a b))
 
 -- ---- what is written: the head h and the significand m
 

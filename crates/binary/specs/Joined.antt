@@ -1,5 +1,5 @@
 -- The parts of decoding that have a function of their own, the running choice among NaNs, and plainly normal numbers.
-use Rattle.std.specs.Prelude.{ℕ, ◌-◌, ◌%◌, ◌^◌, Bool, false, cond, not, ◌&&◌, ◌==◌, nat_lt}
+use Rattle.std.specs.Prelude.{Option, Some, None, ℕ, ◌-◌, ◌%◌, ◌^◌, Bool, false, cond, not, ◌&&◌, ◌==◌, nat_lt}
 use Rattle.totals_spec.specs.Format as spec
 use Rattle.totals_spec.specs.Settings as env
 use Rattle.totals_spec.specs.Decode.{Unpacked, zero_of, infinity, nan, top_field, ones, field_of, fraction_of}
@@ -26,11 +26,9 @@ abbrev pub is_blank : spec.Format → ℕ → Bool
 is_blank f b = field_of f b == 0 && fraction_of f b == 0
 
 -- the running choice: no NaN yet is a zero, as in `chosen_of`
-abbrev pub nan_of : Nan → Unpacked
-nan_of n = cond n.some (nan n.negative n.signaling n.payload) (zero_of false)
-
-abbrev pub no_nan : Nan
-no_nan = record { some = false; negative = false; signaling = false; payload = 0 }
+abbrev pub nan_of : Option Nan → Unpacked
+nan_of (Some n) = nan n.negative n.signaling n.payload
+nan_of None = zero_of false
 
 -- the choice at the end, made quiet, as in `by_rule`
 abbrev pub selected_by : env.Propagation → env.Settings → Unpacked → Unpacked

@@ -9,7 +9,7 @@ ghost use Rattle.format.specs.Fits.{Encodes};
 ghost use Rattle.values.specs.Tens.{ten_of};
 
 use crate::Read;
-use format::env::Settings;
+use format::env::{Settings, flag};
 use format::unpacked::Unpacked;
 use format::{Format, Named};
 use values::Ten;
@@ -25,6 +25,7 @@ const LEADING: u64 = 9223372036854775808;
 const QUIET: u64 = 4611686018427387904;
 
 // The format whose numbers these are: Ieee with 64 digits.
+#[tactic(auto, unfolding(totals_spec::specs::Extended::extended))]
 pub fn extended() -> Format
     ensures { format_of result ≡ spec.extended }
 {
@@ -51,14 +52,12 @@ fn field_of(b: Ten) -> u64
 }
 
 // A field above 0 over a leading bit of 0.
+#[tactic(auto, unfolding(totals_spec::specs::Extended::unsupported))]
 pub fn is_unsupported(b: Ten) -> bool
     requires { b.head < 65536 }
     ensures { result ≡ spec.unsupported (ten_of b) }
 {
-    if field_of(b) == 0 {
-        return false;
-    }
-    b.significand < LEADING
+    field_of(b) != 0 && b.significand < LEADING
 }
 
 // A field of all ones: the leading bit alone is an infinity.
@@ -66,52 +65,52 @@ fn decode_top(negative: bool, significand: u64) -> Unpacked
     ensures { unpacked_of result ≡ spec.extended_top negative significand }
 {
     if significand == LEADING {
-        return Unpacked::Infinity(negative);
-    }
-    Unpacked::Nan {
-        negative,
-        signaling: significand < LEADING + QUIET,
-        payload: significand % QUIET,
+        Unpacked::Infinity(negative)
+    } else {
+        Unpacked::Nan {
+            negative,
+            signaling: significand < LEADING + QUIET,
+            payload: significand % QUIET,
+        }
     }
 }
 
 fn decode_number(negative: bool, field: u64, significand: u64) -> Unpacked
     ensures { unpacked_of result ≡ spec.extended_number negative field significand }
 {
-    if field != 0 {
-        return Unpacked::Finite {
+    match (field, significand) {
+        (0, 0) => Unpacked::Zero(negative),
+        (0, _) => Unpacked::Finite {
+            negative,
+            shift: 0,
+            significand,
+        },
+        _ => Unpacked::Finite {
             negative,
             shift: field - 1,
             significand,
-        };
-    }
-    if significand == 0 {
-        return Unpacked::Zero(negative);
-    }
-    Unpacked::Finite {
-        negative,
-        shift: 0,
-        significand,
+        },
     }
 }
 
+#[tactic(auto, unfolding(totals_spec::specs::Extended::decode_extended, totals_spec::specs::Extended::unsupported))]
 pub fn decode(b: Ten) -> Unpacked
     requires { b.head < 65536 }
     ensures { unpacked_of result ≡ spec.decode_extended (ten_of b) }
 {
     let negative = sign_of(b);
+    let field = field_of(b);
     if is_unsupported(b) {
-        return Unpacked::Nan {
+        Unpacked::Nan {
             negative,
             signaling: false,
             payload: 0,
-        };
+        }
+    } else if field == FIELD_MAX {
+        decode_top(negative, b.significand)
+    } else {
+        decode_number(negative, field, b.significand)
     }
-    let field = field_of(b);
-    if field == FIELD_MAX {
-        return decode_top(negative, b.significand);
-    }
-    decode_number(negative, field, b.significand)
 }
 
 // A pseudo-denormal counts as a subnormal number.
@@ -119,34 +118,22 @@ fn is_subnormal(b: Ten) -> bool
     requires { b.head < 65536 }
     ensures { result ≡ spec.subnormal_extended (ten_of b) }
 {
-    if field_of(b) != 0 {
-        return false;
-    }
-    b.significand != 0
+    field_of(b) == 0 && b.significand != 0
 }
 
 // An operand: the decoded number, or under denormals-are-zero a signed zero in place of a subnormal one.
+#[tactic(auto, unfolding(totals_spec::specs::Extended::extended_operand))]
 pub fn operand(c: Settings, b: Ten) -> Read
     requires { b.head < 65536 }
     ensures { (unpacked_of result.value ≡ spec.extended_operand (settings_of c) (ten_of b)) × (result.subnormal ≡ spec.subnormal_extended (ten_of b)) }
 {
     let subnormal = is_subnormal(b);
-    if c.denormals_are_zero == 0 {
-        return Read {
-            value: decode(b),
-            subnormal,
-        };
-    }
-    if subnormal {
-        return Read {
-            value: Unpacked::Zero(sign_of(b)),
-            subnormal: true,
-        };
-    }
-    Read {
-        value: decode(b),
-        subnormal: false,
-    }
+    let value = if subnormal && c.denormals_are_zero != 0 {
+        Unpacked::Zero(sign_of(b))
+    } else {
+        decode(b)
+    };
+    Read { value, subnormal }
 }
 
 // The leading bit of a significand stands below a field above 0.
@@ -155,31 +142,26 @@ fn with_leading(field: u64, fraction: u64) -> u64
     ensures { result ≡ flag (2 ^ 63) (not (field == 0)) + fraction }
 {
     if field == 0 {
-        return fraction;
+        fraction
+    } else {
+        LEADING + fraction
     }
-    LEADING + fraction
 }
 
 // The sign, the exponent field and the significand in their places.
+#[tactic(auto, using(crate::proofs::Tens::written_is))]
 fn assemble(negative: bool, field: u64, fraction: u64) -> Ten
     requires { (field < 2 ^ 15) × (fraction < 2 ^ 63) }
     ensures { (ten_of result ≡ spec.spread (enc.assembled spec.extended negative field fraction)) × (result.head < 65536) }
 {
-    let significand = with_leading(field, fraction);
-    if negative {
-        Ten {
-            head: SIGN + field,
-            significand,
-        }
-    } else {
-        Ten {
-            head: field,
-            significand,
-        }
+    Ten {
+        head: flag(SIGN, negative) + field,
+        significand: with_leading(field, fraction),
     }
 }
 
 // A significand without its leading bit is a subnormal's.
+#[tactic(auto, unfolding(totals_spec::specs::Encode::encode, totals_spec::specs::Extended::extended))]
 fn encode_finite(negative: bool, shift: u64, significand: u64) -> Ten
     requires { shift + 1 < 2 ^ 15 }
     ensures { (ten_of result ≡ spec.spread (enc.encode spec.extended (dec.finite negative shift significand))) × (result.head < 65536) }
@@ -191,16 +173,15 @@ fn encode_finite(negative: bool, shift: u64, significand: u64) -> Ten
     }
 }
 
+#[tactic(auto, unfolding(totals_spec::specs::Extended::extended, totals_spec::specs::Encode::encode))]
 fn encode_nan(negative: bool, signaling: bool, payload: u64) -> Ten
     requires { payload < 2 ^ 62 }
     ensures { (ten_of result ≡ spec.spread (enc.encode spec.extended (dec.nan negative signaling payload))) × (result.head < 65536) }
 {
-    if signaling {
-        return assemble(negative, FIELD_MAX, payload);
-    }
-    assemble(negative, FIELD_MAX, QUIET + payload)
+    assemble(negative, FIELD_MAX, flag(QUIET, !signaling) + payload)
 }
 
+#[tactic(auto, unfolding(totals_spec::specs::Encode::encode, totals_spec::specs::Extended::extended))]
 pub fn encode(v: Unpacked) -> Ten
     requires { Encodes spec.extended (unpacked_of v) }
     ensures { (ten_of result ≡ spec.spread (enc.encode spec.extended (unpacked_of v))) × (result.head < 65536) }

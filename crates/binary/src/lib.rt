@@ -13,7 +13,7 @@ ghost use Rattle.format.specs.Joined.{format_of, settings_of, unpacked_of};
 ghost use Rattle.format.specs.Fits.{Encodes};
 ghost use Rattle.binary.specs.Joined.{top_field_of, nan_pattern, is_blank, is_plain};
 
-use format::env::Settings;
+use format::env::{Settings, flag};
 use format::unpacked::Unpacked;
 use format::{Format, field_max, fraction_bits};
 use limbs::word::{low_bits, ones, power, scaled};
@@ -47,20 +47,18 @@ fn decode_finite(t: u64, negative: bool, field: u64, fraction: u64) -> Unpacked
     requires { (t < 64) × (fraction < 2 ^ t) }
     ensures { unpacked_of result ≡ dec.number t negative field fraction }
 {
-    if field != 0 {
-        return Unpacked::Finite {
+    match (field, fraction) {
+        (0, 0) => Unpacked::Zero(negative),
+        (0, _) => Unpacked::Finite {
+            negative,
+            shift: 0,
+            significand: fraction,
+        },
+        _ => Unpacked::Finite {
             negative,
             shift: field - 1,
             significand: power(t) + fraction,
-        };
-    }
-    if fraction == 0 {
-        return Unpacked::Zero(negative);
-    }
-    Unpacked::Finite {
-        negative,
-        shift: 0,
-        significand: fraction,
+        },
     }
 }
 
@@ -70,12 +68,13 @@ fn decode_top(t: u64, negative: bool, fraction: u64) -> Unpacked
     ensures { unpacked_of result ≡ top_field_of t negative fraction }
 {
     if fraction == 0 {
-        return Unpacked::Infinity(negative);
-    }
-    Unpacked::Nan {
-        negative,
-        signaling: fraction < power(t - 1),
-        payload: low_bits(fraction, (t - 1) as usize),
+        Unpacked::Infinity(negative)
+    } else {
+        Unpacked::Nan {
+            negative,
+            signaling: fraction < power(t - 1),
+            payload: low_bits(fraction, (t - 1) as usize),
+        }
     }
 }
 
@@ -84,24 +83,14 @@ fn is_nan_pattern(f: Format, negative: bool, field: u64, fraction: u64) -> bool
     requires { FormatBounds (format_of f) }
     ensures { result ≡ nan_pattern (spec.kind_of f.kind) (format_of f) negative field fraction }
 {
-    if f.kind == 1 {
-        if field != field_max(f) {
-            return false;
-        }
-        return fraction == ones(fraction_bits(f));
+    match f.kind {
+        1 => field == field_max(f) && fraction == ones(fraction_bits(f)),
+        2 => negative && field == 0 && fraction == 0,
+        _ => false,
     }
-    if f.kind == 2 {
-        if !negative {
-            return false;
-        }
-        if field != 0 {
-            return false;
-        }
-        return fraction == 0;
-    }
-    false
 }
 
+#[tactic(auto, unfolding(totals_spec::specs::Decode::decode))]
 pub fn decode(f: Format, b: u64) -> Unpacked
     requires { FormatBounds (format_of f) }
     ensures { unpacked_of result ≡ dec.decode (format_of f) b }
@@ -109,20 +98,17 @@ pub fn decode(f: Format, b: u64) -> Unpacked
     let negative = sign_of(f, b);
     let field = field_of(f, b);
     let fraction = fraction_of(f, b);
-    if f.kind == 0 {
-        if field == field_max(f) {
-            return decode_top(fraction_bits(f), negative, fraction);
-        }
-        return decode_finite(fraction_bits(f), negative, field, fraction);
-    }
-    if is_nan_pattern(f, negative, field, fraction) {
-        return Unpacked::Nan {
+    if f.kind == 0 && field == field_max(f) {
+        decode_top(fraction_bits(f), negative, fraction)
+    } else if is_nan_pattern(f, negative, field, fraction) {
+        Unpacked::Nan {
             negative,
             signaling: false,
             payload: 0,
-        };
+        }
+    } else {
+        decode_finite(fraction_bits(f), negative, field, fraction)
     }
-    decode_finite(fraction_bits(f), negative, field, fraction)
 }
 
 // Whether the exponent field alone says, in every kind, that an encoding is a normal number: it is neither 0 nor all ones. One test tells, since 0 less 1
@@ -131,7 +117,7 @@ pub fn is_plain(f: Format, b: u64) -> bool
     requires { FormatBounds (format_of f) }
     ensures { result ≡ is_plain (format_of f) b }
 {
-    std::num::wrapping_sub_u64(field_of(f, b), 1) < field_max(f) - 1
+    field_of(f, b).wrapping_sub(1) < field_max(f) - 1
 }
 
 // Whether all bits but the sign are 0: a zero, or Fnuz's NaN.
@@ -139,10 +125,7 @@ pub fn is_blank(f: Format, b: u64) -> bool
     requires { FormatBounds (format_of f) }
     ensures { result ≡ is_blank (format_of f) b }
 {
-    if field_of(f, b) != 0 {
-        return false;
-    }
-    fraction_of(f, b) == 0
+    field_of(f, b) == 0 && fraction_of(f, b) == 0
 }
 
 // Whether an encoding, decoded as v, is a subnormal number.
@@ -150,20 +133,7 @@ fn is_subnormal(f: Format, b: u64, v: Unpacked) -> bool
     requires { FormatBounds (format_of f) }
     ensures { result ≡ (dec.is_finite (unpacked_of v) && dec.field_of (format_of f) b == 0) }
 {
-    match v {
-        Unpacked::Zero(_) => false,
-        Unpacked::Finite {
-            negative: _,
-            shift: _,
-            significand: _,
-        } => field_of(f, b) == 0,
-        Unpacked::Infinity(_) => false,
-        Unpacked::Nan {
-            negative: _,
-            signaling: _,
-            payload: _,
-        } => false,
-    }
+    matches!(v, Unpacked::Finite { .. }) && field_of(f, b) == 0
 }
 
 // What an encoding stands for as an operand, and whether it is subnormal, which denormals-are-zero does not hide.
@@ -174,28 +144,19 @@ pub struct Read {
 }
 
 // An operand: the decoded number, or under denormals-are-zero a signed zero in place of a subnormal one.
+#[tactic(auto, unfolding(totals_spec::specs::Decode::operand, totals_spec::specs::Decode::is_subnormal))]
 pub fn operand(f: Format, c: Settings, b: u64) -> Read
     requires { FormatBounds (format_of f) }
     ensures { (unpacked_of result.value ≡ dec.operand (format_of f) (settings_of c) b) × (result.subnormal ≡ dec.is_subnormal (format_of f) b) }
 {
     let v = decode(f, b);
     let subnormal = is_subnormal(f, b, v);
-    if c.denormals_are_zero == 0 {
-        return Read {
-            value: v,
-            subnormal,
-        };
-    }
-    if subnormal {
-        return Read {
-            value: Unpacked::Zero(sign_of(f, b)),
-            subnormal: true,
-        };
-    }
-    Read {
-        value: v,
-        subnormal: false,
-    }
+    let value = if subnormal && c.denormals_are_zero != 0 {
+        Unpacked::Zero(sign_of(f, b))
+    } else {
+        v
+    };
+    Read { value, subnormal }
 }
 
 // The sign, the exponent field and the fraction in their places.
@@ -204,12 +165,7 @@ fn assemble(f: Format, negative: bool, field: u64, fraction: u64) -> u64
     requires field_bound { (field < 2 ^ f.exponent_bits) × (fraction < 2 ^ spec.fraction_bits (format_of f)) }
     ensures { result ≡ enc.assembled (format_of f) negative field fraction }
 {
-    let body = scaled(field, fraction_bits(f)) + fraction;
-    if negative {
-        power(f.width - 1) + body
-    } else {
-        body
-    }
+    flag(power(f.width - 1), negative) + scaled(field, fraction_bits(f)) + fraction
 }
 
 // Fnuz has no -0: its pattern is the NaN.
@@ -218,9 +174,10 @@ fn encode_zero(f: Format, negative: bool) -> u64
     ensures { result ≡ enc.zero_bits (spec.kind_of f.kind) (format_of f) negative }
 {
     if f.kind != 2 {
-        return assemble(f, negative, 0, 0);
+        assemble(f, negative, 0, 0)
+    } else {
+        0
     }
-    0
 }
 
 // Finite has no NaN, and gives +0.
@@ -229,23 +186,22 @@ fn encode_nan(f: Format, negative: bool, signaling: bool, payload: u64) -> u64
     requires payload_bound { payload < 2 ^ (spec.fraction_bits (format_of f) - 1) }
     ensures { result ≡ enc.nan_bits (spec.kind_of f.kind) (format_of f) negative signaling payload }
 {
-    if f.kind == 0 {
-        let top = field_max(f);
-        if signaling {
-            return assemble(f, negative, top, payload);
-        }
-        return assemble(f, negative, top, power(fraction_bits(f) - 1) + payload);
+    match f.kind {
+        0 if signaling => assemble(f, negative, field_max(f), payload),
+        0 => assemble(
+            f,
+            negative,
+            field_max(f),
+            power(fraction_bits(f) - 1) + payload,
+        ),
+        1 => assemble(f, negative, field_max(f), ones(fraction_bits(f))),
+        2 => assemble(f, true, 0, 0),
+        _ => 0,
     }
-    if f.kind == 1 {
-        return assemble(f, negative, field_max(f), ones(fraction_bits(f)));
-    }
-    if f.kind == 2 {
-        return assemble(f, true, 0, 0);
-    }
-    0
 }
 
 // The leading bit of a normal number stays out; a significand without it is a subnormal's.
+#[tactic(auto, unfolding(totals_spec::specs::Encode::encode))]
 fn encode_finite(f: Format, negative: bool, shift: u64, significand: u64) -> u64
     requires format_bounds { FormatBounds (format_of f) }
     requires shift_bound { (shift + 1 < 2 ^ f.exponent_bits) × (significand < 2 ^ spec.digits (format_of f)) }
@@ -259,6 +215,7 @@ fn encode_finite(f: Format, negative: bool, shift: u64, significand: u64) -> u64
     }
 }
 
+#[tactic(auto, unfolding(totals_spec::specs::Encode::encode))]
 pub fn encode(f: Format, v: Unpacked) -> u64
     requires format_bounds { FormatBounds (format_of f) }
     requires encodes { Encodes (format_of f) (unpacked_of v) }

@@ -4,31 +4,20 @@ ghost use Rattle.std.specs.Prelude.{◌≡◌};
 ghost use Rattle.totals_spec.specs.Settings as env;
 ghost use Rattle.totals_spec.specs.Nan as nans;
 ghost use Rattle.format.specs.Joined.{settings_of, unpacked_of};
-ghost use Rattle.binary.specs.Joined.{nan_of, no_nan, selected_of};
+ghost use Rattle.binary.specs.Joined.{nan_of, selected_of};
 
 use format::env::Settings;
 use format::unpacked::Unpacked;
 
-// The NaN chosen so far, if there is one.
+// A NaN. The one chosen so far is an `Option` of it.
 #[derive(Clone, Copy)]
 pub struct Nan {
-    pub some: bool,
     pub negative: bool,
     pub signaling: bool,
     pub payload: u64,
 }
 
-pub fn none() -> Nan
-    ensures { result ≡ no_nan }
-{
-    Nan {
-        some: false,
-        negative: false,
-        signaling: false,
-        payload: 0,
-    }
-}
-
+#[tactic(auto, unfolding(totals_spec::specs::Nan::default_nan_of))]
 pub fn default_nan(c: Settings) -> Unpacked
     ensures { unpacked_of result ≡ nans.default_nan_of (settings_of c) }
 {
@@ -43,69 +32,46 @@ pub fn default_nan(c: Settings) -> Unpacked
 fn larger(a: Nan, b: Nan) -> bool
     ensures { result ≡ nans.larger a.negative a.payload b.negative b.payload }
 {
-    if b.payload < a.payload {
-        return true;
-    }
-    if a.payload != b.payload {
-        return false;
-    }
-    if a.negative {
-        return false;
-    }
-    b.negative
+    b.payload < a.payload || (a.payload == b.payload && !a.negative && b.negative)
 }
 
 // Whether the earlier of two NaNs stays.
 fn stays(rule: u64, a: Nan, b: Nan) -> bool
     ensures { result ≡ nans.stays_nan (env.propagation_of rule) a.negative a.signaling a.payload b.negative b.signaling b.payload }
 {
-    if rule == 0 {
-        if a.signaling {
-            return true;
-        }
-        return !b.signaling;
+    match rule {
+        0 => a.signaling || !b.signaling,
+        2 if a.signaling == b.signaling => larger(a, b),
+        2 => b.signaling,
+        _ => true,
     }
-    if rule == 2 {
-        if a.signaling {
-            if b.signaling {
-                return larger(a, b);
-            }
-            return false;
-        }
-        if b.signaling {
-            return true;
-        }
-        return larger(a, b);
-    }
-    true
 }
 
 // The choice among the NaNs so far and one more.
-pub fn select(rule: u64, kept: Nan, next: Nan) -> Nan
+pub fn select(rule: u64, kept: Option<Nan>, next: Option<Nan>) -> Option<Nan>
     ensures { nan_of result ≡ nans.choose (env.propagation_of rule) (nan_of kept) (nan_of next) }
 {
-    if !kept.some {
-        return next;
+    match (kept, next) {
+        (Some(a), Some(b)) => Some(if stays(rule, a, b) { a } else { b }),
+        (Some(_), None) => kept,
+        (None, _) => next,
     }
-    if !next.some {
-        return kept;
-    }
-    if stays(rule, kept, next) { kept } else { next }
 }
 
 // What the choice gives in the end, made quiet.
-pub fn selected(c: Settings, n: Nan) -> Unpacked
+#[tactic(auto, unfolding(crate::specs::Joined::selected_of))]
+pub fn selected(c: Settings, n: Option<Nan>) -> Unpacked
     ensures { unpacked_of result ≡ selected_of (settings_of c) (nan_of n) }
 {
     if c.nan_propagation >= 3 {
         return default_nan(c);
     }
-    if !n.some {
-        return Unpacked::Zero(false);
-    }
-    Unpacked::Nan {
-        negative: n.negative,
-        signaling: false,
-        payload: n.payload,
+    match n {
+        Some(n) => Unpacked::Nan {
+            negative: n.negative,
+            signaling: false,
+            payload: n.payload,
+        },
+        None => Unpacked::Zero(false),
     }
 }

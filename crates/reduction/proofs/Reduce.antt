@@ -3,6 +3,7 @@ use mathlib.Core.Path.{◌≡◌, sym, ap, ap₂, ◌∙◌, subst}
 use mathlib.Core.Bool.{Bool, true, false}
 use mathlib.Core.List.{List}
 use Prim.Native.Nat.{◌<◌}
+use Rattle.std.specs.Prelude.{Option, Some, None}
 use Rattle.totals_spec.specs.Basics.{any}
 use Rattle.totals_spec.specs.Format as spec
 use Rattle.totals_spec.specs.Settings as env
@@ -12,11 +13,9 @@ use Rattle.totals_spec.specs.Terms as terms
 use Rattle.totals_spec.specs.Chain as chain
 use Rattle.totals_spec.specs.Totals as totals
 use Rattle.totals_spec.specs.Settled.{settled, chain_total}
-use Rattle.format.specs.declared.unpacked.Unpacked.{Unpacked}
 use Rattle.format.specs.Joined.{unpacked_of}
 use Rattle.scan.specs.declared.Scan.{Scan}
-use Rattle.scan.specs.declared.Early.{Early}
-use Rattle.scan.specs.declared.Early.TheVariants.{Given, Terms}
+use Rattle.scan.specs.declared.Given.{Given}
 use Rattle.scan.specs.Joined.{Gathered, Told, Decides}
 use Rattle.window.specs.declared.ExactSum.{ExactSum}
 use Rattle.window.specs.Joined.{run_of}
@@ -28,25 +27,25 @@ told f c products sub r =
     (totals.sum_rounded f c (spec.grid f products) (totals.towards_negative c) (totals.on_grid f products (settled r.outcome))) r
 
 module _ {f : spec.Format} {c : env.Settings} {sub sig : Bool} {ops : List dec.Unpacked} {l : List terms.Item} {s : Scan}
-    (g : Gathered f c sub sig ops l s) (products first : Bool) (d : Early) (h : Decides d c first s) where
+    (g : Gathered f c sub sig ops l s) (products first : Bool) (d : Option Given) (h : Decides d c first s) where
   abbrev answer : totals.Answer
   answer = totals.accepted f c sub products first sig (nans.select_all c ops) l
 
   -- the scan alone decides
-  pub given : (v : Unpacked) (i : Bool) → d ≡ Given v i → Told f c sub products first sig ops l (unpacked_of v) i
-  given v i e = subst (λ (x : Early). Decides x c first s) e h f sub products sig ops l g
+  pub given : (v : Given) → d ≡ Some v → Told f c sub products first sig ops l (unpacked_of v.value) v.invalid
+  given v e = subst (λ (x : Option Given). Decides x c first s) e h f sub products sig ops l g
 
-  pub given_is : (v : Unpacked) (i : Bool) → d ≡ Given v i → (a : totals.Answer) → a ≡ totals.special f s.subnormal (unpacked_of v) i → a ≡ answer
-  given_is v i e a r = r ∙ ap (λ (b : Bool). totals.special f b (unpacked_of v) i) g.subnormal ∙ sym (given v i e).is
+  pub given_is : (v : Given) → d ≡ Some v → (a : totals.Answer) → a ≡ totals.special f s.subnormal (unpacked_of v.value) v.invalid → a ≡ answer
+  given_is v e a r = r ∙ ap (λ (b : Bool). totals.special f b (unpacked_of v.value) v.invalid) g.subnormal ∙ sym (given v e).is
 
   -- there are terms
-  some : d ≡ Terms → (answer ≡ totals.finite_total f c sub products false (terms.terms l)) × (any (λ t. true) (terms.terms l) ≡ true) × (0 < s.top)
-  some e = subst (λ (x : Early). Decides x c first s) e h f sub products sig ops l g
+  some : d ≡ None → (answer ≡ totals.finite_total f c sub products false (terms.terms l)) × (any (λ t. true) (terms.terms l) ≡ true) × (0 < s.top)
+  some e = subst (λ (x : Option Given). Decides x c first s) e h f sub products sig ops l g
 
-  pub top-is : d ≡ Terms → (s.top ≡ terms.top_of (terms.terms l)) × (0 < s.top)
+  pub top-is : d ≡ None → (s.top ≡ terms.top_of (terms.terms l)) × (0 < s.top)
   top-is e = (g.top, (some e).2)
 
-  pub finish-is : d ≡ Terms → (e : ExactSum) → run_of e ≡ chain.chain (spec.digits f) (terms.terms l)
+  pub finish-is : d ≡ None → (e : ExactSum) → run_of e ≡ chain.chain (spec.digits f) (terms.terms l)
       → chain_total f c sub products false (terms.terms l) ≡ totals.finite_total f c sub products false (terms.terms l) → (a : totals.Answer)
       → a ≡ told f c products s.subnormal (run_of e) → a ≡ answer
   unfolding chain_total

@@ -6,6 +6,7 @@ use Prim.Native.Nat.{ℕ, zero, suc, ◌-◌, ◌%◌, ◌^◌}
 use native.Mathlib.Nat.{mod-lt}
 use lib.Dec.{eqb, ltb}
 use lib.Pow.{pow_pos}
+use Rattle.std.specs.Prelude.{Option, Some, None, is_some}
 use Rattle.totals_spec.specs.Basics.{any, is_set}
 use Rattle.totals_spec.specs.Format as spec
 use Rattle.totals_spec.specs.Settings as env
@@ -47,21 +48,14 @@ if_some v e = ap (λ b. cond b v (dec.zero_of false)) e
 pub none-signaling : (v : dec.Unpacked) → dec.is_nan v ≡ false → dec.is_signaling v ≡ false
 none-signaling v e = sym (if-signaling v) ∙ ap dec.is_signaling (if_none v e)
 
--- what stands in the code's Nan
-module _ (n : Nan) where
-  pub held-some : dec.is_nan (nan_of n) ≡ n.some
-  held-some = go n.some
-    where
-      go : (b : Bool) → dec.is_nan (cond b (dec.nan n.negative n.signaling n.payload) (dec.zero_of false)) ≡ b
-      go true = refl
-      go false = refl
+-- what stands in the code's choice
+pub held-some : (n : Option Nan) → dec.is_nan (nan_of n) ≡ is_some n
+held-some (Some n) = refl
+held-some None = refl
 
-  pub held-if : if_nan (nan_of n) ≡ nan_of n
-  held-if = go n.some
-    where
-      go : (b : Bool) → let v = cond b (dec.nan n.negative n.signaling n.payload) (dec.zero_of false) in if_nan v ≡ v
-      go true = refl
-      go false = refl
+pub held-if : (n : Option Nan) → if_nan (nan_of n) ≡ nan_of n
+held-if (Some n) = refl
+held-if None = refl
 
 -- ---- one choice
 

@@ -3,6 +3,7 @@ use mathlib.Core.Path.{◌≡◌, refl, subst}
 use mathlib.Core.Logic.{◌≢◌}
 use mathlib.Core.Bool.{Bool, true, false, not, ◌&&◌}
 use lib.Dec.{T}
+use Rattle.std.specs.Prelude.{is_some}
 use borrow.Author.Tests.{eq-eqb, ne_eqb}
 use Rattle.scan.specs.declared.Scan.{Scan}
 use Rattle.scan.specs.Joined.{nan_decides, terms_in}
@@ -17,25 +18,25 @@ some_of true b e = refl
 some_of false b e = e
 
 pub nan-leaves : (first : Bool) (s : Scan) → nan_decides first s ≡ true → false ≡ terms_in s
-nan-leaves first s e = rw (some_of s.nan.some _ e)
+nan-leaves first s e = rw (some_of (is_some s.nan) _ e)
 
 module _ (s : Scan) where
   pub invalid-leaves : s.invalid ≡ true → false ≡ terms_in s
-  invalid-leaves e = later s.nan.some (rw e)
+  invalid-leaves e = later (is_some s.nan) (rw e)
 
   pub positive-leaves : s.positive_infinity ≡ true → false ≡ terms_in s
-  positive-leaves e = later s.nan.some (later s.invalid (rw e))
+  positive-leaves e = later (is_some s.nan) (later s.invalid (rw e))
 
   pub negative-leaves : s.negative_infinity ≡ true → false ≡ terms_in s
-  negative-leaves e = later s.nan.some (later s.invalid (later s.positive_infinity (rw e)))
+  negative-leaves e = later (is_some s.nan) (later s.invalid (later s.positive_infinity (rw e)))
 
   pub zeros-leave : s.top ≡ 0 → false ≡ terms_in s
   zeros-leave e =
-      later s.nan.some (later s.invalid (later s.positive_infinity (later s.negative_infinity (rw (eq-eqb s.top 0 e)))))
+      later (is_some s.nan) (later s.invalid (later s.positive_infinity (later s.negative_infinity (rw (eq-eqb s.top 0 e)))))
 
 -- where no infinity stands before it, every NaN decides
-no_nan : (first : Bool) (s : Scan) → nan_decides first s ≡ false → s.positive_infinity ≡ false → s.nan.some ≡ false
-no_nan first s e z = go s.nan.some first s.signaling s.positive_infinity e z
+no_nan : (first : Bool) (s : Scan) → nan_decides first s ≡ false → s.positive_infinity ≡ false → is_some s.nan ≡ false
+no_nan first s e z = go (is_some s.nan) first s.signaling s.positive_infinity e z
   where
     no : {A : Type 0} → true ≡ false → A
     no q = absurd (subst (λ (x : Bool). T x) q tt)

@@ -2,6 +2,5 @@ pub mod Choice
 pub mod Step
 pub mod Lists
 pub mod Tens
-pub mod Updates
 pub mod Special
 mod Leaves

@@ -4,6 +4,7 @@ use mathlib.Core.Bool.{Bool, true, false, not, ◌&&◌, ◌||◌, cond}
 use mathlib.Core.List.{List, [], ◌∷◌}
 use native.Mathlib.Nat.{pos_of_ne-zero}
 use lib.Dec.{T}
+use Rattle.std.specs.Prelude.{Option, Some, None, is_some}
 use Rattle.totals_spec.specs.Basics.{any}
 use Rattle.totals_spec.specs.Format as spec
 use Rattle.totals_spec.specs.Settings as env
@@ -21,7 +22,6 @@ use Rattle.binary.specs.declared.nan.Nan.{Nan}
 use Rattle.binary.specs.Joined.{nan_of, selected_by, selected_of}
 use Rattle.format.specs.Fits.{Encodes}
 use Rattle.scan.specs.declared.Scan.{Scan}
-use Rattle.scan.specs.declared.Early.TheVariants.{Given, Terms}
 use Rattle.scan.specs.Joined.{Gathered, nan_decides, Decides}
 use Rattle.scan.proofs.Choice.{if-nan, if_some, held-some}
 
@@ -71,7 +71,7 @@ module _ {f : spec.Format} {c : env.Settings} {sub sig : Bool} {ops : List dec.U
   selected-is : nan_decides first s ≡ true → selected_of c (nan_of s.nan) ≡ nans.select_all c ops
   unfolding selected_of nans.select_all
   selected-is t =
-      let some : s.nan.some ≡ true = and_left s.nan.some (not (first && not s.signaling && s.positive_infinity)) t in
+      let some : is_some s.nan ≡ true = and_left (is_some s.nan) (not (first && not s.signaling && s.positive_infinity)) t in
       let x = nans.chosen_of (env.propagation_of c.nan_propagation) (dec.zero_of false) ops in
       let is : dec.is_nan x ≡ true = sym (if-nan x) ∙ ap dec.is_nan (sym g.nan) ∙ held-some s.nan ∙ some in
       ap (selected_by (env.propagation_of c.nan_propagation) c) (g.nan ∙ if_some x is) ∙ sym (by-rule (env.propagation_of c.nan_propagation) c ops)
@@ -83,14 +83,11 @@ module _ (k : spec.Kind) (h : T (has_nan k)) where
   unfolding nans.default_nan_of
   default-alone c = h
 
-  quiet-alone : (n : Nan) → Alone k (nans.quiet (nan_of n))
-  quiet-alone n = go n.some
-    where
-      go : (b : Bool) → Alone k (nans.quiet (cond b (dec.nan n.negative n.signaling n.payload) (dec.zero_of false)))
-      go true = h
-      go false = tt
+  quiet-alone : (n : Option Nan) → Alone k (nans.quiet (nan_of n))
+  quiet-alone (Some n) = h
+  quiet-alone None = tt
 
-  selected-alone : (c : env.Settings) (n : Nan) → Alone k (selected_of c (nan_of n))
+  selected-alone : (c : env.Settings) (n : Option Nan) → Alone k (selected_of c (nan_of n))
   unfolding selected_of
   selected-alone c n = go (env.propagation_of c.nan_propagation)
     where
@@ -104,10 +101,10 @@ module _ (k : spec.Kind) (h : T (has_nan k)) where
 
 module _ (c : env.Settings) (first : Bool) (s : Scan) where
   pub by-nan : (v : Unpacked) (i : Bool) → nan_decides first s ≡ true → unpacked_of v ≡ selected_of c (nan_of s.nan) → i ≡ (s.signaling || s.invalid)
-      → Decides (Given v i) c first s
+      → Decides (Some (record { value = v; invalid = i })) c first s
   by-nan v i t e h f sub products sig ops l g =
       let k = spec.kind_of f.kind in
-      let some : any terms.is_nan_item l ≡ true = sym g.some ∙ and_left s.nan.some _ t in
+      let some : any terms.is_nan_item l ≡ true = sym g.some ∙ and_left (is_some s.nan) _ t in
       record {
         is = accepted-is g products first (nans.select_all c ops) ∙ rw (t, e, h, selected-is g products first t);
         encodes =
@@ -117,7 +114,7 @@ module _ (c : env.Settings) (first : Bool) (s : Scan) where
       }
 
   module _ (t : nan_decides first s ≡ false) where
-    pub by-invalid : (v : Unpacked) → s.invalid ≡ true → unpacked_of v ≡ nans.default_nan_of c → Decides (Given v true) c first s
+    pub by-invalid : (v : Unpacked) → s.invalid ≡ true → unpacked_of v ≡ nans.default_nan_of c → Decides (Some (record { value = v; invalid = true })) c first s
     by-invalid v i e f sub products sig ops l g =
         let k = spec.kind_of f.kind in
         record {
@@ -128,7 +125,7 @@ module _ (c : env.Settings) (first : Bool) (s : Scan) where
 
     module _ (i : s.invalid ≡ false) where
       pub by_both : (v : Unpacked) → s.positive_infinity ≡ true → s.negative_infinity ≡ true → unpacked_of v ≡ nans.default_nan_of c
-          → Decides (Given v true) c first s
+          → Decides (Some (record { value = v; invalid = true })) c first s
       by_both v p n e f sub products sig ops l g =
           let k = spec.kind_of f.kind in
           record {
@@ -137,7 +134,7 @@ module _ (c : env.Settings) (first : Bool) (s : Scan) where
             alone = λ a. subst (Alone k) (sym e) (default-alone k (infinity-nan k (infinity-found k false l a (sym g.positive-infinity ∙ p))) c);
           }
 
-      pub by-positive : s.positive_infinity ≡ true → s.negative_infinity ≡ false → Decides (Given (unpacked.Infinity false) false) c first s
+      pub by-positive : s.positive_infinity ≡ true → s.negative_infinity ≡ false → Decides (Some (record { value = (unpacked.Infinity false); invalid = false })) c first s
       by-positive p n f sub products sig ops l g = record {
         is = accepted-is g products first (nans.select_all c ops) ∙ rw t (without_is g products first ∙ rw (i, p, n));
         encodes = tt;
@@ -145,7 +142,7 @@ module _ (c : env.Settings) (first : Bool) (s : Scan) where
       }
 
       module _ (p : s.positive_infinity ≡ false) where
-        pub by-negative : s.negative_infinity ≡ true → Decides (Given (unpacked.Infinity true) false) c first s
+        pub by-negative : s.negative_infinity ≡ true → Decides (Some (record { value = (unpacked.Infinity true); invalid = false })) c first s
         by-negative n f sub products sig ops l g = record {
           is = accepted-is g products first (nans.select_all c ops) ∙ rw t (without_is g products first ∙ rw (i, p, n));
           encodes = tt;
@@ -154,7 +151,7 @@ module _ (c : env.Settings) (first : Bool) (s : Scan) where
 
         module _ (n : s.negative_infinity ≡ false) where
           pub by-zeros : (b : Bool) → s.top ≡ 0 → b ≡ totals.zero_sign s.positive_zero s.negative_zero (totals.towards_negative c)
-              → Decides (Given (unpacked.Zero b) false) c first s
+              → Decides (Some (record { value = (unpacked.Zero b); invalid = false })) c first s
           unfolding totals.finite_total
           by-zeros b z e f sub products sig ops l g = record {
             is = accepted-is g products first (nans.select_all c ops) ∙ rw t (without_is g products first ∙ rw (i, p, n, ← e, g.no-term z));
@@ -162,7 +159,7 @@ module _ (c : env.Settings) (first : Bool) (s : Scan) where
             alone = λ a. tt;
           }
 
-          pub by-terms : (s.top ≡ 0 → ⊥) → Decides Terms c first s
+          pub by-terms : (s.top ≡ 0 → ⊥) → Decides None c first s
           unfolding totals.finite_total
           by-terms z f sub products sig ops l g =
               let some : any (λ t. true) (terms.terms l) ≡ true = some-term (terms.terms l) (λ y. z (g.top ∙ y)) in (

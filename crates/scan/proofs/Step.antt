@@ -8,6 +8,7 @@ use native.Mathlib.Numerals.{add-one}
 use native.Mathlib.Omega.{arith}
 use lib.ListN.{length, take, get_or}
 use lib.Seq.{take-suc, take-length}
+use Rattle.std.specs.Prelude.{Option}
 use Rattle.totals_spec.specs.Basics.{any, greatest, keep}
 use Rattle.totals_spec.specs.Format as spec
 use Rattle.totals_spec.specs.Settings as env
@@ -69,7 +70,7 @@ abbrev rule_of : env.Settings → env.Propagation
 rule_of c = env.propagation_of c.nan_propagation
 
 module _ (f : spec.Format) (c : env.Settings) where
-  gathered-more : (sub sig sub₁ sig₁ : Bool) (ops vs : List dec.Unpacked) (l : List terms.Item) (i : terms.Item) (s : Scan) (n : Nan)
+  gathered-more : (sub sig sub₁ sig₁ : Bool) (ops vs : List dec.Unpacked) (l : List terms.Item) (i : terms.Item) (s : Scan) (n : Option Nan)
       → Gathered f c sub sig ops l s → Adds f vs i → nan_of n ≡ if_nan (nans.chosen_of (rule_of c) (nan_of s.nan) vs)
       → Gathered f c (sub || sub₁) (sig || sig₁) (ops ++ vs) (l ++ (i ∷ [])) (with_item (item_of i) (seen sub₁ sig₁ n s))
   unfolding terms.top_of
@@ -162,14 +163,14 @@ module _ {A : Type 0} (f : spec.Format) (c : env.Settings) (q : Reading f A) whe
   abbrev pub Over : List A → Scan → Type 0
   Over l s = Gathered f c (any q.subnormal l) (any q.signaling l) (q.all l) (map q.item l) s
 
-  more : (l : List A) (x : A) (s : Scan) (n : Nan) → Over l s → nan_of n ≡ if_nan (nans.chosen_of (rule_of c) (nan_of s.nan) (q.operands x))
+  more : (l : List A) (x : A) (s : Scan) (n : Option Nan) → Over l s → nan_of n ≡ if_nan (nans.chosen_of (rule_of c) (nan_of s.nan) (q.operands x))
       → Over (l ++ (x ∷ [])) (with_item (item_of (q.item x)) (seen (q.subnormal x) (q.signaling x) n s))
   more l x s n g e =
       rw (any-one q.subnormal l x, any-one q.signaling l x, q.all_more l x, map-append q.item l (x ∷ []))
       (gathered-more f c _ _ (q.subnormal x) (q.signaling x) (q.all l) (q.operands x) (map q.item l) (q.item x) s n g (q.adds x) e)
 
   -- an element that was with_item, with a position t kept apart
-  pub over-taken : (l : List A) (x : A) (s r : Scan) (n : Nan) → r ≡ with_item (item_of (q.item x)) (seen (q.subnormal x) (q.signaling x) n s)
+  pub over-taken : (l : List A) (x : A) (s r : Scan) (n : Option Nan) → r ≡ with_item (item_of (q.item x)) (seen (q.subnormal x) (q.signaling x) n s)
       → nan_of n ≡ if_nan (nans.chosen_of (rule_of c) (nan_of s.nan) (q.operands x)) → (t : ℕ) → Over l (with_top t s) → Over (l ++ (x ∷ [])) (with_top t r)
   over-taken l x s r n e h t g =
       subst (Over (l ++ (x ∷ []))) (sym (ap (with_top t) e ∙ taken-raised (item_of (q.item x)) t (seen (q.subnormal x) (q.signaling x) n s)))

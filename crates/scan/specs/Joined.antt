@@ -1,5 +1,5 @@
 -- The code's scan as what totals_spec gathers of a list.
-use Rattle.std.specs.Prelude.{◌≡◌, Bool, true, false, not, cond, ◌&&◌, ◌||◌, List, [], ◌∷◌, ◌++◌, map, ℕ, max, ◌<◌, eqb}
+use Rattle.std.specs.Prelude.{Option, Some, None, is_some, ◌≡◌, Bool, true, false, not, cond, ◌&&◌, ◌||◌, List, [], ◌∷◌, ◌++◌, map, ℕ, max, ◌<◌, eqb}
 use Rattle.std.specs.Bool.{beq}
 use Rattle.totals_spec.specs.Basics.{any}
 use Rattle.totals_spec.specs.Format as spec
@@ -16,9 +16,7 @@ use Rattle.binary.specs.declared.nan.Nan.{Nan}
 use Rattle.arithmetic.specs.declared.Item.{Item}
 use Rattle.arithmetic.specs.declared.Item.TheVariants as item
 use Rattle.scan.specs.declared.Scan.{Scan}
-use Rattle.scan.specs.declared.OfferedNan.{OfferedNan}
-use Rattle.scan.specs.declared.Early.{Early}
-use Rattle.scan.specs.declared.Early.TheVariants.{Given, Terms}
+use Rattle.scan.specs.declared.Given.{Given}
 
 -- ---- what one item says
 
@@ -81,7 +79,7 @@ with_top t s = record {
 }
 
 -- an operand: whether it is subnormal, whether a signaling NaN, and the NaN chosen with it
-abbrev pub seen : Bool → Bool → Nan → Scan → Scan
+abbrev pub seen : Bool → Bool → Option Nan → Scan → Scan
 seen sub sig n s = record {
   subnormal = s.subnormal || sub;
   signaling = s.signaling || sig;
@@ -104,8 +102,8 @@ pub record Reads (rule : ℕ) (sub : Bool) (v : dec.Unpacked) (s r : Scan) : Typ
   pub nan : nan_of r.nan ≡ if_nan (nans.choose (env.propagation_of rule) (nan_of s.nan) v)
 
 -- and r is s with a NaN that is offered for the choice
-abbrev pub Offered : OfferedNan → Scan → Scan → Type 0
-Offered n s r = Reads n.rule false (dec.nan n.negative n.signaling n.payload) s r
+abbrev pub Offered : ℕ → Nan → Scan → Scan → Type 0
+Offered rule n s r = Reads rule false (nan_of (Some n)) s r
 
 -- ---- what a scan has gathered: of the operands ops, and of the items l
 
@@ -113,7 +111,7 @@ pub record Gathered (f : spec.Format) (c : env.Settings) (sub sig : Bool) (ops :
   pub subnormal : s.subnormal ≡ sub
   pub signaling : s.signaling ≡ sig
   pub nan : nan_of s.nan ≡ if_nan (nans.chosen_of (env.propagation_of c.nan_propagation) (dec.zero_of false) ops)
-  pub some : s.nan.some ≡ any terms.is_nan_item l
+  pub some : is_some s.nan ≡ any terms.is_nan_item l
   -- the NaN can be encoded
   pub encodes : Encodes f (nan_of s.nan)
   pub invalid : s.invalid ≡ any terms.is_invalid l
@@ -151,16 +149,16 @@ TakesPair f c x s r = (l : List (ℕ × ℕ)) (apart : ℕ) → ScannedPairs f c
 
 -- a NaN decides, unless an infinity stands before it
 abbrev pub nan_decides : Bool → Scan → Bool
-nan_decides first s = s.nan.some && not (first && not s.signaling && s.positive_infinity)
+nan_decides first s = is_some s.nan && not (first && not s.signaling && s.positive_infinity)
 
 -- whether a scan leaves terms to add: there is one, and nothing that is not finite
 abbrev pub terms_in : Scan → Bool
-terms_in s = not s.nan.some && (not s.invalid && (not s.positive_infinity && (not s.negative_infinity && not (eqb s.top 0))))
+terms_in s = not (is_some s.nan) && (not s.invalid && (not s.positive_infinity && (not s.negative_infinity && not (eqb s.top 0))))
 
 -- and whether what it decides leaves them
-abbrev pub leaves_terms : Early → Bool
-leaves_terms (Given v i) = false
-leaves_terms Terms = true
+abbrev pub leaves_terms : Option Given → Bool
+leaves_terms (Some g) = false
+leaves_terms None = true
 
 -- no pass is run: v is the result, with flag 1 where i says so
 pub record Told (f : spec.Format) (c : env.Settings) (sub products first sig : Bool) (ops : List dec.Unpacked) (l : List terms.Item) (v : dec.Unpacked)
@@ -169,11 +167,11 @@ pub record Told (f : spec.Format) (c : env.Settings) (sub products first sig : B
   pub encodes : Encodes f v
   pub alone : AllGive (spec.kind_of f.kind) l → Alone (spec.kind_of f.kind) v
 
-abbrev pub Decides : Early → env.Settings → Bool → Scan → Type 0
-Decides (Given v i) c first s =
+abbrev pub Decides : Option Given → env.Settings → Bool → Scan → Type 0
+Decides (Some d) c first s =
     (f : spec.Format) (sub products sig : Bool) (ops : List dec.Unpacked) (l : List terms.Item) → Gathered f c sub sig ops l s
-    → Told f c sub products first sig ops l (unpacked_of v) i
-Decides Terms c first s =
+    → Told f c sub products first sig ops l (unpacked_of d.value) d.invalid
+Decides None c first s =
     (f : spec.Format) (sub products sig : Bool) (ops : List dec.Unpacked) (l : List terms.Item) → Gathered f c sub sig ops l s
     → (totals.accepted f c sub products first sig (nans.select_all c ops) l ≡ totals.finite_total f c sub products false (terms.terms l))
     × (any (λ t. true) (terms.terms l) ≡ true) × (0 < s.top)

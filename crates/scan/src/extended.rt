@@ -15,40 +15,40 @@ use format::env::Settings;
 use values::{Ten, ten_at};
 
 // One more value.
-fn take(c: Settings, u: u64, s: Scan, b: Ten) -> Scan
+#[tactic(auto, using(arithmetic::proofs::Elements::operands))]
+fn take(s: &mut Scan, c: Settings, u: u64, b: Ten)
     requires { b.head < 65536 }
-    ensures { TakesTen (settings_of c) (env.summand_of u) (ten_of b) s result }
+    ensures { TakesTen (settings_of c) (env.summand_of u) (ten_of b) s.old s.new }
 {
     let o = operand(c, b);
-    let v = o.value;
-    let t = s.read(c.nan_propagation, o.subnormal, v);
-    t.item(item_of(u, v))
+    s.read(c.nan_propagation, o);
+    s.item(item_of(u, o.value));
 }
 
 // One more pair of a dot.
-fn take_pair(c: Settings, s: Scan, x: Ten, y: Ten) -> Scan
+#[tactic(auto, using(arithmetic::proofs::Elements::operands))]
+fn take_pair(s: &mut Scan, c: Settings, x: Ten, y: Ten)
     requires { (x.head < 65536) × (y.head < 65536) }
-    ensures { TakesTenPair (settings_of c) (ten_of x, ten_of y) s result }
+    ensures { TakesTenPair (settings_of c) (ten_of x, ten_of y) s.old s.new }
 {
     let a = operand(c, x);
     let b = operand(c, y);
-    let v = a.value;
-    let w = b.value;
-    let t = s.read(c.nan_propagation, a.subnormal, v);
-    let r = t.read(c.nan_propagation, b.subnormal, w);
-    r.item(pair_of(v, w))
+    s.read(c.nan_propagation, a);
+    s.read(c.nan_propagation, b);
+    s.item(pair_of(a.value, b.value));
 }
 
 // The value i of the left list, or the pair i (u = 3) of the two.
-fn take_at(c: Settings, u: u64, s: Scan, left: &[u8], right: &[u8], i: usize) -> Scan
+fn take_at(s: &mut Scan, c: Settings, u: u64, left: &[u8], right: &[u8], i: usize)
     requires { (i < length left.now / 10) × (i < length right.now / 10) }
-    ensures { TakesTens (eqb u 3) (settings_of c) (env.summand_of u) (get_or (spec.tens_in left.now) i 0) (get_or (spec.tens_in right.now) i 0) s result }
+    ensures { TakesTens (eqb u 3) (settings_of c) (env.summand_of u) (get_or (spec.tens_in left.now) i 0) (get_or (spec.tens_in right.now) i 0) s.old s.new }
 {
     let x = ten_at(left, i);
     if u == 3 {
-        return take_pair(c, s, x, ten_at(right, i));
+        take_pair(s, c, x, ten_at(right, i));
+    } else {
+        take(s, c, u, x);
     }
-    take(c, u, s, x)
 }
 
 // The first values of the left list, or their pairs (u = 3) with those of the right.
@@ -57,10 +57,8 @@ pub fn scan(c: Settings, u: u64, count: usize, left: &[u8], right: &[u8]) -> Sca
     ensures { GatheredTens (eqb u 3) (settings_of c) (env.summand_of u) (wide_from 10 count left.now) (wide_from 10 count right.now) result }
 {
     let mut s = Scan::new();
-    let mut i: usize = 0;
-    while i < count {
-        s = take_at(c, u, s, left, right, i);
-        i += 1;
+    for i in 0..count {
+        take_at(&mut s, c, u, left, right, i);
     }
     s
 }
@@ -69,13 +67,10 @@ pub fn scan(c: Settings, u: u64, count: usize, left: &[u8], right: &[u8]) -> Sca
 pub fn any_unsupported(values: &[u8]) -> bool
     ensures { result ≡ any spec.unsupported (spec.tens_in values.now) }
 {
-    let n = values.len() / 10;
-    let mut i: usize = 0;
-    while i < n {
+    for i in 0..values.len() / 10 {
         if is_unsupported(ten_at(values, i)) {
             return true;
         }
-        i += 1;
     }
     false
 }

@@ -11,14 +11,13 @@ ghost use Rattle.format.specs.Joined.{format_of, settings_of, unpacked_of};
 ghost use Rattle.scan.specs.Joined.{with_top, with_item, Offered, Reads, Fresh, Takes, TakesPair, nan_decides, Decides, terms_in, leaves_terms};
 
 use arithmetic::{Item, item_of, pair_of};
-use binary::nan::{Nan, default_nan, selected};
-use binary::{nan, operand};
+use binary::nan::{Nan, default_nan, select, selected};
+use binary::{Read, operand};
 use format::Format;
 use format::env::{Settings, zero_sum_sign};
 use format::unpacked::Unpacked;
-use limbs::word::either;
 
-#[derive(Clone, Copy)]
+#[derive(Clone, Copy, Default)]
 pub struct Scan {
     pub subnormal: bool,
     pub signaling: bool,
@@ -31,61 +30,34 @@ pub struct Scan {
     // the greatest position of a term, 0 where there is none
     pub top: u64,
     // the NaN chosen so far
-    pub nan: Nan,
+    pub nan: Option<Nan>,
 }
 
-// A NaN among the operands, and the rule by which one of them is chosen.
+// What a scan alone gives: a value without a pass, and whether flag 1 is set.
 #[derive(Clone, Copy)]
-struct OfferedNan {
-    rule: u64,
-    negative: bool,
-    signaling: bool,
-    payload: u64,
-}
-
-// What a scan alone decides.
-#[derive(Clone, Copy)]
-pub enum Early {
-    // a value without a pass, and whether flag 1 is set
-    Given(Unpacked, bool),
-    // nothing: there are terms, and all is finite
-    Terms,
+pub struct Given {
+    pub value: Unpacked,
+    pub invalid: bool,
 }
 
 impl Scan {
     // The scan of nothing.
+    #[tactic(auto, unfolding(totals_spec::specs::Terms::top_of))]
     pub fn new() -> Scan
         ensures { Fresh result }
     {
-        let n = nan::none();
-        Scan {
-            subnormal: false,
-            signaling: false,
-            invalid: false,
-            positive_infinity: false,
-            negative_infinity: false,
-            positive_zero: false,
-            negative_zero: false,
-            top: 0,
-            nan: n,
-        }
+        Scan::default()
     }
 }
 
 // The four updates, which change a scan that is lent, in place: each stores the fields that it changes, and no other.
 impl Scan {
     // A NaN: the choice among NaNs goes on.
-    fn nan(&mut self, n: OfferedNan)
-        ensures { Offered n self.old self.new }
+    fn nan(&mut self, rule: u64, n: Nan)
+        ensures { Offered rule n self.old self.new }
     {
-        let next = Nan {
-            some: true,
-            negative: n.negative,
-            signaling: n.signaling,
-            payload: n.payload,
-        };
-        self.nan = nan::select(n.rule, self.nan, next);
-        self.signaling = self.signaling | n.signaling;
+        self.nan = select(rule, self.nan, Some(n));
+        self.signaling |= n.signaling;
     }
 
     // An infinity.
@@ -120,145 +92,111 @@ impl Scan {
     }
 }
 
-// The same by value: a scan of its own is lent to the update. The walks over a list use these.
-impl Scan {
-    fn noted_nan(mut self, n: OfferedNan) -> Scan
-        ensures { Offered n self result }
-    {
-        self.nan(n);
-        self
-    }
-
-    fn noted_infinity(mut self, negative: bool) -> Scan
-        ensures { result ≡ with_item (Item.Infinite negative) self }
-    {
-        self.infinity(negative);
-        self
-    }
-
-    fn noted_zero(mut self, negative: bool) -> Scan
-        ensures { result ≡ with_item (Item.Zero negative) self }
-    {
-        self.zero(negative);
-        self
-    }
-
-    fn noted_top(mut self, position: u64) -> Scan
-        ensures { result ≡ with_top position self }
-    {
-        self.top(position);
-        self
-    }
-}
-
 // One operand, and one element or pair.
 impl Scan {
     // An operand that was read: flag 128, and the choice among NaNs.
-    fn read(mut self, rule: u64, subnormal: bool, v: Unpacked) -> Scan
-        ensures { Reads rule subnormal (unpacked_of v) self result }
+    fn read(&mut self, rule: u64, o: Read)
+        ensures { Reads rule o.subnormal (unpacked_of o.value) self.old self.new }
     {
-        self.subnormal = either(self.subnormal, subnormal);
-        let Unpacked::Nan {
+        self.subnormal |= o.subnormal;
+        if let Unpacked::Nan {
             negative,
             signaling,
             payload,
-        } = v
-        else {
-            return self;
-        };
-        let n = OfferedNan {
-            rule,
-            negative,
-            signaling,
-            payload,
-        };
-        self.noted_nan(n)
+        } = o.value
+        {
+            self.nan(
+                rule,
+                Nan {
+                    negative,
+                    signaling,
+                    payload,
+                },
+            );
+        }
     }
 
     // What an element or a pair is.
-    fn item(mut self, i: Item) -> Scan
-        ensures { result ≡ with_item i self }
+    fn item(&mut self, i: Item)
+        ensures { self.new ≡ with_item i self.old }
     {
         match i {
-            Item::Nan => self,
-            Item::Invalid => {
-                self.invalid = true;
-                self
-            }
-            Item::Infinite(negative) => self.noted_infinity(negative),
-            Item::Zero(negative) => self.noted_zero(negative),
-            Item::Top(position) => self.noted_top(position),
+            Item::Nan => {}
+            Item::Invalid => self.invalid = true,
+            Item::Infinite(negative) => self.infinity(negative),
+            Item::Zero(negative) => self.zero(negative),
+            Item::Top(position) => self.top(position),
         }
     }
-}
 
-// One more element of a list.
-pub fn take(f: Format, c: Settings, u: u64, s: Scan, b: u64) -> Scan
-    requires { FormatBounds (format_of f) }
-    ensures { Takes (format_of f) (settings_of c) (env.summand_of u) b s result }
-{
-    let o = operand(f, c, b);
-    let v = o.value;
-    let t = s.read(c.nan_propagation, o.subnormal, v);
-    t.item(item_of(u, v))
-}
+    // One more element of a list.
+    #[tactic(auto, using(arithmetic::proofs::Elements::operands))]
+    pub fn take(&mut self, f: Format, c: Settings, u: u64, b: u64)
+        requires { FormatBounds (format_of f) }
+        ensures { Takes (format_of f) (settings_of c) (env.summand_of u) b self.old self.new }
+    {
+        let o = operand(f, c, b);
+        self.read(c.nan_propagation, o);
+        self.item(item_of(u, o.value));
+    }
 
-// One more pair of a dot.
-pub fn take_pair(f: Format, c: Settings, s: Scan, x: u64, y: u64) -> Scan
-    requires { FormatBounds (format_of f) }
-    ensures { TakesPair (format_of f) (settings_of c) (x, y) s result }
-{
-    let a = operand(f, c, x);
-    let b = operand(f, c, y);
-    let v = a.value;
-    let w = b.value;
-    let t = s.read(c.nan_propagation, a.subnormal, v);
-    let r = t.read(c.nan_propagation, b.subnormal, w);
-    r.item(pair_of(v, w))
+    // One more pair of a dot.
+    #[tactic(auto, using(arithmetic::proofs::Elements::operands))]
+    pub fn take_pair(&mut self, f: Format, c: Settings, x: u64, y: u64)
+        requires { FormatBounds (format_of f) }
+        ensures { TakesPair (format_of f) (settings_of c) (x, y) self.old self.new }
+    {
+        let a = operand(f, c, x);
+        let b = operand(f, c, y);
+        self.read(c.nan_propagation, a);
+        self.read(c.nan_propagation, b);
+        self.item(pair_of(a.value, b.value));
+    }
 }
 
 // Whether a NaN decides. Where infinities come first, a quiet NaN yields to one of them and a signaling NaN does not.
 fn nan_decides(infinity_first: bool, s: Scan) -> bool
     ensures { result ≡ nan_decides infinity_first s }
 {
-    let n = s.nan;
-    if !n.some {
-        return false;
-    }
-    if !infinity_first {
-        return true;
-    }
-    if s.signaling {
-        return true;
-    }
-    !s.positive_infinity
+    s.nan.is_some() && !(infinity_first && !s.signaling && s.positive_infinity)
 }
 
-// What a scan decides: a NaN, an invalid product, infinities, or zeros alone.
-pub fn decided(c: Settings, infinity_first: bool, s: Scan) -> Early
+// What a scan decides: a NaN, an invalid product, infinities, or zeros alone. Where it decides nothing there are terms, and all is finite.
+pub fn decided(c: Settings, infinity_first: bool, s: Scan) -> Option<Given>
     ensures { Decides result (settings_of c) infinity_first s × (leaves_terms result ≡ terms_in s) }
 {
     if nan_decides(infinity_first, s) {
-        let n = s.nan;
-        return Early::Given(selected(c, n), either(s.signaling, s.invalid));
+        Some(Given {
+            value: selected(c, s.nan),
+            invalid: s.signaling | s.invalid,
+        })
+    } else if s.invalid {
+        Some(Given {
+            value: default_nan(c),
+            invalid: true,
+        })
+    } else if s.positive_infinity && s.negative_infinity {
+        Some(Given {
+            value: default_nan(c),
+            invalid: true,
+        })
+    } else if s.positive_infinity {
+        Some(Given {
+            value: Unpacked::Infinity(false),
+            invalid: false,
+        })
+    } else if s.negative_infinity {
+        Some(Given {
+            value: Unpacked::Infinity(true),
+            invalid: false,
+        })
+    } else if s.top == 0 {
+        let negative = zero_sum_sign(c, s.positive_zero, s.negative_zero);
+        Some(Given {
+            value: Unpacked::Zero(negative),
+            invalid: false,
+        })
+    } else {
+        None
     }
-    if s.invalid {
-        return Early::Given(default_nan(c), true);
-    }
-    if s.positive_infinity {
-        if s.negative_infinity {
-            return Early::Given(default_nan(c), true);
-        }
-        return Early::Given(Unpacked::Infinity(false), false);
-    }
-    if s.negative_infinity {
-        return Early::Given(Unpacked::Infinity(true), false);
-    }
-    if s.top == 0 {
-        return Early::Given(
-            Unpacked::Zero(zero_sum_sign(c, s.positive_zero, s.negative_zero)),
-            false,
-        );
-    }
-    Early::Terms
 }

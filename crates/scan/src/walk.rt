@@ -8,8 +8,8 @@ ghost use Rattle.values.specs.Walks.{wide, Known, TensThere, Orderly};
 ghost use Rattle.scan.specs.Joined.{Scanned, ScannedPairs};
 ghost use Rattle.scan.specs.Walked.{ScannedWalk};
 
+use crate::Scan;
 use crate::extended::scan as scan_tens;
-use crate::{Scan, take, take_pair};
 use arithmetic::{plain_field, plain_fields, plain_pair_top, plain_top};
 use format::Format;
 use format::env::Settings;
@@ -22,20 +22,19 @@ fn scan_list(f: Format, c: Settings, u: u64, source: Source, words: &[u64], byte
 {
     let mut s = Scan::new();
     let mut greatest: u64 = 0;
-    let mut i: usize = 0;
-    let mut place: usize = source.start;
-    while i < source.count {
+    let mut place = source.start;
+    for _i in 0..source.count {
         let x = element(source, words, bytes, place);
-        i += 1;
         place += source.step;
         let field = plain_field(f, x);
         if field == 0 {
-            s = take(f, c, u, s, x);
+            s.take(f, c, u, x);
         } else if greatest < field {
             greatest = field;
         }
     }
-    s.noted_top(plain_top(f, u, greatest))
+    s.top(plain_top(f, u, greatest));
+    s
 }
 
 // The pairs of two.
@@ -53,19 +52,18 @@ fn scan_pairs(
 {
     let mut s = Scan::new();
     let mut greatest: u64 = 0;
-    let mut i: usize = 0;
-    while i < source.count {
+    for i in 0..source.count {
         let x = element(source, left_words, left_bytes, i);
         let y = element(source, right_words, right_bytes, i);
-        i += 1;
         let fields = plain_fields(f, x, y);
         if fields == 0 {
-            s = take_pair(f, c, s, x, y);
+            s.take_pair(f, c, x, y);
         } else if greatest < fields {
             greatest = fields;
         }
     }
-    s.noted_top(plain_pair_top(f, greatest))
+    s.top(plain_pair_top(f, greatest));
+    s
 }
 
 // The right slices are read for pairs alone. A format wider than a word is that of kind 4.

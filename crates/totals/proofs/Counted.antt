@@ -10,6 +10,7 @@ use lib.ListN.{length}
 use lib.Ieee.{size}
 use lib.Ieee.Digits.{size-lt, size_reaches}
 use borrow.Author.Tests.{eq-eqb, ne_eqb, lt-ltb, le-ltb}
+use Rattle.std.specs.Prelude.{is_some}
 use Rattle.totals_spec.specs.Basics.{Signed, flag, any}
 use Rattle.totals_spec.specs.Format.{Format, valid_format, origin, fall}
 use Rattle.totals_spec.specs.Settings.{no_settings, value, ties_to_away}
@@ -88,10 +89,10 @@ module _ (f : Format) (v : Unrounded) (h : Countable v) where
 -- ---- a list by its scan
 
 module _ (f : Format) (l : List ℕ) {s : Scan} (g : Scanned f no_settings value l s) where
-  met-is : {met : Bool} → met ≡ (s.nan.some || (s.positive_infinity || s.negative_infinity)) → any (not_number f) l ≡ met
+  met-is : {met : Bool} → met ≡ (is_some s.nan || (s.positive_infinity || s.negative_infinity)) → any (not_number f) l ≡ met
   met-is e = odd-items f no_settings l ∙ sym (e ∙ rw (g.some, g.positive-infinity, g.negative-infinity))
 
-  module _ {met : Bool} (e : met ≡ (s.nan.some || (s.positive_infinity || s.negative_infinity))) where
+  module _ {met : Bool} (e : met ≡ (is_some s.nan || (s.positive_infinity || s.negative_infinity))) where
     pub met-figure : met ≡ true → refused_pence 8 ≡ list_figure f l
     met-figure t = rw (met-is e, t)
 

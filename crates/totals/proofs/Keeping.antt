@@ -8,6 +8,7 @@ use native.Mathlib.Omega.{arith}
 use lib.Dec.{eqb}
 use lib.ListN.{length}
 use borrow.Author.Tests.{ne_eqb}
+use Rattle.std.specs.Prelude.{Option, Some, None, is_some}
 use Rattle.totals_spec.specs.Basics.{any}
 use Rattle.totals_spec.specs.Format.{Format, digits}
 use Rattle.totals_spec.specs.Settings.{Settings, value, summand_of}
@@ -22,8 +23,7 @@ use Rattle.totals_spec.proofs.SumPence.{odd-items}
 use Rattle.values.specs.Walks.{wide, added_by}
 use Rattle.exact.specs.declared.Unrounded.{Unrounded}
 use Rattle.scan.specs.declared.Scan.{Scan}
-use Rattle.scan.specs.declared.Early.{Early}
-use Rattle.scan.specs.declared.Early.TheVariants.{Given, Terms}
+use Rattle.scan.specs.declared.Given.{Given}
 use Rattle.scan.specs.Joined.{Scanned, terms_in, leaves_terms}
 use Rattle.window.specs.declared.ExactSum.{ExactSum}
 use Rattle.window.specs.Joined.{outcome_of, run_of, LeftOf}
@@ -45,9 +45,9 @@ none-invalid f c (b ∷ l) = ap₂ ◌||◌ (each (operand f c b)) (none-invalid
     each (infinity s) = refl
     each (nan s g m) = refl
 
-is-terms : (e : Early) → leaves_terms e ≡ true → e ≡ Terms
-is-terms (Given v i) q = absurd (true≢false (sym q))
-is-terms Terms q = refl
+is-terms : (e : Option Given) → leaves_terms e ≡ true → e ≡ None
+is-terms (Some v) q = absurd (true≢false (sym q))
+is-terms None q = refl
 
 some-term : (ts : List Term) (n : ℕ) → n ≡ top_of ts → n ≢ 0 → 0 < length ts
 unfolding top_of
@@ -61,11 +61,11 @@ module _ (f : Format) (c : Settings) (l : List ℕ) (s : Scan) (g : Scanned f c 
   module _ (e : odd s ≡ false) (h : s.top ≢ 0) where
     leaves : terms_in s ≡ true
     leaves =
-        let x = or_split s.nan.some _ e in
+        let x = or_split (is_some s.nan) _ e in
         let y = or_split s.positive_infinity s.negative_infinity x.1 in
         rw (x.0, g.invalid ∙ none-invalid f c l, y.0, y.1, ne_eqb s.top 0 h)
 
-  keeping : (d : Early) → leaves_terms d ≡ terms_in s → (d ≡ Terms → Ends f (sum_terms f c value l) (walked_of s report rest)) → Keeps f c l (walked_of s report rest)
+  keeping : (d : Option Given) → leaves_terms d ≡ terms_in s → (d ≡ None → Ends f (sum_terms f c value l) (walked_of s report rest)) → Keeps f c l (walked_of s report rest)
   keeping d k ends = record {
     subnormal = g.subnormal;
     positive-zero = g.positive-zero;
@@ -80,8 +80,8 @@ module _ (f : Format) (c : Settings) (u : ℕ) (x y : List ℕ) (z : u ≡ 0) (n
   scanned : Scanned f c value x s
   scanned = rw (n, z) at seen
 
-  pub keeps : (report : Report) (rest : Unrounded) (d : Early) → DecidesBy (eqb u 4) d c (first_in u) s
-      → (d ≡ Terms → Ends f (sum_terms f c value x) (walked_of s report rest)) → Keeps f c x (walked_of s report rest)
+  pub keeps : (report : Report) (rest : Unrounded) (d : Option Given) → DecidesBy (eqb u 4) d c (first_in u) s
+      → (d ≡ None → Ends f (sum_terms f c value x) (walked_of s report rest)) → Keeps f c x (walked_of s report rest)
   keeps report rest d k ends = let q : DecidesBy false d c (first_in 0) s = rw z at k in keeping f c x s scanned report rest d q.1 ends
 
   pub chain-ends : (e : ExactSum) (v : Unrounded) (r : Report) (p : ℕ) → p ≡ digits f

@@ -9,6 +9,7 @@ use lib.Dec.{eqb}
 use lib.IntN.{pos}
 use lib.ListN.{length}
 use borrow.Author.Tests.{eqb-true}
+use Rattle.std.specs.Prelude.{Option, Some, None}
 use Rattle.totals_spec.specs.Format as spec
 use Rattle.totals_spec.specs.Settings as env
 use Rattle.totals_spec.specs.Decode as dec
@@ -20,8 +21,7 @@ use Rattle.format.specs.declared.unpacked.Unpacked.{Unpacked}
 use Rattle.format.specs.Joined.{unpacked_of}
 use Rattle.exact.specs.declared.Unrounded.{Unrounded}
 use Rattle.scan.specs.declared.Scan.{Scan}
-use Rattle.scan.specs.declared.Early.{Early}
-use Rattle.scan.specs.declared.Early.TheVariants.{Given, Terms}
+use Rattle.scan.specs.declared.Given.{Given}
 use Rattle.scan.specs.Joined.{Scanned}
 use Rattle.scan.specs.Walked.{GatheredIn}
 use Rattle.values.specs.declared.Walk.{Walk}
@@ -52,14 +52,6 @@ heads-alike w r a e h = λ i. record {
   place = (e i).place;
   side = (e i).side;
 }
-
--- what a scan has decided is not left to the passes
-abbrev IsGiven : Early → Type 0
-IsGiven (Given v i) = Unit {0}
-IsGiven Terms = ⊥
-
-pub given-terms : {A : Type 0} {v : Unpacked} {i : Bool} → Given v i ≡ Terms → A
-given-terms e = absurd (subst IsGiven e tt)
 
 -- the walk that a scan takes is of values, where the walk is for pence
 pub scanned-orderly : (k r : Walk) → r.source ≡ k.source → r.summand ≡ cond (is_hundred k) 0 k.summand → Orderly k → Orderly r
@@ -99,28 +91,28 @@ module _ (f : spec.Format) (c : env.Settings) (u : ℕ) (x y : List ℕ) where
     pence-seen : Seen true f c u x y s → wide f ≡ false → c ≡ env.no_settings → Scanned f env.no_settings env.value x s
     pence-seen g n e = subst₂ (λ (w : Bool) (d : env.Settings). GatheredIn w false f d env.value x y s) n e g
 
-    module _ (d : Early) (v : Unpacked) (i : Bool) (is : d ≡ Given v i) where
-      pub early-asks : (h : Bool) → Known (wide f) f → Seen h f c u x y s → DecidesBy h d c (first_in u) s → EarlyAsks h f (unpacked_of v)
+    module _ (d : Option Given) (v : Given) (is : d ≡ Some v) where
+      pub early-asks : (h : Bool) → Known (wide f) f → Seen h f c u x y s → DecidesBy h d c (first_in u) s → EarlyAsks h f (unpacked_of v.value)
       early-asks true q g k = tt
       early-asks false q g k =
-          let t = given g (products_in u) (first_in u) d k.0 v i is in
+          let t = given g (products_in u) (first_in u) d k.0 v is in
           (q, t.encodes, t.alone (items_give f c (env.summand_of u) x y (wide f) (eqb u 3) q))
 
       pub early-told : (h : Bool) → Seen h f c u x y s → TotalAsks h (wide f) (eqb u 3) f c u x y → DecidesBy h d c (first_in u) s → (r : Report)
-          → EarlyTells h f s.subnormal (unpacked_of v) i r → TotalTells h (wide f) (eqb u 3) f c u x y r
-      early-told true g a k r t = t ∙ go (dec.is_number (unpacked_of v)) met.0 met.1
+          → EarlyTells h f s.subnormal (unpacked_of v.value) v.invalid r → TotalTells h (wide f) (eqb u 3) f c u x y r
+      early-told true g a k r t = t ∙ go (dec.is_number (unpacked_of v.value)) met.0 met.1
         where
-          met : PenceDecides (Given v i) s
-          met = subst (λ (z : Early). PenceDecides z s) is k
+          met : PenceDecides (Some v) s
+          met = subst (λ (z : Option Given). PenceDecides z s) is k
 
           go : (n : Bool) → odd s ≡ not n → (n ≡ true → s.top ≡ 0)
               → cond n (record { figure = pos 0; refusal = 0; place = 0 }) (refused_pence 8) ≡ list_figure f x
           go true o z = zero-figure f x (pence-seen g a.0 a.1.1) (sym o) refl (z refl)
           go false o z = met-figure f x (pence-seen g a.0 a.1.1) (sym o) refl
       early-told false g a k r t =
-          t ∙ ap (given_as (wide f)) (given_is g (products_in u) (first_in u) d k.0 v i is _ refl) ∙ answer-is f c u x y (wide f) (eqb u 3) refl a
+          t ∙ ap (given_as (wide f)) (given_is g (products_in u) (first_in u) d k.0 v is _ refl) ∙ answer-is f c u x y (wide f) (eqb u 3) refl a
 
-    module _ (d : Early) (is : d ≡ Terms) where
+    module _ (d : Option Given) (is : d ≡ None) where
       abbrev top_by : Bool → ℕ
       top_by h = cond h (s.top + 7) s.top
 
@@ -130,7 +122,7 @@ module _ (f : spec.Format) (c : env.Settings) (u : ℕ) (x y : List ℕ) where
       pub exact-asks : (h : Bool) → eqb u 4 ≡ h → Seen h f c u x y s → TotalAsks h (wide f) (eqb u 3) f c u x y → DecidesBy h d c (first_in u) s
           → (top_by h ≡ terms.top_of (terms.terms (added_by (wide f) (eqb u 3) h f c (env.summand_of u) x y))) × (0 < top_by h)
       exact-asks true e g a k =
-          let t = raised-top f x (pence-seen g a.0 a.1.1) (subst (λ (z : Early). PenceDecides z s) is k).1 in
+          let t = raised-top f x (pence-seen g a.0 a.1.1) (subst (λ (z : Option Given). PenceDecides z s) is k).1 in
           (t.0 ∙ sym (rw (a.0, no-dot (eqb-true u 4 e), a.1.1)), t.1)
       exact-asks false e g a k = rw (added-items f c u x y (wide f) (eqb u 3)) (top-is g (products_in u) (first_in u) d k.0 is)
 
@@ -138,7 +130,7 @@ module _ (f : spec.Format) (c : env.Settings) (u : ℕ) (x y : List ℕ) where
           → Sums (cond h 64 (spec.digits f)) (terms.terms (added_by (wide f) (eqb u 3) h f c (env.summand_of u) x y)) e
           → (r : Report) → EndTells h f c (products_in u) s.subnormal e r → TotalTells h (wide f) (eqb u 3) f c u x y r
       end-told true q g a k e m r t =
-          t ∙ chain-figure f x (pence-seen g a.0 a.1.1) (sym (subst (λ (z : Early). PenceDecides z s) is k).0) refl a.1.2 e
+          t ∙ chain-figure f x (pence-seen g a.0 a.1.1) (sym (subst (λ (z : Option Given). PenceDecides z s) is k).0) refl a.1.2 e
           (rw (a.0, no-dot (eqb-true u 4 q), a.1.1) at m)
       end-told false q g a k e m r t =
           t

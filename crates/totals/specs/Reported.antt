@@ -1,5 +1,5 @@
 -- What a walk is asked and what it reports, by whether it is for pence (summand 4): the pence of its left list, or a total.
-use Rattle.std.specs.Prelude.{◌≡◌, Bool, true, false, not, ◌||◌, cond, List, ℕ, ◌≤◌, pos, length}
+use Rattle.std.specs.Prelude.{Option, Some, None, is_some, ◌≡◌, Bool, true, false, not, ◌||◌, cond, List, ℕ, ◌≤◌, pos, length}
 use Rattle.totals_spec.specs.Format as spec
 use Rattle.totals_spec.specs.Bounds.{FormatBounds, RangeBounds, SettingsBounds}
 use Rattle.totals_spec.specs.Settings as env
@@ -14,8 +14,7 @@ use Rattle.format.specs.Fits.{Encodes}
 use Rattle.values.specs.Walks.{wide, Known}
 use Rattle.exact.specs.declared.Unrounded.{Unrounded}
 use Rattle.scan.specs.declared.Scan.{Scan}
-use Rattle.scan.specs.declared.Early.{Early}
-use Rattle.scan.specs.declared.Early.TheVariants.{Given, Terms}
+use Rattle.scan.specs.declared.Given.{Given}
 use Rattle.scan.specs.Joined.{Decides, terms_in, leaves_terms}
 use Rattle.window.specs.declared.ExactSum.{ExactSum}
 use Rattle.window.specs.Joined.{outcome_of, run_of, Ended, LeftOf}
@@ -43,13 +42,13 @@ pence_in r = record { figure = r.figure; refusal = r.refusal; place = r.place }
 -- ---- what a scan decides: of pence a NaN or an infinity, or that there is no term
 
 abbrev pub odd : Scan → Bool
-odd s = s.nan.some || (s.positive_infinity || s.negative_infinity)
+odd s = is_some s.nan || (s.positive_infinity || s.negative_infinity)
 
-abbrev pub PenceDecides : Early → Scan → Type 0
-PenceDecides (Given v i) s = (odd s ≡ not (dec.is_number (unpacked_of v))) × (dec.is_number (unpacked_of v) ≡ true → s.top ≡ 0)
-PenceDecides Terms s = (odd s ≡ false) × (s.top ≡ 0 → ⊥)
+abbrev pub PenceDecides : Option Given → Scan → Type 0
+PenceDecides (Some v) s = (odd s ≡ not (dec.is_number (unpacked_of v.value))) × (dec.is_number (unpacked_of v.value) ≡ true → s.top ≡ 0)
+PenceDecides None s = (odd s ≡ false) × (s.top ≡ 0 → ⊥)
 
-abbrev pub DecidesBy : Bool → Early → env.Settings → Bool → Scan → Type 0
+abbrev pub DecidesBy : Bool → Option Given → env.Settings → Bool → Scan → Type 0
 DecidesBy true r c first s = PenceDecides r s
 DecidesBy false r c first s = Decides r c first s × (leaves_terms r ≡ terms_in s)
 

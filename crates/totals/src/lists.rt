@@ -30,8 +30,8 @@ use format::Format;
 use format::env::Settings;
 use reduction::total::{Answer, Wide, left};
 use reduction::walk::exact;
+use scan::Scan;
 use scan::walk::scan;
-use scan::{Early, Scan};
 use values::{HUNDREDFOLD, Source, Walk};
 
 // What a walk gives: its report and, for further roundings of a plain sum, what the scan saw and what the chain of passes leaves.
@@ -106,11 +106,11 @@ fn total(
         right_bytes,
     );
     match decided_by(c, k.summand, s) {
-        Early::Given(v, invalid) => {
-            let report = early(f, k.summand, s.subnormal, v, invalid);
+        Some(given) => {
+            let report = early(f, k.summand, s.subnormal, given);
             keep(s, report, nothing())
         }
-        Early::Terms => {
+        None => {
             let p = digits_for(f, k.summand);
             let e = exact(
                 f,

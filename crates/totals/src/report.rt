@@ -15,9 +15,8 @@ use exact::Unrounded;
 use format::env::Settings;
 use format::unpacked::Unpacked;
 use format::{Format, digits};
-use limbs::word::either;
 use reduction::total::{Answer, Wide, finish, special};
-use scan::{Early, Scan, decided};
+use scan::{Given, Scan, decided};
 use values::{HUNDREDFOLD, Walk};
 use window::ExactSum;
 
@@ -159,24 +158,29 @@ pub fn scanned(k: Walk) -> Walk
 pub fn met_special(s: Scan) -> bool
     ensures { result ≡ odd s }
 {
-    let n = s.nan;
-    either(n.some, either(s.positive_infinity, s.negative_infinity))
+    s.nan.is_some() || s.positive_infinity || s.negative_infinity
 }
 
 // What a scan decides of pence: a value without, or 0.
-fn decided_pence(s: Scan) -> Early
+fn decided_pence(s: Scan) -> Option<Given>
     ensures { PenceDecides result s }
 {
     if met_special(s) {
-        return Early::Given(Unpacked::Infinity(false), false);
+        Some(Given {
+            value: Unpacked::Infinity(false),
+            invalid: false,
+        })
+    } else if s.top == 0 {
+        Some(Given {
+            value: Unpacked::Zero(false),
+            invalid: false,
+        })
+    } else {
+        None
     }
-    if s.top == 0 {
-        return Early::Given(Unpacked::Zero(false), false);
-    }
-    Early::Terms
 }
 
-pub fn decided_by(c: Settings, u: u64, s: Scan) -> Early
+pub fn decided_by(c: Settings, u: u64, s: Scan) -> Option<Given>
     ensures { DecidesBy (eqb u 4) result (settings_of c) (first_in u) s }
 {
     if u == HUNDREDFOLD {
@@ -205,14 +209,14 @@ fn special_pence(v: Unpacked) -> Pence
 }
 
 // Without a pass.
-pub fn early(f: Format, u: u64, subnormal: bool, v: Unpacked, invalid: bool) -> Report
-    requires { EarlyAsks (eqb u 4) (format_of f) (unpacked_of v) }
-    ensures { EarlyTells (eqb u 4) (format_of f) subnormal (unpacked_of v) invalid result }
+pub fn early(f: Format, u: u64, subnormal: bool, g: Given) -> Report
+    requires { EarlyAsks (eqb u 4) (format_of f) (unpacked_of g.value) }
+    ensures { EarlyTells (eqb u 4) (format_of f) subnormal (unpacked_of g.value) g.invalid result }
 {
     if u == HUNDREDFOLD {
-        return of_pence(special_pence(v));
+        return of_pence(special_pence(g.value));
     }
-    of_total(special(f, subnormal, v, invalid))
+    of_total(special(f, subnormal, g.value, g.invalid))
 }
 
 // The digits that a chain is to decide, and where it starts.

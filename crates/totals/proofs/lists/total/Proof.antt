@@ -12,7 +12,7 @@ use Rattle.format.specs.Joined.{format_of, settings_of}
 use Rattle.values.specs.Walks.{wide, read_as, is_dot, is_hundred, added_in}
 use Rattle.values.proofs.Walks.{known-range, read_length}
 use Rattle.reduction.specs.Held.{Sums}
-use Rattle.totals.proofs.Totalled.{given-terms, scanned-orderly, asks-few, digits-most, top-room, early-asks, early-told, exact-asks}
+use Rattle.totals.proofs.Totalled.{scanned-orderly, asks-few, digits-most, top-room, early-asks, early-told, exact-asks}
 use Rattle.totals.proofs.Totalled.{pence-narrow, end-asks, end-told}
 use Rattle.totals.specs.Kept.{Seen}
 use Rattle.totals.proofs.Keeping.{keeps, chain-ends}
@@ -65,24 +65,24 @@ early-requires c κs =
     let v = c in
     let d = v.before in
     let s = begun d in
-    early-asks (form s) (env s) (u s) (left s) (right s) _ _ _ _ v.in-Given.is (hundred s) s.requires.0.0 (seen d.before) d.decided_by.ensures
+    early-asks (form s) (env s) (u s) (left s) (right s) _ _ _ v.in-Some.is (hundred s) s.requires.0.0 (seen d.before) d.decided_by.ensures
 
-returns : tie.Need-returns-in-Given
+returns : tie.Need-returns-in-Some
 returns c =
     let n = c.before in
     let a = n.before in
     let v = a.before in
     let d = v.before in
     let s = begun d in
-    let is = v.in-Given.is in
+    let is = v.in-Some.is in
     rw c.keep.ensures (
-      early-told (form s) (env s) (u s) (left s) (right s) _ _ _ _ is (hundred s) (seen d.before) s.requires.1.1 d.decided_by.ensures _
+      early-told (form s) (env s) (u s) (left s) (right s) _ _ _ is (hundred s) (seen d.before) s.requires.1.1 d.decided_by.ensures _
           a.early-report.ensures,
-      λ z w. keeps (form s) (env s) (u s) (left s) (right s) z w _ (seen d.before) _ _ _ d.decided_by.ensures (λ e. given-terms (sym is ∙ e)),
+      λ z w. keeps (form s) (env s) (u s) (left s) (right s) z w _ (seen d.before) _ _ _ d.decided_by.ensures (λ e. cc (is, e)),
     )
 
 -- where there are terms
-abbrev told : tie.In-Terms → tie.After-decided_by
+abbrev told : tie.In-None → tie.After-decided_by
 told e = e.before
 
 digits-for-requires : tie.Need-digits_for-p-requires
@@ -114,7 +114,7 @@ exact-requires c κs =
           s.requires.1.0.2,
         ),
         rw c.top_for.ensures
-            (exact-asks f (env s) (u s) (left s) (right s) _ _ e.in-Terms.is (hundred s) refl (seen d.before) b d.decided_by.ensures),
+            (exact-asks f (env s) (u s) (left s) (right s) _ _ e.in-None.is (hundred s) refl (seen d.before) b d.decided_by.ensures),
       ),
     )
 
@@ -140,16 +140,16 @@ ended-requires c κs =
     (rw x.digits_for-p.ensures at c.left-rest.ensures)
 
 -- there is a term
-some : (e : tie.In-Terms) → (u (begun (told e)) ≡ 0) → ((told e).scan-s.result.top ≡ 0 → ⊥)
+some : (e : tie.In-None) → (u (begun (told e)) ≡ 0) → ((told e).scan-s.result.top ≡ 0 → ⊥)
 some e z n =
     let d = told e in
     let s = begun d in
-    let t = (exact-asks (form s) (env s) (u s) (left s) (right s) _ _ e.in-Terms.is (hundred s) refl (seen d.before) s.requires.1.1
+    let t = (exact-asks (form s) (env s) (u s) (left s) (right s) _ _ e.in-None.is (hundred s) refl (seen d.before) s.requires.1.1
     d.decided_by.ensures).1 in
     let k : 0 < d.scan-s.result.top = rw z at t in
     omega (arith, k, n)
 
-returns-2 : tie.Need-returns-in-Terms
+returns-2 : tie.Need-returns-in-None
 returns-2 c =
     let r = c.before in
     let l = r.before in
@@ -158,8 +158,8 @@ returns-2 c =
     let e = p.before in
     let d = told e in
     let s = begun d in
-    rw c.keep-in-Terms.ensures (
-      end-told (form s) (env s) (u s) (left s) (right s) _ _ e.in-Terms.is (hundred s) refl (seen d.before) s.requires.1.1
+    rw c.keep-in-None.ensures (
+      end-told (form s) (env s) (u s) (left s) (right s) _ _ e.in-None.is (hundred s) refl (seen d.before) s.requires.1.1
           d.decided_by.ensures _ (ends x) _ r.ended-report.ensures,
       λ z w. keeps (form s) (env s) (u s) (left s) (right s) z w _ (seen d.before) _ _ _ d.decided_by.ensures
           (λ _. chain-ends (form s) (env s) (u s) (left s) (right s) z w _ (seen d.before) _ _ _ _ (rw z at p.digits_for-p.ensures) x.exact-e.ensures

@@ -1,0 +1,7 @@
+-- The shift of a normal number is small, and its significand is not 0.
+use Rattle.std.proofs.Common.{rules}
+use Rattle.arithmetic.proofs.Elements.{field-shift, normal-pos}
+use Rattle.arithmetic.proofs.plain_hundred.Goals as goal
+
+pub product-requires : goal.product-requires
+product-requires c = search (rules, field-shift, normal-pos)

@@ -1,0 +1,7 @@
+-- The shift of a normal number is small, and its significand is not 0.
+use Rattle.std.proofs.Common.{rules}
+use Rattle.arithmetic.proofs.Elements.{field-shift, normal-pos}
+use Rattle.arithmetic.proofs.plain_term.Goals as goal
+
+pub summand_term-requires : goal.summand_term-requires
+summand_term-requires c = search (rules, field-shift, normal-pos)
