@@ -23,7 +23,7 @@ chunk-length w zero bytes i r h = absurd (not-suc-le-zero h)
 chunk-length w (suc n) bytes zero r h = omega (arith, length-take w bytes)
 chunk-length w (suc n) bytes (suc i) r h = chunk-length w n (drop w bytes) i (omega (arith, length-drop w bytes)) (le_of_suc-le-suc h)
 
-eight_bytes : (c : List ℕ) → length c ≡ 8 → from_bytes c ≡ from_le_bytes w64 c
+pub eight_bytes : (c : List ℕ) → length c ≡ 8 → from_bytes c ≡ from_le_bytes w64 c
 eight_bytes c e = ap from_bytes (sym (take_all 8 c (omega arith))) ∙ omega (arith, eight-bytes c 0 (omega arith))
 
 -- a chunk of eight bytes is the value at its index
