@@ -10,11 +10,13 @@ use lib.ListN.{length, take, get_or}
 use lib.Seq.{take-suc}
 use Rattle.totals_spec.specs.Basics.{flag, any, greatest, least}
 use Rattle.totals_spec.specs.Bytes.{to_bytes}
-use Rattle.totals_spec.specs.Format.{binary64}
+use Rattle.totals_spec.specs.Decode.{Unpacked, operand}
+use Rattle.totals_spec.specs.Format.{Format, binary64}
 use Rattle.totals_spec.specs.Limit.{low_of, bottom_of}
 use Rattle.totals_spec.specs.Pages.{class_of, page_items}
-use Rattle.totals_spec.specs.Settings.{no_settings, value}
+use Rattle.totals_spec.specs.Settings.{Settings, no_settings, value}
 use Rattle.totals_spec.specs.Terms.{Item, nan_item, invalid_item, infinite, zero_item, term}
+use Rattle.totals_spec.specs.Terms.{item_of as item_of_value}
 use Rattle.totals_spec.specs.Terms.{Term, item, is_nan_item, is_infinite, is_zero, term_of, terms, top_of, top_of_term}
 use Rattle.totals_spec.proofs.Finite.{or-mix}
 use Rattle.totals_spec.proofs.Good.{AllGood, good-terms}
@@ -64,6 +66,12 @@ also-is (infinite false) s = rw (max-zero s.top, or-false s.nan, or-true s.infin
 also-is (zero_item true) s = rw (max-zero s.top, or-false s.nan, or-false s.infinite, or-true s.zero)
 also-is (zero_item false) s = rw (max-zero s.top, or-false s.nan, or-false s.infinite, or-true s.zero)
 also-is (term t) s = rw (max-zero t.top, or-false s.nan, or-false s.infinite, or-false s.zero)
+
+-- a value's item, as a program reads it
+pub also-value : (x : ℕ) (s : Seen) {f : Format} {c : Settings} {v : Unpacked} {i : code.Item} → f ≡ binary64 → c ≡ no_settings → v ≡ operand f c x
+    → i ≡ item_of (item_of_value value v) → also i s ≡ both s (seen_of (x ∷ []))
+unfolding item
+also-value x s a b d e = ap (λ (i : code.Item). also i s) (e ∙ rw (d, a, b)) ∙ also-is (item binary64 no_settings value x) s
 
 -- ---- the summary
 

@@ -95,6 +95,16 @@ module _ (n g : ℕ) (old now : List ℕ) (f : AllBytes old) (less : 64 * g < n)
 
 -- ---- the writer
 
+-- what a page has room for, of g groups
+module _ (n g : ℕ) (e : g ≡ groups n) where
+  pub room-for : (k : ℕ) → page_length n ≤ k → 8 * n + 12 * g + trailer_length n ≤ k
+  unfolding page_length
+  room-for k h = omega (arith, e, h)
+
+  pub groups-few : n ≤ 268435456 → g ≤ 4194304
+  unfolding ceil_div
+  groups-few h = omega (arith, e, h)
+
 pub all_words : (l : List ℕ) → ((k : ℕ) → get_or l k 0 < 18446744073709551616) → AllWords l
 all_words [] f = tt
 all_words (x ∷ l) f = (f 0, all_words l (λ k. f (suc k)))

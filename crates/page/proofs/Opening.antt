@@ -6,15 +6,17 @@ use mathlib.Core.List.{List, ◌++◌}
 use Prim.Native.Nat.{ℕ, ◌+◌, ◌-◌, ◌*◌, ◌≤◌, ◌<◌}
 use native.Mathlib.Omega.{arith}
 use lib.ListN.{length, take, drop, length-drop, take-append-drop}
-use lib.Seq.{take_all, drop-drop}
+use lib.Seq.{take_all, take-take, length-take-le, drop-drop}
 use borrow.Author.Tests.{le-leb, lt-leb}
+use Rattle.std.specs.Int.{w64, from_le_bytes}
+use Rattle.std.proofs.lemmas.List.{drop-take}
 use Rattle.totals_spec.specs.Bytes.{from_bytes, to_bytes}
 use Rattle.totals_spec.specs.Pages.{short_most, short_trailer, long_trailer, trailer, trailer_length, last_bytes, opens}
 use Rattle.totals_spec.proofs.PageParts.{AllBytes, bytes-at, short-words, long-words}
 use Rattle.totals_spec.proofs.Pages.{by-range, trailer-length, last-last}
 use Rattle.totals_spec.proofs.ReadBack.{bytes_back}
-use Rattle.page.specs.declared.Opened.{Opened}
-use Rattle.page.specs.declared.Opened.TheVariants.{Count, Nothing}
+use Rattle.std.specs.Prelude.{Option, Some, None}
+use Rattle.values.proofs.Chunks.{eight_bytes}
 use Rattle.page.specs.Paged.{Counts, short_ending, long_ending, ShortSizes, LongSizes, Trails}
 
 pub not-open : (page : List ℕ) → (opens page ≡ true → ⊥) → opens page ≡ false
@@ -38,9 +40,9 @@ trailer-least n = by-range (λ t k. 16 ≤ k) n (λ _. omega arith) (λ _. omega
 pub trailer-most : (n : ℕ) → trailer_length n ≤ 24
 trailer-most n = by-range (λ t k. k ≤ 24) n (λ _. omega arith) (λ _. omega arith)
 
-counts-by : (P Q : ℕ → Type 0) → ((n : ℕ) → P n → Q n) → ((n : ℕ) → Q n → P n) → (r : Opened) → Counts P r → Counts Q r
-counts-by P Q f g (Count n) p = f n p
-counts-by P Q f g Nothing none = λ n q. none n (g n q)
+counts-by : (P Q : ℕ → Type 0) → ((n : ℕ) → P n → Q n) → ((n : ℕ) → Q n → P n) → (r : Option ℕ) → Counts P r → Counts Q r
+counts-by P Q f g (Some n) p = f n p
+counts-by P Q f g None none = λ n q. none n (g n q)
 
 module _ (page : List ℕ) where
   -- the word that begins k bytes before the end
@@ -94,6 +96,37 @@ module _ (page : List ℕ) where
             ),
           )
 
+  -- ---- the words, cut off the end one by one: behind `whole`, of which `front` is left, the last eight bytes
+
+  abbrev pub Cut : (whole front chunk : List ℕ) → Type 0
+  Cut whole front chunk =
+      (front ≡ take (length whole - 8) whole) × (chunk ≡ drop (length whole - 8) whole) × (length front + 8 ≡ length whole)
+
+  module _ {whole front chunk : List ℕ} (k : ℕ) (w : whole ≡ take (length page - k) page) (room : k ≤ length page) (c : Cut whole front chunk) where
+    all : length whole ≡ length page - k
+    all = ap length w ∙ length-take-le (length page - k) page (omega arith)
+
+    place : length whole - 8 ≡ length page - (k + 8)
+    place = omega (arith, all)
+
+    pub front-left : front ≡ take (length page - (k + 8)) page
+    front-left =
+        c.0 ∙ ap₂ (λ (i : ℕ) (l : List ℕ). take i l) place w ∙ take-take (length page - (k + 8)) (length page - k) page (omega arith)
+
+    pub word-cut : from_le_bytes w64 chunk ≡ word (k + 8)
+    word-cut = sym (eight_bytes chunk (ap length is ∙ length-take-le 8 (last_bytes (k + 8) page) (omega (arith, behind)))) ∙ ap from_bytes is
+      where
+        n : ℕ
+        n = length page - (k + 8)
+
+        behind : length (drop n page) ≡ k + 8
+        behind = omega (arith, length-drop n page, all, c.2)
+
+        is : chunk ≡ take 8 (last_bytes (k + 8) page)
+        is =
+            c.1 ∙ ap₂ (λ (i : ℕ) (l : List ℕ). drop i l) place w ∙ ap (λ (i : ℕ). drop n (take i page)) (let e : length page - k ≡ n + 8 = omega (arith, all, c.2) in e)
+            ∙ drop-take n 8 page
+
   -- and back
   module _ (f : AllBytes page) where
     last : 8 ≤ length page → last_bytes 8 page ≡ to_bytes 8 (word 8)
@@ -145,7 +178,7 @@ module _ (page : List ℕ) where
         go (inl e) = omega (arith, d, last, e.0)
         go (inr e) = omega (arith, h, e.1)
 
-    module _ (f : AllBytes page) (sizes : ℕ) (middle : sizes ≡ word 16) (r : Opened) where
+    module _ (f : AllBytes page) (sizes : ℕ) (middle : sizes ≡ word 16) (r : Option ℕ) where
       pub short-told : ending ≡ short_ending → 16 ≤ length page → Counts (ShortSizes sizes) r → Counts (Trails page) r
       short-told d h c =
           counts-by (ShortSizes (word 16)) (Trails page) (λ n s. short-trails f h n s (sym last ∙ d)) (λ n t. go n (trails-ends n t)) r

@@ -1,31 +1,27 @@
 -- A summary in its place, by the two words that are read there.
-use mathlib.Core.Path.{◌≡◌, sym, ap, ◌∙◌, subst}
+use mathlib.Core.Path.{◌≡◌, sym, ap, ◌∙◌}
 use mathlib.Core.Logic.{◌≢◌}
-use mathlib.Core.Bool.{false}
 use mathlib.Core.List.{List}
 use Prim.Native.Nat.{ℕ, ◌+◌, ◌-◌, ◌*◌, ◌%◌, ◌≤◌, ◌<◌}
 use native.Mathlib.Omega.{arith}
-use lib.Dec.{T, eqb}
+use lib.Dec.{eqb}
 use lib.ListN.{length, take, drop, get_or, length-drop}
-use lib.Seq.{length-take-le, take-take}
+use lib.Seq.{take_all, take-take}
 use borrow.Author.Tests.{eqb-true, eq-eqb}
+use Rattle.std.specs.Prelude.{◌↔◌, IsTrue}
 use Rattle.totals_spec.specs.Bytes.{from_bytes, to_bytes, values_from, values_in}
 use Rattle.totals_spec.specs.Pages.{group_size}
 use Rattle.totals_spec.proofs.PageParts.{AllBytes, Stands, bytes-at, twelve_bytes, twelve-back}
 use Rattle.totals_spec.proofs.Values.{values-at}
 use Rattle.page.specs.declared.Summary.{Summary}
-use Rattle.page.specs.Paged.{Tells, Summarized}
+use Rattle.page.specs.Paged.{Summarized}
 
--- a word that is read from eight bytes
-pub word-there : (page : List ℕ) (at next : ℕ) → next ≡ at + 8 → next ≤ length page
-    → get_or (values_in (take (next - at) (drop at page))) 0 0 ≡ from_bytes (take 8 (drop at page))
-word-there page at next e h =
-    ap (λ (k : ℕ). get_or (values_in (take k (drop at page))) 0 0) eight
-    ∙ values-at (take 8 (drop at page)) 0 (omega (arith, length-take-le 8 (drop at page) (omega (arith, e, h, length-drop at page))))
-    ∙ ap from_bytes (take-take 8 8 (drop at page) (omega arith))
-  where
-    eight : next - at ≡ 8
-    eight = omega (arith, e)
+-- a word that is read from a place on
+pub word-there : (page : List ℕ) (at : ℕ) → at + 8 ≤ length page
+    → get_or (values_in (take (length page - at) (drop at page))) 0 0 ≡ from_bytes (take 8 (drop at page))
+word-there page at h =
+    ap (λ (l : List ℕ). get_or (values_in l) 0 0) (take_all (length page - at) (drop at page) (omega (arith, length-drop at page)))
+    ∙ values-at (drop at page) 0 (omega (arith, h, length-drop at page))
 
 -- its lower half
 pub low_half : (page : List ℕ) (at : ℕ) → AllBytes page → at + 8 ≤ length page
@@ -44,11 +40,11 @@ module _ (n g : ℕ) (page : List ℕ) (s : Summary) (m : Summarized (take group
   words : Stands n page g → (from_bytes (take 8 (drop at page)) ≡ s.extent) × (from_bytes (take 4 (drop (at + 8) page)) ≡ s.class)
   words h = twelve-back at s.extent s.class page less (omega (arith, m.class-less)) (h ∙ sym m.bytes)
 
-  pub first-fails : (w : ℕ) → w ≡ from_bytes (take 8 (drop at page)) → w ≢ s.extent → Tells false (Stands n page g)
-  first-fails w e k = ((λ h. absurd (subst T (sym h) tt)), λ h. absurd (k (e ∙ (words h).0)))
+  pub first-fails : (w : ℕ) → w ≡ from_bytes (take 8 (drop at page)) → w ≢ s.extent → IsTrue (eqb w s.extent) ↔ Stands n page g
+  first-fails w e k = (λ h. absurd (k (eqb-true w s.extent h)), λ h. absurd (k (e ∙ (words h).0)))
 
   pub second-tells : (w v : ℕ) → w ≡ from_bytes (take 8 (drop at page)) → v ≡ from_bytes (take 8 (drop (at + 8) page)) → w ≡ s.extent → AllBytes page
-      → at + 16 ≤ length page → Tells (eqb (v % 4294967296) s.class) (Stands n page g)
+      → at + 16 ≤ length page → IsTrue (eqb (v % 4294967296) s.class) ↔ Stands n page g
   second-tells w v e d k f room = (
     (λ h. twelve_bytes at s.extent s.class page f (omega (arith, room)) (sym e ∙ k) (half ∙ eqb-true (v % 4294967296) s.class h) ∙ m.bytes),
     λ h. eq-eqb (v % 4294967296) s.class (sym half ∙ (words h).1),

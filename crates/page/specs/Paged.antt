@@ -1,18 +1,14 @@
 -- What opening a page tells, what a summary is in the code, and what writing a part of a page leaves.
-use Rattle.std.specs.Prelude.{◌≡◌, Bool, true, false, ◌||◌, List, ◌++◌, ℕ, ◌+◌, ◌*◌, ◌≤◌, ◌<◌, max, length, take, drop}
+use Rattle.std.specs.Prelude.{◌≡◌, true, false, ◌||◌, Option, Some, None, Result, Ok, Err, List, ◌++◌, ℕ, ◌+◌, ◌*◌, ◌≤◌, ◌<◌, max, length, take, drop}
 use Rattle.totals_spec.specs.Basics.{any}
 use Rattle.totals_spec.specs.Bytes.{to_bytes}
 use Rattle.totals_spec.specs.Pages as spec
 use Rattle.totals_spec.specs.Terms.{Item, is_nan_item, is_infinite, is_zero, terms, top_of}
 use Rattle.totals_spec.proofs.PageParts.{Stands}
-use Rattle.page.specs.declared.Opened.{Opened}
-use Rattle.page.specs.declared.Opened.TheVariants.{Count, Nothing}
+use Rattle.page.specs.declared.PageError.{PageError}
+use Rattle.page.specs.declared.PageError.TheVariants.{NoRoom, TooMany}
 use Rattle.page.specs.declared.Seen.{Seen}
 use Rattle.page.specs.declared.Summary.{Summary}
-
--- r says whether P holds
-abbrev pub Tells : Bool → Type 0 → Type 0
-Tells r P = (r ≡ true → P) × (P → r ≡ true)
 
 abbrev pub AllStand : (n : ℕ) → List ℕ → (k : ℕ) → Type 0
 AllStand n page k = (g : ℕ) → g < k → Stands n page g
@@ -43,9 +39,9 @@ pub record Summarized (values : List ℕ) (s : Summary) : Type 0 where
   pub class-less : s.class < 8
 
 -- r is the number for which P holds, or there is none
-abbrev pub Counts : (ℕ → Type 0) → Opened → Type 0
-Counts P (Count n) = P n
-Counts P Nothing = (n : ℕ) → ¬ P n
+abbrev pub Counts : (ℕ → Type 0) → Option ℕ → Type 0
+Counts P (Some n) = P n
+Counts P None = (n : ℕ) → ¬ P n
 
 -- the last word of a trailer: 64, and above it the number of the letters CPG1 or CPG2
 abbrev pub short_ending : ℕ
@@ -65,9 +61,9 @@ LongSizes offset count n = (spec.short_most < n) × (n ≤ spec.long_most) × (o
 abbrev pub Trails : List ℕ → ℕ → Type 0
 Trails page n = (n ≤ spec.long_most) × (spec.last_bytes (spec.trailer_length n) page ≡ spec.trailer n)
 
-abbrev pub Opens : List ℕ → Opened → Type 0
-Opens page (Count n) = (spec.opens page ≡ true) × (n ≡ spec.count_in page)
-Opens page Nothing = spec.opens page ≡ false
+abbrev pub Opens : List ℕ → Option ℕ → Type 0
+Opens page (Some n) = (spec.opens page ≡ true) × (n ≡ spec.count_in page)
+Opens page None = spec.opens page ≡ false
 
 -- the first k bytes of `new` are the page's; beyond the page it is as `old`
 pub record Fills (page : List ℕ) (k : ℕ) (old new : List ℕ) : Type 0 where
@@ -78,3 +74,9 @@ pub record Fills (page : List ℕ) (k : ℕ) (old new : List ℕ) : Type 0 where
 -- some bytes laid over others, from a place on
 abbrev pub laid_over : List ℕ → (at : ℕ) → List ℕ → List ℕ
 laid_over old at s = take at old ++ (s ++ drop (at + length s) old)
+
+-- the number that tells of a page written or not (totals_spec, `page_written`): 256 times its length, or the refusal
+abbrev pub code_of : Result ℕ PageError → ℕ
+code_of (Ok n) = 256 * n
+code_of (Err NoRoom) = 2
+code_of (Err TooMany) = 6

@@ -18,19 +18,8 @@ use Rattle.totals_spec.proofs.Order.{first-zero, or_split}
 use Rattle.totals_spec.proofs.Pages.{span-accepted, page-span-read}
 use Rattle.totals_spec.proofs.PageParts.{span-bytes, open-parts}
 use Rattle.totals_spec.proofs.Values.{from-length}
-use Rattle.page.specs.Paged.{Opens}
-use Rattle.page.specs.declared.Opened.{Opened}
-use Rattle.page.specs.declared.Opened.TheVariants.{Count, Nothing}
 use Rattle.totals.specs.Entered.{Enters}
 use Rattle.totals.proofs.Written.{enters-refused}
-
--- what opening tells
-module _ (page : List ℕ) (r : Opened) (told : Opens page r) where
-  pub opens-count : (n : ℕ) → r ≡ Count n → (opens page ≡ true) × (n ≡ count_in page)
-  opens-count n is = subst (Opens page) is told
-
-  pub opens-nothing : r ≡ Nothing → opens page ≡ false
-  opens-nothing is = subst (Opens page) is told
 
 -- ---- the refusal of a span, test by test
 

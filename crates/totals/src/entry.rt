@@ -22,7 +22,7 @@ use crate::{dot_bytes, extended, sum_bytes};
 use format::env::Settings;
 use format::{Format, Named};
 use limbs::word::magnitude;
-use page::write;
+use page::{PageError, write};
 use reduction::total::{Answer, Wide, refused};
 use values::{put_word, word_at};
 
@@ -764,5 +764,9 @@ pub fn totals_page_sum(
 pub fn totals_page_write(values: &[u64], page: &mut [u8]) -> u64
     ensures { Enters (pages.page_written values.now page.old) result page.new }
 {
-    write(values, page)
+    match write(values, page) {
+        Ok(length) => 256 * length as u64,
+        Err(PageError::NoRoom) => 2,
+        Err(PageError::TooMany) => 6,
+    }
 }

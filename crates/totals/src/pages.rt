@@ -6,25 +6,20 @@ ghost use Rattle.reduction.specs.Answered.{answer_of};
 
 use crate::sum_bytes;
 use format::env::Settings;
-use page::{Opened, binary64, open};
+use page::{binary64, open};
 use reduction::total::{Answer, refused};
 
 // The refusal of a span: 12 where the page does not open, 13 where the span is not in it, or 0.
 pub fn span_refusal(page: &[u8], start: usize, end: usize) -> u64
     ensures { result ≡ spec.page_refusal page.now start end }
 {
-    match open(page) {
-        Opened::Nothing => 12,
-        Opened::Count(n) => {
-            if end < start {
-                return 13;
-            }
-            if n < end {
-                return 13;
-            }
-            0
-        }
+    let Some(n) = open(page) else {
+        return 12;
+    };
+    if end < start || n < end {
+        return 13;
     }
+    0
 }
 
 // The span's bytes are a part of the page, and are summed where they lie.

@@ -1,3 +1,3 @@
-pub mod Lay
+pub mod Chunks
 pub mod Sources
 pub mod Walks

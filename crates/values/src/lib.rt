@@ -1,43 +1,19 @@
 // Values in bytes, eight to a value, or ten, the least byte first.
 #![tactic(auto)]
 
-ghost use Rattle.std.specs.Prelude.{◌≡◌, ◌+◌, ◌*◌, ◌/◌, ◌<◌, ◌≤◌, length, take, drop, get_or};
-ghost use Rattle.totals_spec.specs.Bytes.{from_bytes, values_in};
+ghost use Rattle.std.specs.Prelude.{◌≡◌, ◌+◌, ◌/◌, ◌<◌, ◌≤◌, length, get_or};
+ghost use Rattle.totals_spec.specs.Bytes.{values_in};
 ghost use Rattle.totals_spec.specs.Extended.{tens_in};
 ghost use Rattle.values.specs.Laid.{laid};
 ghost use Rattle.values.specs.Sources.{values};
 ghost use Rattle.values.specs.Tens.{ten_of};
-
-fn wide(x: u8) -> u64
-    ensures { (result ≡ x) × (result < 256) }
-{
-    x as u64
-}
-
-// Four bytes from a place on.
-fn half_at(values: &[u8], at: usize) -> u64
-    requires { at + 4 ≤ length values.now }
-    ensures { (result ≡ get_or values.now at 0 + 256 * (get_or values.now (at + 1) 0 + 256 * (get_or values.now (at + 2) 0 + 256 * get_or values.now (at + 3) 0))) × (result < 4294967296) }
-{
-    wide(values[at])
-        + 256 * (wide(values[at + 1]) + 256 * (wide(values[at + 2]) + 256 * wide(values[at + 3])))
-}
-
-// Eight bytes from a place on, the least first.
-fn eight_at(values: &[u8], at: usize) -> u64
-    requires { at + 8 ≤ length values.now }
-    ensures { result ≡ from_bytes (take 8 (drop at values.now)) }
-{
-    half_at(values, at) + 4294967296 * half_at(values, at + 4)
-}
 
 // The value i.
 pub fn word_at(values: &[u8], i: usize) -> u64
     requires { i < length values.now / 8 }
     ensures { result ≡ get_or (values_in values.now) i 0 }
 {
-    let at = 8 * i;
-    eight_at(values, at)
+    u64::from_le_bytes(values.as_chunks().0[i])
 }
 
 // A value of ten bytes (kind 4): its sign and exponent field, and its significand.
@@ -52,10 +28,10 @@ pub fn ten_at(values: &[u8], i: usize) -> Ten
     requires { i < length values.now / 10 }
     ensures { (ten_of result ≡ get_or (tens_in values.now) i 0) × (result.head < 65536) }
 {
-    let at = 10 * i;
+    let [b0, b1, b2, b3, b4, b5, b6, b7, b8, b9] = values.as_chunks::<10>().0[i];
     Ten {
-        head: wide(values[at + 8]) + 256 * wide(values[at + 9]),
-        significand: eight_at(values, at),
+        head: u64::from(u16::from_le_bytes([b8, b9])),
+        significand: u64::from_le_bytes([b0, b1, b2, b3, b4, b5, b6, b7]),
     }
 }
 
@@ -64,13 +40,7 @@ pub fn put_word(buffer: &mut [u8], at: usize, x: u64)
     requires { at + 8 ≤ length buffer.old }
     ensures { buffer.new ≡ laid buffer.old at x }
 {
-    let mut rest = x;
-    let mut i: usize = 0;
-    while i < 8 {
-        buffer[at + i] = (rest % 256) as u8;
-        rest = rest / 256;
-        i += 1;
-    }
+    buffer[at..at + 8].copy_from_slice(&x.to_le_bytes());
 }
 
 // The most elements of a list, or pairs of a dot (totals_spec, `limit`): refusal 6.
