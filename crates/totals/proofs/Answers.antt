@@ -21,8 +21,7 @@ use Rattle.reduction.specs.Answered.{Accepted, answer_in}
 use Rattle.totals.specs.Refusal.{sum_numbers, dot_numbers}
 use Rattle.totals.specs.Stray.{FoundOn}
 use Rattle.totals.specs.Walked.{numbers_in, answer_to}
-use Rattle.totals.specs.declared.stray.Found.{Found}
-use Rattle.totals.specs.declared.stray.Found.TheVariants.{At, Nothing}
+use Rattle.std.specs.Prelude.{Option, Some, None}
 use Rattle.totals.proofs.Search.{says_at, says_nothing}
 
 -- ---- a row of tests, none of which has number 0 or 7, before another one
@@ -119,7 +118,7 @@ module _ (f : Format) (c : Settings) (n m : ℕ) where
 -- ---- a walk over lists of n elements
 
 module _ (f : Format) (c : Settings) (u : ℕ) {n : ℕ} (x y : List ℕ) (left : length x ≡ n) (right : length y ≡ n) where
-  pub strayed : (b : Bool) → numbers_in b f c u n ≡ 0 → (r : Found) (i : ℕ) → FoundOn b r f.W x y → r ≡ At i → refused 7 i ≡ answer_to b f c u x y
+  pub strayed : (b : Bool) → numbers_in b f c u n ≡ 0 → (r : Option ℕ) (i : ℕ) → FoundOn b r f.W x y → r ≡ Some i → refused 7 i ≡ answer_to b f c u x y
   unfolding sum_numbers sum_answer sum_refusal dot_numbers dot_answer dot_refusal dot_place
   strayed true e r i found is =
       let (t, at) = says_at _ _ r found i is in
@@ -128,7 +127,7 @@ module _ (f : Format) (c : Settings) (u : ℕ) {n : ℕ} (x y : List ℕ) (left 
       let (t, at) = says_at _ _ r found i is in
       rw (left, t, sym at) (seventh _ (sum-tests f c u n) _ (sum_accepted f c (summand_of u) x) e)
 
-  pub unrefused : (b : Bool) → numbers_in b f c u n ≡ 0 → (r : Found) → FoundOn b r f.W x y → r ≡ Nothing → Accepted false b f c u x y
+  pub unrefused : (b : Bool) → numbers_in b f c u n ≡ 0 → (r : Option ℕ) → FoundOn b r f.W x y → r ≡ None → Accepted false b f c u x y
   unfolding sum_numbers sum_refusal dot_numbers dot_refusal
   unrefused true e r found is = rw (left, right, says_nothing _ _ r found is) e
   unrefused false e r found is = rw (left, says_nothing _ _ r found is) e

@@ -23,7 +23,7 @@ use crate::report::{
     Report, answer_of, decided_by, digits_for, early, ended, met_special, pence_of, scanned,
     strayed, top_for, wide_of,
 };
-use crate::stray::{Found, walk_stray};
+use crate::stray::walk_stray;
 use binary::extended::extended;
 use exact::{Unrounded, nothing};
 use format::Format;
@@ -160,8 +160,8 @@ fn listed(
         },
     };
     match walk_stray(f.width, k, left_words, left_bytes, right_words, right_bytes) {
-        Found::At(i) => no_walk(strayed(i)),
-        Found::Nothing => total(f, c, k, left_words, left_bytes, right_words, right_bytes),
+        Some(i) => no_walk(strayed(i)),
+        None => total(f, c, k, left_words, left_bytes, right_words, right_bytes),
     }
 }
 

@@ -75,11 +75,11 @@ total-requires c κs =
       (
         s.requires.1.0,
         list-asks (form s) (env s) (u s) (left s) (right s) (many-left s) (many-right s) (eqb (u s) 4) (wide (form s)) refl s.requires.1.1 _ (found t)
-            c.in-Nothing.is,
+            c.in-None.is,
       ),
     )
 
-returns : tie.Need-returns-in-At
+returns : tie.Need-returns-in-Some
 returns c =
     let r = c.before in
     let i = r.before in
@@ -88,17 +88,17 @@ returns c =
     let told = r.strayed.ensures in
     rw c.no_walk.ensures (
       list-strayed (form s) (env s) (u s) (left s) (right s) (many-left s) (many-right s) (eqb (u s) 4) (wide (form s)) refl s.requires.1.1 _ _ (found t)
-          i.in-At.is _ told,
+          i.in-Some.is _ told,
       λ z w n. absurd (strayed-refused r.strayed.result _ told.0 n),
     )
 
-returns-2 : tie.Need-returns-in-Nothing
+returns-2 : tie.Need-returns-in-None
 returns-2 c =
     let e = c.before in
     let t = e.before in
     let s = begun t in (
       list-told (form s) (env s) (u s) (left s) (right s) (many-left s) (many-right s) (eqb (u s) 4) (wide (form s)) refl s.requires.1.1 _ (found t)
-          e.in-Nothing.is _ c.total.ensures.0,
+          e.in-None.is _ c.total.ensures.0,
       λ z w n. c.total.ensures.1 z w,
     )
 
