@@ -40,9 +40,6 @@ pub record Clear (w : ℕ) (l : List ℕ) (i : ℕ) : Type 0 where
   pub within : i ≤ length l
   pub none : any (stray_at w) (take i l) ≡ false
 
-pub clear-start : (w : ℕ) (l : List ℕ) → Clear w l 0
-clear-start w l = record { within = zero-le; none = refl }
-
 -- m is the greatest encoding, x the element i
 module _ {w m : ℕ} (most : m + 1 ≡ 2 ^ w) {l : List ℕ} {i : ℕ} (k : Clear w l i) (h : i < length l) {x : ℕ} (at : x ≡ get_or l i 0) where
   pub clear_next : x ≤ m → Clear w l (i + 1)
