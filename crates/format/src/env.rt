@@ -39,7 +39,7 @@ pub fn has_flag(flags: u64, n: u64) -> bool
     flags / n % 2 == 1
 }
 
-#[derive(Clone, Copy)]
+#[derive(Clone, Copy, Default)]
 pub struct Settings {
     // 0 ties to even, 1 ties to away, 2 ties toward zero, 3 toward positive, 4 toward negative, 5 toward zero, 6 away from zero, 7 to odd
     pub rounding: u64,

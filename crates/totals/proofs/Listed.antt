@@ -2,16 +2,19 @@
 use mathlib.Core.Path.{◌≡◌, refl, sym, ap, ◌∙◌, subst}
 use mathlib.Core.Bool.{Bool, true, false}
 use mathlib.Core.List.{List}
-use Prim.Native.Nat.{ℕ}
+use Prim.Native.Nat.{ℕ, ◌≤◌}
 use native.Mathlib.Omega.{arith}
 use lib.Dec.{eqb}
 use lib.ListN.{length}
-use borrow.Author.Tests.{eqb-true, ne_eqb}
+use borrow.Author.Tests.{eqb-true, ltb-true, ne_eqb}
 use Rattle.totals_spec.specs.Format.{Format}
 use Rattle.totals_spec.specs.Settings.{Settings}
 use Rattle.totals_spec.specs.Totals.{Answer, refused}
 use Rattle.totals_spec.specs.Pence.{refused_at}
-use Rattle.values.specs.Walks.{wide}
+use Rattle.values.specs.declared.Source.{Source}
+use Rattle.values.specs.Sources.{elements}
+use Rattle.values.specs.Walks.{wide, read_as}
+use Rattle.totals.specs.Stray.{FoundOn}
 use Rattle.values.proofs.Walks.{narrow}
 use Rattle.totals.specs.declared.report.Report.{Report}
 use Rattle.std.specs.Prelude.{Option, Some, None}
@@ -31,6 +34,16 @@ found_none e z = absurd (subst IsSomewhere (sym e ∙ z) tt)
 -- the report of a stray bit is refused
 pub strayed-refused : (p : Report) (i : ℕ) → answer_in false p ≡ refused 7 i → p.refusal ≡ 0 → ⊥
 strayed-refused p i t e = let k : ◌≡◌ {A = ℕ} 0 7 = sym e ∙ ap (λ (a : Answer). a.refusal) t in omega (arith, k)
+
+-- what a search tells of the lists of a walk, by the width of the format
+pub found-by : (f : Format) (b : Bool) (s : Source) (left_words left_bytes right_words right_bytes : List ℕ) (r : Option ℕ)
+    → FoundOn b r f.W (elements s left_words left_bytes) (elements s right_words right_bytes) × (64 ≤ f.W → r ≡ None)
+    → FoundBy (wide f) b r f.W (read_as (wide f) s left_words left_bytes) (read_as (wide f) s right_words right_bytes)
+found-by f b s left_words left_bytes right_words right_bytes r h = go (wide f) refl
+  where
+    go : (w : Bool) → wide f ≡ w → FoundBy w b r f.W (read_as w s left_words left_bytes) (read_as w s right_words right_bytes)
+    go true e = h.1 (omega (arith, ltb-true 64 f.W e))
+    go false e = h.0
 
 module _ (f : Format) (c : Settings) (u : ℕ) (x y : List ℕ) {n : ℕ} (left : n ≡ length x) (right : n ≡ length y) where
   -- pence are not of pairs

@@ -14,7 +14,7 @@ ghost use Rattle.totals.specs.Ranges.{amount_in, range_record, lows, highs, Tota
 use crate::lists;
 use crate::refusal::Refusal;
 use format::env::Settings;
-use format::{Format, Named};
+use page::binary64;
 use values::LIMIT;
 
 // An amount known exactly, between two figures, or missing.
@@ -142,27 +142,12 @@ fn toward(rounding: u64, l: &[u64]) -> u64
     requires { (length l.now ≤ totals.limit) × (rounding < 8) }
     ensures { result ≡ spec.plus_zero (plain_total format.binary64 (env.with_rounding rounding) l.now) }
 {
-    let f = Format {
-        kind: 0,
-        exponent_bits: 11,
-        width: 64,
-        named: Named::Nothing,
-    };
     let c = Settings {
         rounding,
-        tininess: 0,
-        nan_propagation: 0,
-        default_nan_negative: 0,
-        flush_to_zero: 0,
-        denormals_are_zero: 0,
-        saturate: 0,
-        precision: 0,
+        ..Settings::default()
     };
-    let a = lists::words(f, c, 0, l, l);
-    if a.result == SIGN {
-        return 0;
-    }
-    a.result
+    let a = lists::words(binary64(), c, 0, l, l);
+    if a.result == SIGN { 0 } else { a.result }
 }
 
 // A range that is refused has no place.

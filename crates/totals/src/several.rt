@@ -11,7 +11,7 @@ ghost use Rattle.totals.specs.Targets.{target_numbers, Printable, Prints, Listed
 
 use crate::lists::{Walked, no_walk, sum_walk};
 use crate::refusal::{Refusal, first_refusal, list_refusal, sum_refusal};
-use crate::report::strayed;
+use crate::report::Report;
 use format::env::Settings;
 use format::{Format, digits, valid_format};
 use reduction::total::{Answer, print, print_zero, refused};
@@ -36,14 +36,8 @@ fn reading(denormals_are_zero: u64) -> Settings
     ensures { settings_of result ≡ spec.reading_with denormals_are_zero }
 {
     Settings {
-        rounding: 0,
-        tininess: 0,
-        nan_propagation: 0,
-        default_nan_negative: 0,
-        flush_to_zero: 0,
         denormals_are_zero,
-        saturate: 0,
-        precision: 0,
+        ..Settings::default()
     }
 }
 
@@ -105,7 +99,7 @@ fn walk_once(f: Format, denormals_are_zero: u64, values: &[u8]) -> Walked
     let c = reading(denormals_are_zero);
     match sum_refusal(f, c, 0, values.len() / 8) {
         Ok(()) => sum_walk(f, c, values),
-        Err(_) => no_walk(strayed(0)),
+        Err(refusal) => no_walk(Report::from(refusal)),
     }
 }
 
