@@ -4,7 +4,7 @@ ghost use Rattle.std.specs.Prelude.{◌≤◌};
 
 use format::env::Settings;
 use format::{Format, Named};
-use totals::refusal::{dot_refusal, sum_refusal};
+use totals::refusal::{Refusal, dot_refusal, sum_refusal};
 
 // binary64, or of a kind that there is not
 fn double(kind: u64) -> Format {
@@ -30,11 +30,19 @@ fn plain(rounding: u64) -> Settings {
     }
 }
 
+// The number of a refusal, 0 where there is none.
+fn number_of(refusal: Result<(), Refusal>) -> u64 {
+    match refusal {
+        Ok(()) => 0,
+        Err(refusal) => refusal.number(),
+    }
+}
+
 // Whether a sum of n elements is refused with the number: 1, or 0.
 fn sum_agrees(kind: u64, rounding: u64, summand: u64, n: usize, number: u64) -> u64
     ensures { result ≤ 1 }
 {
-    if sum_refusal(double(kind), plain(rounding), summand, n) == number {
+    if number_of(sum_refusal(double(kind), plain(rounding), summand, n)) == number {
         1
     } else {
         0
@@ -44,7 +52,7 @@ fn sum_agrees(kind: u64, rounding: u64, summand: u64, n: usize, number: u64) -> 
 fn dot_agrees(kind: u64, rounding: u64, n: usize, m: usize, number: u64) -> u64
     ensures { result ≤ 1 }
 {
-    if dot_refusal(double(kind), plain(rounding), n, m) == number {
+    if number_of(dot_refusal(double(kind), plain(rounding), n, m)) == number {
         1
     } else {
         0

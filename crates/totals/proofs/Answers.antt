@@ -18,11 +18,12 @@ use Rattle.totals_spec.proofs.Valid.{and_right, format-bounds}
 use Rattle.totals_spec.proofs.Passes.{valid-of}
 use Rattle.totals_spec.proofs.Order.{first-zero}
 use Rattle.reduction.specs.Answered.{Accepted, answer_in}
-use Rattle.totals.specs.Refusal.{sum_numbers, dot_numbers}
+use Rattle.totals.specs.declared.refusal.Refusal.{Refusal}
+use Rattle.totals.specs.Refusal.{number_of, place_of, sum_numbers, dot_numbers}
 use Rattle.totals.specs.Stray.{FoundOn}
 use Rattle.totals.specs.Walked.{numbers_in, answer_to}
-use Rattle.totals.specs.declared.stray.Found.{Found}
-use Rattle.totals.specs.declared.stray.Found.TheVariants.{At, Nothing}
+use Rattle.std.specs.Prelude.{Option, Some, None}
+use Rattle.totals.proofs.Refusals.{number-some, no-place}
 use Rattle.totals.proofs.Search.{says_at, says_nothing}
 
 -- ---- a row of tests, none of which has number 0 or 7, before another one
@@ -40,10 +41,11 @@ test true n r h k s = record { passes = λ e t. absurd (h e); stops = λ q t. re
 test false n r h k s = s
 
 module _ (r : ℕ → ℕ) (s : Tests r) (at : ℕ) (a : Answer) where
-  pub stopped : (k : ℕ) → k ≡ r 0 → k ≢ 0 → (t : ℕ) → refused k 0 ≡ answered (r t) at a
-  stopped k q g t =
-      let h = subst (λ (x : ℕ). x ≢ 0) q g in
-      ap (λ (x : ℕ). refused x 0) q ∙ rw (s.stops h t, ne_eqb (r 0) 0 h, ne_eqb (r 0) 7 s.no_seven)
+  pub stopped : (e : Refusal) → number_of e ≡ r 0 → (t : ℕ) → refused (number_of e) (place_of e) ≡ answered (r t) at a
+  stopped e q t =
+      let h : r 0 ≢ 0 = λ z. number-some e (q ∙ z) in
+      let p = no-place e (λ z. s.no_seven (sym q ∙ z)) in
+      rw p (ap (λ (x : ℕ). refused x 0) q ∙ rw (s.stops h t, ne_eqb (r 0) 0 h, ne_eqb (r 0) 7 s.no_seven))
 
   pub seventh : r 0 ≡ 0 → refused 7 at ≡ answered (r 7) at a
   seventh e = rw (s.passes e 7)
@@ -62,9 +64,15 @@ sum-tests f c u n =
     (test (ltb limit n) 6 _ (λ e. omega (arith, e)) (λ e. omega (arith, e)) no_test))
 
 -- n is the length of l, as the code counts it
-pub sum-stopped : (f : Format) (c : Settings) (u n : ℕ) (l : List ℕ) → length l ≡ n → (k : ℕ) → k ≡ sum_numbers f c u n → k ≢ 0 → refused k 0 ≡ sum_answer f c u l
+pub sum-stopped : (f : Format) (c : Settings) (u n : ℕ) (l : List ℕ) → length l ≡ n → (e : Refusal) → number_of e ≡ sum_numbers f c u n
+    → refused (number_of e) (place_of e) ≡ sum_answer f c u l
 unfolding sum_numbers sum_answer sum_refusal
-sum-stopped f c u n l long k q g = rw long (stopped _ (sum-tests f c u n) (first_index (stray f) l) (sum_accepted f c (summand_of u) l) k q g _)
+sum-stopped f c u n l long e q = rw long (stopped _ (sum-tests f c u n) (first_index (stray f) l) (sum_accepted f c (summand_of u) l) e q _)
+
+-- a refusal of these tests has no place
+pub sum-place : (f : Format) (c : Settings) (u n : ℕ) (e : Refusal) → number_of e ≡ sum_numbers f c u n → place_of e ≡ 0
+unfolding sum_numbers
+sum-place f c u n e q = no-place e (λ z. (sum-tests f c u n).no_seven (sym q ∙ z))
 
 -- one that no earlier test refuses
 module _ (f : Format) (c : Settings) (l : List ℕ) {n : ℕ} (long : length l ≡ n) (e : sum_numbers f c 0 n ≡ 0) where
@@ -104,10 +112,10 @@ dot-tests f c n m =
     (test (ltb limit n) 6 _ (λ e. omega (arith, e)) (λ e. omega (arith, e)) no_test)))
 
 module _ (f : Format) (c : Settings) (n m : ℕ) where
-  pub dot-stopped : (x y : List ℕ) → length x ≡ n → length y ≡ m → (k : ℕ) → k ≡ dot_numbers f c n m → k ≢ 0 → refused k 0 ≡ dot_answer f c x y
+  pub dot-stopped : (x y : List ℕ) → length x ≡ n → length y ≡ m → (e : Refusal) → number_of e ≡ dot_numbers f c n m
+      → refused (number_of e) (place_of e) ≡ dot_answer f c x y
   unfolding dot_numbers dot_answer dot_refusal
-  dot-stopped x y left right k q g =
-      rw (left, right) (stopped _ (dot-tests f c n m) (dot_place f x y) (dot_accepted f c (pairs x y)) k q g _)
+  dot-stopped x y left right e q = rw (left, right) (stopped _ (dot-tests f c n m) (dot_place f x y) (dot_accepted f c (pairs x y)) e q _)
 
   pub alike : dot_numbers f c n m ≡ 0 → m ≡ n
   unfolding dot_numbers
@@ -119,7 +127,7 @@ module _ (f : Format) (c : Settings) (n m : ℕ) where
 -- ---- a walk over lists of n elements
 
 module _ (f : Format) (c : Settings) (u : ℕ) {n : ℕ} (x y : List ℕ) (left : length x ≡ n) (right : length y ≡ n) where
-  pub strayed : (b : Bool) → numbers_in b f c u n ≡ 0 → (r : Found) (i : ℕ) → FoundOn b r f.W x y → r ≡ At i → refused 7 i ≡ answer_to b f c u x y
+  pub strayed : (b : Bool) → numbers_in b f c u n ≡ 0 → (r : Option ℕ) (i : ℕ) → FoundOn b r f.W x y → r ≡ Some i → refused 7 i ≡ answer_to b f c u x y
   unfolding sum_numbers sum_answer sum_refusal dot_numbers dot_answer dot_refusal dot_place
   strayed true e r i found is =
       let (t, at) = says_at _ _ r found i is in
@@ -128,7 +136,7 @@ module _ (f : Format) (c : Settings) (u : ℕ) {n : ℕ} (x y : List ℕ) (left 
       let (t, at) = says_at _ _ r found i is in
       rw (left, t, sym at) (seventh _ (sum-tests f c u n) _ (sum_accepted f c (summand_of u) x) e)
 
-  pub unrefused : (b : Bool) → numbers_in b f c u n ≡ 0 → (r : Found) → FoundOn b r f.W x y → r ≡ Nothing → Accepted false b f c u x y
+  pub unrefused : (b : Bool) → numbers_in b f c u n ≡ 0 → (r : Option ℕ) → FoundOn b r f.W x y → r ≡ None → Accepted false b f c u x y
   unfolding sum_numbers sum_refusal dot_numbers dot_refusal
   unrefused true e r found is = rw (left, right, says_nothing _ _ r found is) e
   unrefused false e r found is = rw (left, says_nothing _ _ r found is) e

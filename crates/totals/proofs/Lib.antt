@@ -1,6 +1,7 @@
 pub mod Search
 pub mod Written
 mod Answers
+mod Refusals
 pub mod Figures
 mod Counted
 mod Totalled

@@ -2,36 +2,48 @@
 use mathlib.Core.Path.{◌≡◌, refl, sym, ap, ◌∙◌, subst}
 use mathlib.Core.Bool.{Bool, true, false}
 use mathlib.Core.List.{List}
-use Prim.Native.Nat.{ℕ}
+use Prim.Native.Nat.{ℕ, ◌≤◌}
 use native.Mathlib.Omega.{arith}
 use lib.Dec.{eqb}
 use lib.ListN.{length}
-use borrow.Author.Tests.{eqb-true, ne_eqb}
+use borrow.Author.Tests.{eqb-true, ltb-true, ne_eqb}
 use Rattle.totals_spec.specs.Format.{Format}
 use Rattle.totals_spec.specs.Settings.{Settings}
 use Rattle.totals_spec.specs.Totals.{Answer, refused}
 use Rattle.totals_spec.specs.Pence.{refused_at}
-use Rattle.values.specs.Walks.{wide}
+use Rattle.values.specs.declared.Source.{Source}
+use Rattle.values.specs.Sources.{elements}
+use Rattle.values.specs.Walks.{wide, read_as}
+use Rattle.totals.specs.Stray.{FoundOn}
 use Rattle.values.proofs.Walks.{narrow}
 use Rattle.totals.specs.declared.report.Report.{Report}
-use Rattle.totals.specs.declared.stray.Found.{Found}
-use Rattle.totals.specs.declared.stray.Found.TheVariants.{At, Nothing}
+use Rattle.std.specs.Prelude.{Option, Some, None}
 use Rattle.totals.specs.Kept.{FoundBy}
 use Rattle.totals.specs.Walked.{numbers_in, answer_to}
 use Rattle.totals.specs.Reported.{answer_in, pence_in, TotalAsks, TotalTells, ListAsks, ListTells}
 use Rattle.totals.proofs.Answers.{summand-le, walk-format, strayed, unrefused, accepted-is}
 use Rattle.totals.proofs.Search.{says_at, says_nothing}
 
-abbrev IsAt : Found → Type 0
-IsAt (At i) = Unit {0}
-IsAt Nothing = ⊥
+abbrev IsSomewhere : Option ℕ → Type 0
+IsSomewhere (Some i) = Unit {0}
+IsSomewhere None = ⊥
 
-pub found_none : {A : Type 0} {i : ℕ} {r : Found} → r ≡ At i → r ≡ Nothing → A
-found_none e z = absurd (subst IsAt (sym e ∙ z) tt)
+pub found_none : {A : Type 0} {i : ℕ} {r : Option ℕ} → r ≡ Some i → r ≡ None → A
+found_none e z = absurd (subst IsSomewhere (sym e ∙ z) tt)
 
 -- the report of a stray bit is refused
 pub strayed-refused : (p : Report) (i : ℕ) → answer_in false p ≡ refused 7 i → p.refusal ≡ 0 → ⊥
 strayed-refused p i t e = let k : ◌≡◌ {A = ℕ} 0 7 = sym e ∙ ap (λ (a : Answer). a.refusal) t in omega (arith, k)
+
+-- what a search tells of the lists of a walk, by the width of the format
+pub found-by : (f : Format) (b : Bool) (s : Source) (left_words left_bytes right_words right_bytes : List ℕ) (r : Option ℕ)
+    → FoundOn b r f.W (elements s left_words left_bytes) (elements s right_words right_bytes) × (64 ≤ f.W → r ≡ None)
+    → FoundBy (wide f) b r f.W (read_as (wide f) s left_words left_bytes) (read_as (wide f) s right_words right_bytes)
+found-by f b s left_words left_bytes right_words right_bytes r h = go (wide f) refl
+  where
+    go : (w : Bool) → wide f ≡ w → FoundBy w b r f.W (read_as w s left_words left_bytes) (read_as w s right_words right_bytes)
+    go true e = h.1 (omega (arith, ltb-true 64 f.W e))
+    go false e = h.0
 
 module _ (f : Format) (c : Settings) (u : ℕ) (x y : List ℕ) {n : ℕ} (left : n ≡ length x) (right : n ≡ length y) where
   -- pence are not of pairs
@@ -39,10 +51,10 @@ module _ (f : Format) (c : Settings) (u : ℕ) (x y : List ℕ) {n : ℕ} (left 
   no_pairs e = let q = eqb-true u 4 e in rw q
 
   -- and of no wide format
-  found-pence : eqb u 4 ≡ true → (w : Bool) → w ≡ false → (r : Found) → FoundBy w (eqb u 3) r f.W x y → FoundBy false false r f.W x y
+  found-pence : eqb u 4 ≡ true → (w : Bool) → w ≡ false → (r : Option ℕ) → FoundBy w (eqb u 3) r f.W x y → FoundBy false false r f.W x y
   found-pence e w z r found = rw (z, no_pairs e) at found
 
-  pub list-strayed : (h w : Bool) → eqb u 4 ≡ h → ListAsks h w (eqb u 3) f c u n x y → (r : Found) (i : ℕ) → FoundBy w (eqb u 3) r f.W x y → r ≡ At i
+  pub list-strayed : (h w : Bool) → eqb u 4 ≡ h → ListAsks h w (eqb u 3) f c u n x y → (r : Option ℕ) (i : ℕ) → FoundBy w (eqb u 3) r f.W x y → r ≡ Some i
       → (p : Report) → (answer_in false p ≡ refused 7 i) × (pence_in p ≡ refused_at 7 i) → ListTells h w (eqb u 3) f c u x y p
   list-strayed true w e a r i found is p t =
       let (some, at) = says_at _ _ r (found-pence e w a.0 r found) i is in
@@ -50,14 +62,14 @@ module _ (f : Format) (c : Settings) (u : ℕ) (x y : List ℕ) {n : ℕ} (left 
   list-strayed false true e a r i found is p t = found_none is found
   list-strayed false false e a r i found is p t = t.0 ∙ strayed f c u x y (sym left) (sym right) (eqb u 3) a r i found is
 
-  pub list-asks : (h w : Bool) → eqb u 4 ≡ h → ListAsks h w (eqb u 3) f c u n x y → (r : Found) → FoundBy w (eqb u 3) r f.W x y → r ≡ Nothing
+  pub list-asks : (h w : Bool) → eqb u 4 ≡ h → ListAsks h w (eqb u 3) f c u n x y → (r : Option ℕ) → FoundBy w (eqb u 3) r f.W x y → r ≡ None
       → TotalAsks h w (eqb u 3) f c u x y
   list-asks true w e a r found is = (a.0, (a.1.0, a.1.1, rw left at a.1.2))
   list-asks false true e a r found is = a
   list-asks false false e a r found is = unrefused f c u x y (sym left) (sym right) (eqb u 3) a r found is
 
-  pub list-told : (h w : Bool) (e : eqb u 4 ≡ h) (a : ListAsks h w (eqb u 3) f c u n x y) (r : Found) (found : FoundBy w (eqb u 3) r f.W x y)
-      (is : r ≡ Nothing) (p : Report) → TotalTells h w (eqb u 3) f c u x y p → ListTells h w (eqb u 3) f c u x y p
+  pub list-told : (h w : Bool) (e : eqb u 4 ≡ h) (a : ListAsks h w (eqb u 3) f c u n x y) (r : Option ℕ) (found : FoundBy w (eqb u 3) r f.W x y)
+      (is : r ≡ None) (p : Report) → TotalTells h w (eqb u 3) f c u x y p → ListTells h w (eqb u 3) f c u x y p
   list-told true w e a r found is p t = t ∙ rw (says_nothing _ _ r (found-pence e w a.0 r found) is)
   list-told false true e a r found is p t = t
   list-told false false e a r found is p t = t ∙ accepted-is (eqb u 3) f c u x y (list-asks false false e a r found is)

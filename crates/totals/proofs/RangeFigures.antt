@@ -93,25 +93,6 @@ written-again b h k = to_bits-of_bits ieee.binary64 b h (subst (λ (t : Bool). T
 
 -- ---- entries by their tags
 
-pub untold-bad : (t x y : ℕ) → 2 < t → false ≡ good_amount (amount_of t x y)
-untold-bad zero x y h = absurd (let z : ⊥ = omega (arith, h) in z)
-untold-bad (suc zero) x y h = absurd (let z : ⊥ = omega (arith, h) in z)
-untold-bad (suc (suc zero)) x y h = absurd (let z : ⊥ = omega (arith, h) in z)
-untold-bad (suc (suc (suc t))) x y h = refl
-
--- known, or between two figures
-pub first-bad : (t x y : ℕ) → t ≤ 2 → t ≢ 2 → good_figure x ≡ false → false ≡ good_amount (amount_of t x y)
-first-bad zero x y h n e = sym e
-first-bad (suc zero) x y h n e = sym (ap (λ b. b && good_figure y && at_most (figure_worth x) (figure_worth y)) e)
-first-bad (suc (suc zero)) x y h n e = absurd (n refl)
-first-bad (suc (suc (suc t))) x y h n e = absurd (let z : ⊥ = omega (arith, h) in z)
-
-pub rest-missing : (t x y : ℕ) → t ≢ 0 → t ≢ 1 → T (good_amount (amount_of t x y)) → missing ≡ amount_of t x y
-rest-missing zero x y n m h = absurd (n refl)
-rest-missing (suc zero) x y n m h = absurd (m refl)
-rest-missing (suc (suc zero)) x y n m h = refl
-rest-missing (suc (suc (suc t))) x y n m h = absurd h
-
 pub known_is : (t x y : ℕ) → t ≡ 0 → amount_of t x y ≡ known x
 known_is t x y e = ap (λ n. amount_of n x y) e
 

@@ -1,7 +1,7 @@
 -- A range total: doubles that are no NaN, lists whose figures are replaced one by one, and what a call leaves by its tests.
 use mathlib.Core.Path.{◌≡◌, refl, sym, ap, ap₂, ◌∙◌, subst}
 use mathlib.Core.Logic.{◌≢◌}
-use mathlib.Core.Bool.{Bool, true, false, not, ◌&&◌, true≢false}
+use mathlib.Core.Bool.{Bool, true, false, not, ◌&&◌, ◌||◌, true≢false}
 use mathlib.Core.List.{List, [], ◌∷◌, ◌++◌, append-nil}
 use Prim.Native.Nat.{ℕ, zero, suc, ◌+◌, ◌^◌, ◌≤◌, ◌<◌, zero-le}
 use native.Mathlib.Nat.{le_of_suc-le-suc, not-suc-le-zero, add-zero, zero-add}
@@ -20,7 +20,7 @@ use Rattle.totals_spec.specs.Totals.{limit}
 use Rattle.totals_spec.specs.Table.{filled}
 use Rattle.totals_spec.specs.Words.{range_entry}
 use Rattle.totals_spec.specs.Ranges as spec
-use Rattle.totals_spec.proofs.Order.{or_split, not-false}
+use Rattle.totals_spec.proofs.Order.{first-zero, or_split, not-false}
 use Rattle.totals_spec.proofs.Valid.{and_left, and_right}
 use Rattle.totals_spec.proofs.Ranges as laws
 use Rattle.totals_spec.proofs.RangeRefused.{range-number}
@@ -80,9 +80,6 @@ abbrev pub Settled : (s d : List ℕ) (i : ℕ) (l : List ℕ) → Type 0
 Settled s d i l = l ≡ paste d 0 s i
 
 module _ (s d : List ℕ) (one-length : length s ≡ length d) (i : ℕ) (l : List ℕ) (e : Settled s d i l) where
-  pub settled-length : i ≤ length d → length l ≡ length d
-  settled-length h = ap length e ∙ length-paste d 0 s i (omega arith) (omega (arith, one-length))
-
   module _ (h : i < length d) where
     -- the next one is still that of the list itself
     pub settled-next : get_or l i 0 ≡ get_or d i 0
@@ -181,6 +178,38 @@ module _ (ts xs ys : List ℕ) (z : ℕ) where
       firsts-are = rw accepted f;
       seconds-are = rw accepted g;
     }
+
+-- what an accepted call has shown
+pub range-passed : (ts xs ys : List ℕ) (z : ℕ) → spec.range_refusal ts xs ys z ≡ 0 → T (spec.good_ceiling z) × (bad ts xs ys ≡ false)
+unfolding spec.range_refusal
+range-passed ts xs ys z e =
+    let a = first-zero (not (eqb (length ts) (length xs)) || not (eqb (length ts) (length ys))) 4 _ e in
+    let b = first-zero (ltb limit (length ts)) 5 _ a.1 in
+    let h = or_split (not (spec.good_ceiling z)) _ (first-zero _ 10 _ b.1).0 in
+    (not-false (spec.good_ceiling z) h.0, h.1)
+
+-- a figure that is not yet settled is read as it was, so that the entry is
+module _ (ts xs ys : List ℕ) (e : length ts ≡ length xs) (h : length ts ≡ length ys) (z i : ℕ) (firsts seconds : List ℕ)
+    (p : Settled (lows ts xs ys) xs i firsts) (q : Settled (highs z ts xs ys) ys i seconds) (inside : i < length ts) where
+  pub lows-long : length (lows ts xs ys) ≡ length xs
+  lows-long = lows-length ts xs ys e h ∙ e
+
+  pub highs-long : length (highs z ts xs ys) ≡ length ys
+  highs-long = highs-length ts xs ys e h z ∙ h
+
+  abbrev entry-at : spec.Amount
+  entry-at = spec.amount_of (get_or ts i 0) (get_or xs i 0) (get_or ys i 0)
+
+  pub entry-read : spec.amount_of (get_or ts i 0) (get_or firsts i 0) (get_or seconds i 0) ≡ entry-at
+  entry-read =
+      ap₂ (spec.amount_of (get_or ts i 0)) (settled-next _ _ lows-long i firsts p (omega (arith, e, inside)))
+      (settled-next _ _ highs-long i seconds q (omega (arith, h, inside)))
+
+  pub first-settled : (x : ℕ) → x ≡ spec.low_of entry-at → Settled (lows ts xs ys) xs (i + 1) (set firsts i x)
+  first-settled x t = settled-set _ _ lows-long i firsts p (omega (arith, e, inside)) x (t ∙ sym (laws.low-at ts xs ys e h i))
+
+  pub second-settled : (x : ℕ) → x ≡ spec.high_of z entry-at → Settled (highs z ts xs ys) ys (i + 1) (set seconds i x)
+  second-settled x t = settled-set _ _ highs-long i seconds q (omega (arith, h, inside)) x (t ∙ sym (laws.high-at ts xs ys e h z i))
 
 -- ---- the entry
 

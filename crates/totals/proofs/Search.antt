@@ -12,9 +12,8 @@ use Rattle.totals_spec.specs.Basics.{any}
 use Rattle.totals_spec.specs.Totals.{first_index}
 use borrow.Author.Tests.{le-leb, lt-leb}
 use Rattle.totals_spec.proofs.Order.{or_split}
-use Rattle.totals.specs.Stray.{stray_at, Says, FoundIn, FoundOn}
-use Rattle.totals.specs.declared.stray.Found.{Found}
-use Rattle.totals.specs.declared.stray.Found.TheVariants.{At, Nothing}
+use Rattle.totals.specs.Stray.{stray_at, Says, FoundIn}
+use Rattle.std.specs.Prelude.{Option, Some, None}
 pub use Rattle.totals_spec.proofs.Walk.{none-next, none-all, first_some}
 
 module _ (t : ℕ → Bool) where
@@ -41,42 +40,31 @@ pub record Clear (w : ℕ) (l : List ℕ) (i : ℕ) : Type 0 where
   pub within : i ≤ length l
   pub none : any (stray_at w) (take i l) ≡ false
 
-pub clear-start : (w : ℕ) (l : List ℕ) → Clear w l 0
-clear-start w l = record { within = zero-le; none = refl }
-
 -- m is the greatest encoding, x the element i
 module _ {w m : ℕ} (most : m + 1 ≡ 2 ^ w) {l : List ℕ} {i : ℕ} (k : Clear w l i) (h : i < length l) {x : ℕ} (at : x ≡ get_or l i 0) where
   pub clear_next : x ≤ m → Clear w l (i + 1)
   clear_next g = record { within = add-one-le h; none = none-next (stray_at w) l i 0 x h at k.none (stray-not w m x most g) }
 
-  pub clear-found : m < x → FoundIn (At i) w l
+  pub clear-found : m < x → FoundIn (Some i) w l
   clear-found g =
       let q = ap (stray_at w) (sym at) ∙ stray-is w m x most g in
       (first_some (stray_at w) l i 0 h k.none q, first-index (stray_at w) l i h k.none q)
 
-pub clear-end : {w : ℕ} {l : List ℕ} {i : ℕ} → Clear w l i → length l ≤ i → FoundIn Nothing w l
+pub clear-end : {w : ℕ} {l : List ℕ} {i : ℕ} → Clear w l i → length l ≤ i → FoundIn None w l
 clear-end {w} {l} {i} k h = none-all (stray_at w) l i (omega arith) k.none
 
 -- a width of a whole word or more leaves no room for one
-pub word_wide : (w : ℕ) (l : List ℕ) → 64 ≤ w → ((k : ℕ) → get_or l k 0 < 18446744073709551616) → FoundIn Nothing w l
+pub word_wide : (w : ℕ) (l : List ℕ) → 64 ≤ w → ((k : ℕ) → get_or l k 0 < 18446744073709551616) → FoundIn None w l
 word_wide w l e = none_below (stray_at w) _ l (λ x h. lt-leb (2 ^ w) x (omega (arith, h, pow_mono {j = w} e)))
 
--- ---- what a search says, and what it then says of the lists of a walk
+-- ---- what a search says
 
-module _ (some : Bool) (first : ℕ) (r : Found) (found : Says r some first) where
-  pub says_at : (i : ℕ) → r ≡ At i → (some ≡ true) × (first ≡ i)
-  says_at i is = subst (λ (x : Found). Says x some first) is found
+module _ (some : Bool) (first : ℕ) (r : Option ℕ) (found : Says r some first) where
+  pub says_at : (i : ℕ) → r ≡ Some i → (some ≡ true) × (first ≡ i)
+  says_at i is = subst (λ (x : Option ℕ). Says x some first) is found
 
-  pub says_nothing : r ≡ Nothing → some ≡ false
-  says_nothing is = subst (λ (x : Found). Says x some first) is found
-
-module _ (w : ℕ) (x y : List ℕ) (r : Found) (found : FoundIn r w x) where
-  pub found_left : (b : Bool) (i : ℕ) → r ≡ At i → FoundOn b (At i) w x y
-  found_left true i is = let (t, at) = says_at _ _ r found i is in (rw t, rw t at)
-  found_left false i is = says_at _ _ r found i is
-
-  pub found_right : (q : Found) → r ≡ Nothing → FoundIn q w y → FoundOn true q w x y
-  found_right q is next = rw (says_nothing _ _ r found is) next
+  pub says_nothing : r ≡ None → some ≡ false
+  says_nothing is = subst (λ (x : Option ℕ). Says x some first) is found
 
 -- 2^64 − 1 without its lowest 64 − w bits
 pub ones-shifted : (w : ℕ) → w ≤ 64 → 18446744073709551615 / 2 ^ (64 - w) + 1 ≡ 2 ^ w

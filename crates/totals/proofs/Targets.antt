@@ -25,9 +25,11 @@ use Rattle.totals_spec.proofs.Order.{first-zero}
 use Rattle.totals_spec.proofs.Refused.{sum-refusal}
 use Rattle.further_spec.proofs.Several.{target-by-chain, target-exact}
 use Rattle.totals.specs.declared.report.Report.{Report}
-use Rattle.totals.specs.Refusal.{sum_numbers}
+use Rattle.totals.specs.declared.refusal.Refusal.{Refusal}
+use Rattle.totals.specs.Refusal.{number_of, place_of, first_numbers, list_numbers, sum_numbers}
 use Rattle.totals.specs.Reported.{answer_in}
 use Rattle.totals.specs.Targets.{target_numbers}
+use Rattle.totals.proofs.Refusals.{number-some, first-passed, and-true}
 use Rattle.totals.proofs.Answers.{Tests, no_test, test, stopped, seventh, stray-number, stray-told}
 
 T_true : (b : Bool) → T b → b ≡ true
@@ -54,6 +56,22 @@ module _ (f : Format) (d n : ℕ) (t : Format) (c : Settings) where
       (test (not (leb d 1 && valid_settings t c)) 4 _ (λ e. omega (arith, e)) (λ e. omega (arith, e))
       (test (ltb limit n) 6 _ (λ e. omega (arith, e)) (λ e. omega (arith, e)) no_test))
 
+  pub target-first : (e : Refusal) → number_of e ≡ first_numbers (valid_format f && valid_format t) t c → number_of e ≡ target_numbers f d n t c
+  unfolding target_numbers
+  target-first e h = go (valid_format f && valid_format t) (valid_settings t c) (leb d 1) h
+    where
+      go : (a b o : Bool) → number_of e ≡ refuse_if (not a) 3 (refuse_if (not b) 4 0)
+          → number_of e ≡ refuse_if (not a) 3 (refuse_if (not (o && b)) 4 (refuse_if (ltb limit n) 6 0))
+      go true true o q = absurd (number-some e q)
+      go true false true q = q
+      go true false false q = q
+      go false b o q = q
+
+  pub target-next : 0 ≡ first_numbers (valid_format f && valid_format t) t c → list_numbers (leb d 1) n ≡ target_numbers f d n t c
+  unfolding target_numbers
+  target-next h =
+      let (a, b) = first-passed (valid_format f && valid_format t) (valid_settings t c) (sym h) in rw (a, b, and-true (leb d 1))
+
   pub target-valid : target_numbers f d n t c ≡ 0 → TargetValid f d n t c
   unfolding target_numbers sum_numbers
   target-valid e =
@@ -71,9 +89,9 @@ module _ (f : Format) (d n : ℕ) (t : Format) (c : Settings) where
       }
 
 module _ (f : Format) (d : ℕ) (l : List ℕ) (t : Format) (c : Settings) {n : ℕ} (long : length l ≡ n) where
-  pub target-stopped : (k : ℕ) → k ≡ target_numbers f d n t c → k ≢ 0 → refused k 0 ≡ target_answer f d l t c
+  pub target-stopped : (e : Refusal) → number_of e ≡ target_numbers f d n t c → refused (number_of e) (place_of e) ≡ target_answer f d l t c
   unfolding target_numbers target_answer target_refusal
-  target-stopped k q g = rw long (stopped _ (target-tests f d n t c) (first_index (stray f) l) _ k q g _)
+  target-stopped e q = rw long (stopped _ (target-tests f d n t c) (first_index (stray f) l) _ e q _)
 
   module _ (e : target_numbers f d n t c ≡ 0) (r : Report) (told : answer_in false r ≡ sum_answer f (reading_with d) 0 l) where
     numbers : sum_numbers f (reading_with d) 0 n ≡ 0

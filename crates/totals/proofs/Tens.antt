@@ -40,55 +40,38 @@ use Rattle.reduction.specs.Answered as total
 use Rattle.reduction.specs.Answered.{answer_as, given_as, tens_refusal}
 use Rattle.totals.specs.declared.report.Report.{Report}
 use Rattle.totals.specs.Reported.{answer_in, ListAsks, ListTells}
-use Rattle.totals.specs.Refusal.{tens_number}
+use Rattle.totals.specs.declared.refusal.Refusal.{Refusal}
+use Rattle.totals.specs.Refusal.{number_of, first_numbers, list_numbers, pair_numbers}
 use Rattle.totals.specs.Entered.{Enters, FitsTens, format_with}
+use Rattle.totals.proofs.Refusals.{number-some, first-told, first-passed, and-true}
 
 -- ---- refusals
 
-module _ (f : Format) (c : Settings) (k : ℕ) (e : k ≡ tens_number f c) where
-  -- a number is that of a row of tests that begins with these two, the second of them perhaps with one more in it
-  first-told : k ≢ 0 → (t : Bool) (rest : ℕ) → k ≡ refuse_if (not (valid_extended f)) 3 (refuse_if (not (valid_settings extended c && t)) 4 rest)
-  unfolding tens_number
-  first-told h t rest = go (valid_extended f) (valid_settings extended c) e
-    where
-      go : (a b : Bool) → k ≡ refuse_if (not a) 3 (refuse_if (not b) 4 0) → k ≡ refuse_if (not a) 3 (refuse_if (not (b && t)) 4 rest)
-      go true true q = absurd (h q)
-      go true false q = q
-      go false b q = q
+module _ (f : Format) (c : Settings) where
+  pub sum_first : (e : Refusal) → number_of e ≡ first_numbers (valid_extended f) extended c → (u : ℕ) (bytes : List ℕ)
+      → number_of e ≡ extended_sum_refusal f c u (tens_in bytes)
+  unfolding extended_sum_refusal
+  sum_first e h u bytes = first-told (valid_extended f) (valid_settings extended c) (number_of e) (number-some e) h (leb u 2) _
 
-  first-passed : k ≡ 0 → (valid_extended f ≡ true) × (valid_settings extended c ≡ true)
-  unfolding tens_number
-  first-passed z = go (valid_extended f) (valid_settings extended c) (sym e ∙ z)
-    where
-      go : (a b : Bool) → refuse_if (not a) 3 (refuse_if (not b) 4 0) ≡ 0 → (a ≡ true) × (b ≡ true)
-      go true true q = (refl, refl)
-      go true false q = absurd (omega (arith, q))
-      go false b q = absurd (omega (arith, q))
+  pub sum-next : 0 ≡ first_numbers (valid_extended f) extended c → (u : ℕ) (bytes : List ℕ)
+      → list_numbers (leb u 2) (length bytes / 10) ≡ extended_sum_refusal f c u (tens_in bytes)
+  unfolding extended_sum_refusal
+  sum-next h u bytes = let (a, b) = first-passed (valid_extended f) (valid_settings extended c) (sym h) in rw (a, b, (tens-values bytes).0)
 
-  module _ (u : ℕ) (bytes : List ℕ) where
-    pub sum_first : k ≢ 0 → k ≡ extended_sum_refusal f c u (tens_in bytes)
-    unfolding extended_sum_refusal
-    sum_first h = first-told h (leb u 2) _
+  pub dot-first : (e : Refusal) → number_of e ≡ first_numbers (valid_extended f) extended c → (left right : List ℕ)
+      → number_of e ≡ extended_dot_refusal f c (tens_in left) (tens_in right)
+  unfolding extended_dot_refusal
+  dot-first e h left right =
+      let n = length (tens_in left) in
+      rw (and-true (valid_settings extended c)) at
+      (first-told (valid_extended f) (valid_settings extended c) (number_of e) (number-some e) h true
+      (refuse_if (not (eqb n (length (tens_in right)))) 5 (refuse_if (ltb limit n) 6 0)))
 
-    pub sum-next : k ≡ 0 → extended_sum_refusal f c u (tens_in bytes) ≡ refuse_if (not (leb u 2)) 4 (refuse_if (ltb limit (length bytes / 10)) 6 0)
-    unfolding extended_sum_refusal
-    sum-next z = let (a, b) = first-passed z in rw (a, b, (tens-values bytes).0)
-
-  module _ (left right : List ℕ) where
-    pub dot-first : k ≢ 0 → k ≡ extended_dot_refusal f c (tens_in left) (tens_in right)
-    unfolding extended_dot_refusal
-    dot-first h =
-        let n = length (tens_in left) in
-        rw (and-true (valid_settings extended c)) at (first-told h true (refuse_if (not (eqb n (length (tens_in right)))) 5 (refuse_if (ltb limit n) 6 0)))
-      where
-        and-true : (b : Bool) → (b && true) ≡ b
-        and-true true = refl
-        and-true false = refl
-
-    pub dot-next : k ≡ 0 → extended_dot_refusal f c (tens_in left) (tens_in right)
-        ≡ refuse_if (not (eqb (length left / 10) (length right / 10))) 5 (refuse_if (ltb limit (length left / 10)) 6 0)
-    unfolding extended_dot_refusal
-    dot-next z = let (a, b) = first-passed z in rw (a, b, (tens-values left).0, (tens-values right).0)
+  pub dot-next : 0 ≡ first_numbers (valid_extended f) extended c → (left right : List ℕ)
+      → pair_numbers (length left / 10) (length right / 10) ≡ extended_dot_refusal f c (tens_in left) (tens_in right)
+  unfolding extended_dot_refusal
+  dot-next h left right =
+      let (a, b) = first-passed (valid_extended f) (valid_settings extended c) (sym h) in rw (a, b, (tens-values left).0, (tens-values right).0)
 
 -- what a total may ask for: the refusal in the one format of kind 4
 module _ (f : Format) (c : Settings) (x y : List ℕ) where

@@ -1,5 +1,5 @@
 -- What a walk keeps beside its report, for further roundings of a plain sum.
-use Rattle.std.specs.Prelude.{◌≡◌, Bool, true, false, cond, List, [], map, ℕ, ◌<◌, eqb, length}
+use Rattle.std.specs.Prelude.{◌≡◌, Bool, true, false, cond, List, [], map, ℕ, ◌<◌, eqb, length, Option, None}
 use Rattle.totals_spec.specs.Basics.{any}
 use Rattle.totals_spec.specs.Format as spec
 use Rattle.totals_spec.specs.Settings as env
@@ -17,8 +17,6 @@ use Rattle.window.specs.Joined.{LeftOf}
 use Rattle.reduction.specs.Answered.{last_edge_of}
 use Rattle.totals.specs.declared.lists.Walked.{Walked}
 use Rattle.totals.specs.declared.report.Report.{Report}
-use Rattle.totals.specs.declared.stray.Found.{Found}
-use Rattle.totals.specs.declared.stray.Found.TheVariants.{Nothing}
 use Rattle.totals.specs.Stray.{FoundOn}
 use Rattle.totals.specs.Reported.{answer_in, odd}
 
@@ -30,8 +28,8 @@ abbrev pub Seen : (hundred : Bool) → spec.Format → env.Settings → ℕ → 
 Seen h f c u x y s = GatheredIn (wide f) (eqb (seen_as h u) 3) f c (env.summand_of (seen_as h u)) x y s
 
 -- what a search has found, by the width of the format
-abbrev pub FoundBy : (wide dot : Bool) → Found → ℕ → List ℕ → List ℕ → Type 0
-FoundBy true b r n x y = r ≡ Nothing
+abbrev pub FoundBy : (wide dot : Bool) → Option ℕ → ℕ → List ℕ → List ℕ → Type 0
+FoundBy true b r n x y = r ≡ None
 FoundBy false b r n x y = FoundOn b r n x y
 
 -- a report with what the scan saw and what is left to round

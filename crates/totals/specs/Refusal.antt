@@ -1,9 +1,50 @@
--- The refusals 3 to 6, which do not look at the elements.
-use Rattle.std.specs.Prelude.{not, ◌&&◌, ℕ, leb, ltb, eqb}
+-- The numbers of the refusals, and the refusals 3 to 6, which do not look at the elements.
+use Rattle.std.specs.Prelude.{Bool, not, ◌&&◌, ℕ, leb, ltb, eqb, Result, Ok, Err}
 use Rattle.totals_spec.specs.Format.{Format, valid_format}
 use Rattle.totals_spec.specs.Settings.{Settings, valid_settings}
 use Rattle.totals_spec.specs.Totals.{refuse_if, limit}
 use Rattle.totals_spec.specs.Extended.{extended, valid_extended}
+use Rattle.totals.specs.declared.refusal.Refusal.{Refusal}
+use Rattle.totals.specs.declared.refusal.Refusal.TheVariants.{UnevenLength, ShortBuffer, NoSuchFormat, SettingOutOfRange, DifferentLengths}
+use Rattle.totals.specs.declared.refusal.Refusal.TheVariants.{TooManyElements, StrayBit, NoPence, BadShape, NoRoom, BadAmount, NotAPage, BadSpan}
+use Rattle.totals.specs.declared.refusal.Refusal.TheVariants.{TargetOutOfReach}
+
+abbrev pub number_of : Refusal → ℕ
+number_of UnevenLength = 1
+number_of ShortBuffer = 2
+number_of NoSuchFormat = 3
+number_of SettingOutOfRange = 4
+number_of DifferentLengths = 5
+number_of TooManyElements = 6
+number_of (StrayBit i) = 7
+number_of NoPence = 8
+number_of BadShape = 9
+number_of NoRoom = 10
+number_of BadAmount = 11
+number_of NotAPage = 12
+number_of BadSpan = 13
+number_of TargetOutOfReach = 17
+
+-- the place beside the number, 0 for what has none
+abbrev pub place_of : Refusal → ℕ
+place_of (StrayBit i) = i
+place_of _ = 0
+
+-- the number of a call's refusal, 0 where it is accepted
+abbrev pub refusal_number : {A : Type 0} → Result A Refusal → ℕ
+refusal_number (Ok x) = 0
+refusal_number (Err e) = number_of e
+
+-- what totals of every kind refuse first, whether or not the format is offered, by its settings
+abbrev pub first_numbers : Bool → Format → Settings → ℕ
+first_numbers offered f c = refuse_if (not offered) 3 (refuse_if (not (valid_settings f c)) 4 0)
+
+-- and then totals of lists of n elements, by one more setting that they are asked with, and dots of n and m
+abbrev pub list_numbers : Bool → ℕ → ℕ
+list_numbers in_range n = refuse_if (not in_range) 4 (refuse_if (ltb limit n) 6 0)
+
+abbrev pub pair_numbers : ℕ → ℕ → ℕ
+pair_numbers n m = refuse_if (not (eqb n m)) 5 (refuse_if (ltb limit n) 6 0)
 
 -- n is the length of the list; a dot has n on the left and m on the right
 unfoldable pub sum_numbers : Format → Settings → ℕ → ℕ → ℕ
@@ -18,7 +59,3 @@ dot_numbers f c n m =
     (refuse_if (not (valid_settings f c)) 4
     (refuse_if (not (eqb n m)) 5
     (refuse_if (ltb limit n) 6 0)))
-
--- of kind 4, in sums and dots alike
-unfoldable pub tens_number : Format → Settings → ℕ
-tens_number f c = refuse_if (not (valid_extended f)) 3 (refuse_if (not (valid_settings extended c)) 4 0)

@@ -142,9 +142,8 @@ fn tens_sum(
         saturate,
         precision,
     );
-    let number = extended::sum_refusal(f, c, summand, values);
-    if number != 0 {
-        return number;
+    if let Err(refusal) = extended::sum_refusal(f, c, summand, values) {
+        return refusal.number();
     }
     enter_tens(extended::total(c, summand, values, values), answer);
     0
@@ -189,9 +188,8 @@ fn tens_dot(
         saturate,
         precision,
     );
-    let number = extended::dot_refusal(f, c, left, right);
-    if number != 0 {
-        return number;
+    if let Err(refusal) = extended::dot_refusal(f, c, left, right) {
+        return refusal.number();
     }
     enter_tens(extended::total(c, 3, left, right), answer);
     0

@@ -6,16 +6,16 @@ ghost use Rattle.totals_spec.specs.Extended as spec;
 ghost use Rattle.format.specs.Joined.{named_of, format_of, settings_of};
 ghost use Rattle.values.specs.Tens.{all_tens};
 ghost use Rattle.reduction.specs.Answered.{answer_as, answer_in, tens_refusal};
-ghost use Rattle.totals.specs.Refusal.{tens_number};
+ghost use Rattle.totals.specs.Refusal.{refusal_number};
 
 use crate::lists::tens;
+use crate::refusal::{Refusal, first_refusal, list_refusal, pair_refusal};
 use binary::extended::extended;
 use binary::nan::default_nan;
-use format::env::{Settings, valid_settings};
+use format::env::Settings;
 use format::{Format, Named};
 use reduction::total::{Wide, special};
 use scan::extended::{any_unsupported, scan};
-use values::LIMIT;
 
 const EXPONENT_BITS: u64 = 15;
 
@@ -31,64 +31,27 @@ fn unnamed(n: Named) -> bool
 }
 
 // Kind 4 is offered in one format.
+#[tactic(auto, unfolding(totals_spec::specs::Extended::valid_extended))]
 fn valid_extended(f: Format) -> bool
     ensures { result ≡ spec.valid_extended (format_of f) }
 {
-    if f.exponent_bits != EXPONENT_BITS {
-        return false;
-    }
-    if f.width != WIDTH {
-        return false;
-    }
-    let n = f.named;
-    unnamed(n)
+    f.exponent_bits == EXPONENT_BITS && f.width == WIDTH && unnamed(f.named)
 }
 
-// What sums and dots refuse alike: 3, 4, or 0.
-fn first_refusal(f: Format, c: Settings) -> u64
-    ensures { result ≡ tens_number (format_of f) (settings_of c) }
+// The refusal of a sum: 3, 4 or 6.
+pub fn sum_refusal(f: Format, c: Settings, u: u64, values: &[u8]) -> Result<(), Refusal>
+    ensures { refusal_number result ≡ spec.extended_sum_refusal (format_of f) (settings_of c) u (spec.tens_in values.now) }
 {
-    if !valid_extended(f) {
-        return 3;
-    }
-    if !valid_settings(extended(), c) {
-        return 4;
-    }
-    0
+    first_refusal(valid_extended(f), extended(), c)?;
+    list_refusal(u <= 2, values.len() / 10)
 }
 
-// The refusal of a sum: 3, 4, 6, or 0.
-pub fn sum_refusal(f: Format, c: Settings, u: u64, values: &[u8]) -> u64
-    ensures { result ≡ spec.extended_sum_refusal (format_of f) (settings_of c) u (spec.tens_in values.now) }
+// The refusal of a dot: 3, 4, 5 or 6.
+pub fn dot_refusal(f: Format, c: Settings, left: &[u8], right: &[u8]) -> Result<(), Refusal>
+    ensures { refusal_number result ≡ spec.extended_dot_refusal (format_of f) (settings_of c) (spec.tens_in left.now) (spec.tens_in right.now) }
 {
-    let number = first_refusal(f, c);
-    if number != 0 {
-        return number;
-    }
-    if u > 2 {
-        return 4;
-    }
-    if values.len() / 10 > LIMIT {
-        return 6;
-    }
-    0
-}
-
-// The refusal of a dot: 3, 4, 5, 6, or 0.
-pub fn dot_refusal(f: Format, c: Settings, left: &[u8], right: &[u8]) -> u64
-    ensures { result ≡ spec.extended_dot_refusal (format_of f) (settings_of c) (spec.tens_in left.now) (spec.tens_in right.now) }
-{
-    let number = first_refusal(f, c);
-    if number != 0 {
-        return number;
-    }
-    if left.len() / 10 != right.len() / 10 {
-        return 5;
-    }
-    if left.len() / 10 > LIMIT {
-        return 6;
-    }
-    0
+    first_refusal(valid_extended(f), extended(), c)?;
+    pair_refusal(left.len() / 10, right.len() / 10)
 }
 
 // Whether some element is unsupported, in the left list or, in a dot (u = 3), in either.
@@ -96,13 +59,7 @@ fn some_unsupported(u: u64, left: &[u8], right: &[u8]) -> bool
     requires { length right.now / 10 ≡ length left.now / 10 }
     ensures { result ≡ any spec.unsupported (all_tens (eqb u 3) (spec.tens_in left.now) (spec.tens_in right.now)) }
 {
-    if any_unsupported(left) {
-        return true;
-    }
-    if u != 3 {
-        return false;
-    }
-    any_unsupported(right)
+    any_unsupported(left) || u == 3 && any_unsupported(right)
 }
 
 // The total of lists that are not refused. An unsupported element decides before anything else; the scan then only says whether some element is subnormal.

@@ -22,47 +22,43 @@ ghost use Rattle.reduction.specs.Answered.{answer_of};
 use crate::refusal::{dot_refusal, sum_refusal};
 use format::Format;
 use format::env::Settings;
-use reduction::total::{Answer, refused};
+use reduction::total::Answer;
 
 // The sum of the values (u = 0), of their magnitudes (1) or of their squares (2).
 pub fn sum(f: Format, c: Settings, u: u64, values: &[u64]) -> Answer
     ensures { answer_of result ≡ spec.sum_answer (format_of f) (settings_of c) u values.now }
 {
-    let number = sum_refusal(f, c, u, values.len());
-    if number != 0 {
-        return refused(number, 0);
+    match sum_refusal(f, c, u, values.len()) {
+        Ok(()) => lists::words(f, c, u, values, values),
+        Err(refusal) => Answer::from(refusal),
     }
-    lists::words(f, c, u, values, values)
 }
 
 // The sum of the products of the pairs.
 pub fn dot(f: Format, c: Settings, left: &[u64], right: &[u64]) -> Answer
     ensures { answer_of result ≡ spec.dot_answer (format_of f) (settings_of c) left.now right.now }
 {
-    let number = dot_refusal(f, c, left.len(), right.len());
-    if number != 0 {
-        return refused(number, 0);
+    match dot_refusal(f, c, left.len(), right.len()) {
+        Ok(()) => lists::words(f, c, 3, left, right),
+        Err(refusal) => Answer::from(refusal),
     }
-    lists::words(f, c, 3, left, right)
 }
 
 // The same over bytes, eight to a value, little end first. Bytes past the last whole value are not looked at.
 pub fn sum_bytes(f: Format, c: Settings, u: u64, values: &[u8]) -> Answer
     ensures { answer_of result ≡ spec.sum_answer (format_of f) (settings_of c) u (values_in values.now) }
 {
-    let number = sum_refusal(f, c, u, values.len() / 8);
-    if number != 0 {
-        return refused(number, 0);
+    match sum_refusal(f, c, u, values.len() / 8) {
+        Ok(()) => lists::bytes(f, c, u, values, values),
+        Err(refusal) => Answer::from(refusal),
     }
-    lists::bytes(f, c, u, values, values)
 }
 
 pub fn dot_bytes(f: Format, c: Settings, left: &[u8], right: &[u8]) -> Answer
     ensures { answer_of result ≡ spec.dot_answer (format_of f) (settings_of c) (values_in left.now) (values_in right.now) }
 {
-    let number = dot_refusal(f, c, left.len() / 8, right.len() / 8);
-    if number != 0 {
-        return refused(number, 0);
+    match dot_refusal(f, c, left.len() / 8, right.len() / 8) {
+        Ok(()) => lists::bytes(f, c, 3, left, right),
+        Err(refusal) => Answer::from(refusal),
     }
-    lists::bytes(f, c, 3, left, right)
 }

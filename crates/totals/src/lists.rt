@@ -19,11 +19,9 @@ ghost use Rattle.totals.specs.Kept.{walked_of, Keeps, ListKept};
 ghost use Rattle.totals.specs.Reported.{PenceAsks, TotalAsks, TotalTells, ListAsks, ListTells};
 
 use crate::pence::Pence;
-use crate::report::{
-    Report, answer_of, decided_by, digits_for, early, ended, met_special, pence_of, scanned,
-    strayed, top_for, wide_of,
-};
-use crate::stray::{Found, walk_stray};
+use crate::refusal::Refusal;
+use crate::report::{Report, decided_by, digits_for, early, ended, met_special, scanned, top_for};
+use crate::stray::walk_stray;
 use binary::extended::extended;
 use exact::{Unrounded, nothing};
 use format::Format;
@@ -160,8 +158,8 @@ fn listed(
         },
     };
     match walk_stray(f.width, k, left_words, left_bytes, right_words, right_bytes) {
-        Found::At(i) => no_walk(strayed(i)),
-        Found::Nothing => total(f, c, k, left_words, left_bytes, right_words, right_bytes),
+        Some(i) => no_walk(Report::from(Refusal::StrayBit(i))),
+        None => total(f, c, k, left_words, left_bytes, right_words, right_bytes),
     }
 }
 
@@ -171,7 +169,7 @@ pub fn words(f: Format, c: Settings, u: u64, left: &[u64], right: &[u64]) -> Ans
     requires left_value { numbers_in (eqb u 3) (format_of f) (settings_of c) u (length left.now) ≡ 0 }
     ensures { answer_of result ≡ answer_to (eqb u 3) (format_of f) (settings_of c) u left.now right.now }
 {
-    answer_of(report_of(listed(f, c, u, 0, 0, 1, left.len(), left, b"", right, b"")))
+    Answer::from(report_of(listed(f, c, u, 0, 0, 1, left.len(), left, b"", right, b"")))
 }
 
 pub fn bytes(f: Format, c: Settings, u: u64, left: &[u8], right: &[u8]) -> Answer
@@ -180,7 +178,7 @@ pub fn bytes(f: Format, c: Settings, u: u64, left: &[u8], right: &[u8]) -> Answe
     ensures { answer_of result ≡ answer_to (eqb u 3) (format_of f) (settings_of c) u (values_in left.now) (values_in right.now) }
 {
     let none = [0u64; 1];
-    answer_of(report_of(listed(f, c, u, 1, 0, 1, left.len() / 8, &none, left, &none, right)))
+    Answer::from(report_of(listed(f, c, u, 1, 0, 1, left.len() / 8, &none, left, &none, right)))
 }
 
 // A total of values of ten bytes, none of which is unsupported.
@@ -191,7 +189,7 @@ pub fn tens(c: Settings, u: u64, left: &[u8], right: &[u8]) -> Wide
 {
     let none = [0u64; 1];
     let f = extended();
-    wide_of(report_of(listed(f, c, u, 1, 0, 1, left.len() / 10, &none, left, &none, right)))
+    Wide::from(report_of(listed(f, c, u, 1, 0, 1, left.len() / 10, &none, left, &none, right)))
 }
 
 // The pence of a list of words.
@@ -199,7 +197,7 @@ pub fn pence(f: Format, c: Settings, values: &[u64]) -> Pence
     requires { PenceAsks (format_of f) (settings_of c) (length values.now) }
     ensures { pence_record result ≡ list_pence (format_of f) values.now }
 {
-    pence_of(report_of(listed(
+    Pence::from(report_of(listed(
         f,
         c,
         HUNDREDFOLD,
@@ -227,7 +225,7 @@ pub fn column(
     requires count_value { numbers_in false (format_of f) (settings_of c) 0 count ≡ 0 }
     ensures { answer_of result ≡ totals.sum_answer (format_of f) (settings_of c) 0 (column_of count step cells.now first) }
 {
-    answer_of(report_of(listed(f, c, 0, 0, first, step, count, cells, b"", cells, b"")))
+    Answer::from(report_of(listed(f, c, 0, 0, first, step, count, cells, b"", cells, b"")))
 }
 
 // The walk of a plain sum of values in bytes, for further roundings.

@@ -2,7 +2,6 @@
 // a list.
 ghost use Rattle.std.specs.Prelude.{◌≡◌, cond, ℕ, ◌+◌, ◌*◌, ◌/◌, ◌^◌, ◌<◌, ◌≤◌, min, pos, neg_ℤ};
 ghost use Rattle.totals_spec.specs.Bounds.{RangeBounds};
-ghost use Rattle.totals_spec.specs.Settings.{no_settings};
 ghost use Rattle.totals_spec.specs.Basics.{Signed};
 ghost use Rattle.totals_spec.specs.Pence as spec;
 ghost use Rattle.totals_spec.specs.Hundredfold.{whole_figure};
@@ -10,9 +9,11 @@ ghost use Rattle.format.specs.Joined.{format_of, settings_of, unpacked_of};
 ghost use Rattle.exact.specs.Joined.{significand_of, Stands};
 ghost use Rattle.arithmetic.specs.Joined.{Bounded};
 ghost use Rattle.window.specs.Joined.{LeftOf};
+ghost use Rattle.totals.specs.Refusal.{number_of, place_of};
 ghost use Rattle.totals.specs.PenceRecord.{pence_record, Countable};
 
 use crate::lists;
+use crate::refusal::Refusal;
 use crate::stray::greatest;
 use binary::decode;
 use exact::Unrounded;
@@ -38,14 +39,15 @@ const TOO_LARGE: u64 = 9223372036854775808;
 // The rounding mode in which half a penny goes away from zero.
 const TIES_TO_AWAY: u64 = 1;
 
-// A refused call.
-pub fn refused(refusal: u64, place: u64) -> Pence
-    ensures { pence_record result ≡ spec.refused_at refusal place }
-{
-    Pence {
-        figure: 0,
-        refusal,
-        place,
+impl From<Refusal> for Pence {
+    ghost from_gives = { λ e p. pence_record p ≡ spec.refused_at (number_of e) (place_of e) };
+
+    fn from(refusal: Refusal) -> Pence {
+        Pence {
+            figure: 0,
+            refusal: refusal.number(),
+            place: refusal.place(),
+        }
     }
 }
 
@@ -91,7 +93,7 @@ pub fn in_range(negative: bool, n: u64) -> Pence
     ensures { pence_record result ≡ spec.in_range negative n }
 {
     if n >= TOO_LARGE {
-        return refused(8, 0);
+        return Pence::from(Refusal::NoPence);
     }
     Pence {
         figure: signed(negative, n),
@@ -112,12 +114,7 @@ fn figure_of(d: u64, n: u64, v: Unpacked) -> Pence
             shift,
             significand,
         } => in_range(negative, magnitude(d, shift + n, significand)),
-        Unpacked::Infinity(_) => refused(8, 0),
-        Unpacked::Nan {
-            negative: _,
-            signaling: _,
-            payload: _,
-        } => refused(8, 0),
+        Unpacked::Infinity(_) | Unpacked::Nan { .. } => Pence::from(Refusal::NoPence),
     }
 }
 
@@ -126,10 +123,10 @@ pub fn pence_of(f: Format, b: u64) -> Pence
     ensures { pence_record result ≡ spec.pence_answer (format_of f) b }
 {
     if !valid_format(f) {
-        return refused(3, 0);
+        return Pence::from(Refusal::NoSuchFormat);
     }
     if b > greatest(f.width) {
-        return refused(7, 0);
+        return Pence::from(Refusal::StrayBit(0));
     }
     figure_of(depth(f), lift(f), decode(f, b))
 }
@@ -144,7 +141,7 @@ fn nearest(f: Format, v: Unrounded) -> Pence
     let down = fall(f, false);
     let end = v.position + v.length();
     if end + down > one + 63 {
-        return refused(8, 0);
+        return Pence::from(Refusal::NoPence);
     }
     let whole = v.cut(one - down);
     let d = whole.dropped;
@@ -163,31 +160,15 @@ pub fn whole_pence(f: Format, v: Unrounded) -> Pence
     nearest(f, v)
 }
 
-// Every setting 0: a list's pence take none.
-fn no_settings() -> Settings
-    ensures { settings_of result ≡ no_settings }
-{
-    Settings {
-        rounding: 0,
-        tininess: 0,
-        nan_propagation: 0,
-        default_nan_negative: 0,
-        flush_to_zero: 0,
-        denormals_are_zero: 0,
-        saturate: 0,
-        precision: 0,
-    }
-}
-
-// The pence of the exact sum of a list, or why there are none.
+// The pence of the exact sum of a list, or why there are none. Its settings are all 0.
 pub fn pence_of_sum(f: Format, values: &[u64]) -> Pence
     ensures { pence_record result ≡ spec.sum_pence (format_of f) values.now }
 {
     if !valid_format(f) {
-        return refused(3, 0);
+        return Pence::from(Refusal::NoSuchFormat);
     }
     if values.len() > LIMIT {
-        return refused(6, 0);
+        return Pence::from(Refusal::TooManyElements);
     }
-    lists::pence(f, no_settings(), values)
+    lists::pence(f, Settings::default(), values)
 }

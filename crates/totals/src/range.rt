@@ -8,11 +8,13 @@ ghost use Rattle.totals_spec.specs.Settings as env;
 ghost use Rattle.totals_spec.specs.Totals as totals;
 ghost use Rattle.totals_spec.specs.Table.{plain_total};
 ghost use Rattle.totals_spec.specs.Ranges as spec;
+ghost use Rattle.totals.specs.Refusal.{number_of, refusal_number};
 ghost use Rattle.totals.specs.Ranges.{amount_in, range_record, lows, highs, Totalled};
 
 use crate::lists;
+use crate::refusal::Refusal;
 use format::env::Settings;
-use format::{Format, Named};
+use page::binary64;
 use values::LIMIT;
 
 // An amount known exactly, between two figures, or missing.
@@ -51,65 +53,41 @@ fn at_most(a: u64, b: u64) -> bool
     requires { T (spec.good_figure a) × T (spec.good_figure b) }
     ensures { result ≡ spec.at_most (spec.figure_worth a) (spec.figure_worth b) }
 {
-    if a < SIGN {
-        if b < SIGN {
-            return a <= b;
-        }
-        if a != 0 {
-            return false;
-        }
-        return b == SIGN;
+    match (a < SIGN, b < SIGN) {
+        (true, true) => a <= b,
+        (true, false) => a == 0 && b == SIGN,
+        (false, true) => true,
+        (false, false) => b <= a,
     }
-    if b < SIGN {
-        return true;
-    }
-    b <= a
 }
 
 // An entry's used figures are finite, and its low is not above its high.
 fn good_entry(tag: u64, first: u64, second: u64) -> bool
     ensures { result ≡ spec.good_amount (spec.amount_of tag first second) }
 {
-    if tag > 2 {
-        return false;
+    match tag {
+        0 => finite(first),
+        1 => finite(first) && finite(second) && at_most(first, second),
+        2 => true,
+        _ => false,
     }
-    if tag == 2 {
-        return true;
-    }
-    if !finite(first) {
-        return false;
-    }
-    if tag == 0 {
-        return true;
-    }
-    if !finite(second) {
-        return false;
-    }
-    at_most(first, second)
 }
 
 // Finite, and not below zero.
 fn good_ceiling(z: u64) -> bool
     ensures { result ≡ spec.good_ceiling z }
 {
-    if !finite(z) {
-        return false;
-    }
-    at_most(0, z)
+    finite(z) && at_most(0, z)
 }
 
 fn all_good(tags: &[u64], firsts: &[u64], seconds: &[u64]) -> bool
     requires { (length firsts.now ≡ length tags.now) × (length seconds.now ≡ length tags.now) }
     ensures { not result ≡ any (λ a. not (spec.good_amount a)) (spec.entries tags.now firsts.now seconds.now) }
 {
-    let mut i: usize = 0;
-    while i < tags.len() {
-        if !good_entry(tags[i], firsts[i], seconds[i]) {
-            return false;
-        }
-        i += 1;
-    }
-    true
+    tags.iter()
+        .zip(firsts)
+        .zip(seconds)
+        .all(|((tag, first), second)| good_entry(*tag, *first, *second))
 }
 
 // An entry, whose tag is at most 2 and whose used figures are finite.
@@ -117,13 +95,11 @@ fn told(tag: u64, first: u64, second: u64) -> Amount
     requires { T (spec.good_amount (spec.amount_of tag first second)) }
     ensures { amount_in result ≡ spec.amount_of tag first second }
 {
-    if tag == 0 {
-        return Amount::Known(f64::from_bits(first));
+    match tag {
+        0 => Amount::Known(f64::from_bits(first)),
+        1 => Amount::Between(f64::from_bits(first), f64::from_bits(second)),
+        _ => Amount::Missing,
     }
-    if tag == 1 {
-        return Amount::Between(f64::from_bits(first), f64::from_bits(second));
-    }
-    Amount::Missing
 }
 
 // The least and the greatest amount that an entry allows.
@@ -154,14 +130,10 @@ fn settle(tags: &[u64], firsts: &mut [u64], seconds: &mut [u64], ceiling: u64)
     ensures { (firsts.new ≡ lows tags.now firsts.old seconds.old) × (seconds.new ≡ highs ceiling tags.now firsts.old seconds.old) }
 {
     let z = f64::from_bits(ceiling);
-    let mut i: usize = 0;
-    while i < tags.len() {
-        let a = told(tags[i], firsts[i], seconds[i]);
-        let low = low_of(a);
-        let high = high_of(a, z);
-        firsts[i] = f64::to_bits(low);
-        seconds[i] = f64::to_bits(high);
-        i += 1;
+    for (i, tag) in tags.iter().enumerate() {
+        let amount = told(*tag, firsts[i], seconds[i]);
+        firsts[i] = f64::to_bits(low_of(amount));
+        seconds[i] = f64::to_bits(high_of(amount, z));
     }
 }
 
@@ -170,61 +142,53 @@ fn toward(rounding: u64, l: &[u64]) -> u64
     requires { (length l.now ≤ totals.limit) × (rounding < 8) }
     ensures { result ≡ spec.plus_zero (plain_total format.binary64 (env.with_rounding rounding) l.now) }
 {
-    let f = Format {
-        kind: 0,
-        exponent_bits: 11,
-        width: 64,
-        named: Named::Nothing,
-    };
     let c = Settings {
         rounding,
-        tininess: 0,
-        nan_propagation: 0,
-        default_nan_negative: 0,
-        flush_to_zero: 0,
-        denormals_are_zero: 0,
-        saturate: 0,
-        precision: 0,
+        ..Settings::default()
     };
-    let a = lists::words(f, c, 0, l, l);
-    if a.result == SIGN {
-        return 0;
-    }
-    a.result
+    let a = lists::words(binary64(), c, 0, l, l);
+    if a.result == SIGN { 0 } else { a.result }
 }
 
-fn refused(refusal: u64) -> Range
-    ensures { range_record result ≡ spec.refused_range refusal }
-{
-    Range {
-        bounds: Bounds {
-            lower: 0.0,
-            upper: 0.0,
-        },
-        refusal,
-        place: 0,
+// A range that is refused has no place.
+impl From<Refusal> for Range {
+    ghost from_gives = { λ e r. range_record r ≡ spec.refused_range (number_of e) };
+
+    fn from(refusal: Refusal) -> Range {
+        Range {
+            bounds: Bounds {
+                lower: 0.0,
+                upper: 0.0,
+            },
+            refusal: refusal.number(),
+            place: 0,
+        }
     }
+}
+
+// Why entries have no totals.
+fn range_refusal(tags: &[u64], firsts: &[u64], seconds: &[u64], ceiling: u64) -> Result<(), Refusal>
+    ensures { refusal_number result ≡ spec.range_refusal tags.now firsts.now seconds.now ceiling }
+{
+    let n = tags.len();
+    if firsts.len() != n || seconds.len() != n {
+        return Err(Refusal::DifferentLengths);
+    }
+    if n > LIMIT {
+        return Err(Refusal::TooManyElements);
+    }
+    if !good_ceiling(ceiling) || !all_good(tags, firsts, seconds) {
+        return Err(Refusal::BadAmount);
+    }
+    Ok(())
 }
 
 // The lower and the upper total of the entries, or why there are none. Where there are, each entry's low and high are left in the place of its figures.
 pub fn range_total(tags: &[u64], firsts: &mut [u64], seconds: &mut [u64], ceiling: u64) -> Range
     ensures { Totalled tags.now firsts.old seconds.old ceiling result firsts.new seconds.new }
 {
-    let n = tags.len();
-    if firsts.len() != n {
-        return refused(5);
-    }
-    if seconds.len() != n {
-        return refused(5);
-    }
-    if n > LIMIT {
-        return refused(6);
-    }
-    if !good_ceiling(ceiling) {
-        return refused(11);
-    }
-    if !all_good(tags, firsts, seconds) {
-        return refused(11);
+    if let Err(refusal) = range_refusal(tags, firsts, seconds, ceiling) {
+        return Range::from(refusal);
     }
     settle(tags, firsts, seconds, ceiling);
     let lower = toward(4, firsts);

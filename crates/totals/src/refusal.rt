@@ -1,46 +1,127 @@
-// The refusals that do not look at the elements, in the order of their numbers.
-ghost use Rattle.std.specs.Prelude.{◌≡◌};
+// Why a call is refused, and the refusals that do not look at the elements, in the order of their numbers.
+ghost use Rattle.std.specs.Prelude.{◌≡◌, true, cond};
+ghost use Rattle.totals_spec.specs.Bounds.{RangeBounds};
+ghost use Rattle.totals_spec.specs.Totals as spec;
 ghost use Rattle.format.specs.Joined.{format_of, settings_of};
-ghost use Rattle.totals.specs.Refusal.{sum_numbers, dot_numbers};
+ghost use Rattle.reduction.specs.Answered.{answer_of};
+ghost use Rattle.totals.specs.Refusal.{number_of, place_of, refusal_number, first_numbers, list_numbers, pair_numbers, sum_numbers, dot_numbers};
 
 use format::env::{Settings, valid_settings};
 use format::{Format, valid_format};
+use reduction::total::{Answer, refused};
 use values::LIMIT;
 
-// The refusal of a sum that does not look at its elements: 3, 4, 6, or 0.
-pub fn sum_refusal(f: Format, c: Settings, u: u64, n: usize) -> u64
-    ensures { result ≡ sum_numbers (format_of f) (settings_of c) u n }
-{
-    if !valid_format(f) {
-        return 3;
-    }
-    if !valid_settings(f, c) {
-        return 4;
-    }
-    if u > 2 {
-        return 4;
-    }
-    if n > LIMIT {
-        return 6;
-    }
-    0
+// Why a call is refused.
+#[derive(Clone, Copy, Debug, PartialEq, Eq)]
+pub enum Refusal {
+    // A list of bytes that ends within a value.
+    UnevenLength,
+    // A buffer too short for what is to be written.
+    ShortBuffer,
+    NoSuchFormat,
+    // Or the summand is out of its range.
+    SettingOutOfRange,
+    DifferentLengths,
+    TooManyElements,
+    // The index of the first element with a stray bit.
+    StrayBit(usize),
+    NoPence,
+    // Rows times columns is not the number of cells.
+    BadShape,
+    // Too few places for the totals of the rows, or of the columns.
+    NoRoom,
+    // Of a range: an entry, or the ceiling.
+    BadAmount,
+    NotAPage,
+    BadSpan,
+    TargetOutOfReach,
 }
 
-// The refusal of a dot that does not look at its elements: 3, 4, 5, 6, or 0.
-pub fn dot_refusal(f: Format, c: Settings, n: usize, m: usize) -> u64
-    ensures { result ≡ dot_numbers (format_of f) (settings_of c) n m }
+impl Refusal {
+    // The number that stands for it in a record.
+    pub fn number(self) -> u64
+        ensures { result ≡ number_of self }
+    {
+        match self {
+            Refusal::UnevenLength => 1,
+            Refusal::ShortBuffer => 2,
+            Refusal::NoSuchFormat => 3,
+            Refusal::SettingOutOfRange => 4,
+            Refusal::DifferentLengths => 5,
+            Refusal::TooManyElements => 6,
+            Refusal::StrayBit(_) => 7,
+            Refusal::NoPence => 8,
+            Refusal::BadShape => 9,
+            Refusal::NoRoom => 10,
+            Refusal::BadAmount => 11,
+            Refusal::NotAPage => 12,
+            Refusal::BadSpan => 13,
+            Refusal::TargetOutOfReach => 17,
+        }
+    }
+
+    // The place beside the number, 0 for what has none.
+    pub fn place(self) -> u64
+        ensures { result ≡ place_of self }
+    {
+        match self {
+            Refusal::StrayBit(place) => place as u64,
+            _ => 0,
+        }
+    }
+}
+
+impl From<Refusal> for Answer {
+    ghost from_gives = { λ e a. answer_of a ≡ spec.refused (number_of e) (place_of e) };
+
+    fn from(refusal: Refusal) -> Answer {
+        refused(refusal.number(), refusal.place())
+    }
+}
+
+// A refusal where the test holds.
+pub(crate) fn refuse_if(holds: bool, refusal: Refusal) -> Result<(), Refusal>
+    ensures { result ≡ cond holds (Err refusal) (Ok tt) }
 {
-    if !valid_format(f) {
-        return 3;
-    }
-    if !valid_settings(f, c) {
-        return 4;
-    }
-    if n != m {
-        return 5;
-    }
-    if n > LIMIT {
-        return 6;
-    }
-    0
+    if holds { Err(refusal) } else { Ok(()) }
+}
+
+// What totals of every kind refuse first: a format that is not offered, and settings that are not those of its digits.
+pub(crate) fn first_refusal(offered: bool, f: Format, c: Settings) -> Result<(), Refusal>
+    requires { offered ≡ true → RangeBounds (format_of f) }
+    ensures { refusal_number result ≡ first_numbers offered (format_of f) (settings_of c) }
+{
+    refuse_if(!offered, Refusal::NoSuchFormat)?;
+    refuse_if(!valid_settings(f, c), Refusal::SettingOutOfRange)
+}
+
+// And then totals of lists of n elements, by one more setting that they are asked with, and dots of n and m.
+pub(crate) fn list_refusal(in_range: bool, n: usize) -> Result<(), Refusal>
+    ensures { refusal_number result ≡ list_numbers in_range n }
+{
+    refuse_if(!in_range, Refusal::SettingOutOfRange)?;
+    refuse_if(n > LIMIT, Refusal::TooManyElements)
+}
+
+pub(crate) fn pair_refusal(n: usize, m: usize) -> Result<(), Refusal>
+    ensures { refusal_number result ≡ pair_numbers n m }
+{
+    refuse_if(n != m, Refusal::DifferentLengths)?;
+    refuse_if(n > LIMIT, Refusal::TooManyElements)
+}
+
+// The refusal of a sum that does not look at its elements.
+pub fn sum_refusal(f: Format, c: Settings, u: u64, n: usize) -> Result<(), Refusal>
+    ensures { refusal_number result ≡ sum_numbers (format_of f) (settings_of c) u n }
+{
+    first_refusal(valid_format(f), f, c)?;
+    list_refusal(u <= 2, n)
+}
+
+// The refusal of a dot that does not look at its elements.
+pub fn dot_refusal(f: Format, c: Settings, n: usize, m: usize) -> Result<(), Refusal>
+    ensures { refusal_number result ≡ dot_numbers (format_of f) (settings_of c) n m }
+{
+    first_refusal(valid_format(f), f, c)?;
+    pair_refusal(n, m)
 }

@@ -8,9 +8,11 @@ ghost use Rattle.format.specs.Joined.{format_of, settings_of, unpacked_of};
 ghost use Rattle.values.specs.Walks.{is_hundred};
 ghost use Rattle.reduction.specs.Answered.{answer_of, products_in, first_in};
 ghost use Rattle.totals.specs.PenceRecord.{pence_record};
+ghost use Rattle.totals.specs.Refusal.{number_of, place_of};
 ghost use Rattle.totals.specs.Reported.{answer_in, pence_in, odd, PenceDecides, DecidesBy, special_pence, EarlyAsks, EarlyTells, EndAsks, EndTells};
 
-use crate::pence::{Pence, in_range, refused as refused_pence, whole_pence};
+use crate::pence::{Pence, in_range, whole_pence};
+use crate::refusal::Refusal;
 use exact::Unrounded;
 use format::env::Settings;
 use format::unpacked::Unpacked;
@@ -22,7 +24,7 @@ use window::ExactSum;
 
 // The fields of a total's record, and the figure; what is not asked for is 0. Both come out of one walk, so that its loops are compiled once, for whole
 // lists: of a walk that is called from two places every call would hand its records over in memory, which for a list of one element is two thirds more.
-#[derive(Clone, Copy)]
+#[derive(Clone, Copy, Default)]
 pub struct Report {
     pub result: u64,
     pub head: u64,
@@ -41,88 +43,88 @@ const DIGITS: u64 = 64;
 // A hundred has 7 bits: each value, taken a hundred times, has its T so much higher.
 const HUNDRED_BITS: u64 = 7;
 
-fn of_total(t: Wide) -> Report
-    ensures { (answer_in false result ≡ answer_of t.answer) × (result.head ≡ t.head) }
-{
-    let a = t.answer;
-    Report {
-        result: a.result,
-        head: t.head,
-        flags: a.flags,
-        passes: a.passes,
-        last_edge: a.last_edge,
-        refusal: a.refusal,
-        place: a.place,
-        side: a.side,
-        figure: 0,
+impl From<Wide> for Report {
+    ghost from_gives = { λ t r. (answer_in false r ≡ answer_of t.answer) × (r.head ≡ t.head) };
+
+    fn from(total: Wide) -> Report {
+        let a = total.answer;
+        Report {
+            result: a.result,
+            head: total.head,
+            flags: a.flags,
+            passes: a.passes,
+            last_edge: a.last_edge,
+            refusal: a.refusal,
+            place: a.place,
+            side: a.side,
+            figure: 0,
+        }
     }
 }
 
-fn of_pence(p: Pence) -> Report
-    ensures { pence_in result ≡ pence_record p }
-{
-    Report {
-        result: 0,
-        head: 0,
-        flags: 0,
-        passes: 0,
-        last_edge: 0,
-        refusal: p.refusal,
-        place: p.place,
-        side: 0,
-        figure: p.figure,
+impl From<Pence> for Report {
+    ghost from_gives = { λ p r. pence_in r ≡ pence_record p };
+
+    fn from(pence: Pence) -> Report {
+        Report {
+            refusal: pence.refusal,
+            place: pence.place,
+            figure: pence.figure,
+            ..Report::default()
+        }
     }
 }
 
-// Where an element does not fit the width.
-pub fn strayed(i: usize) -> Report
-    ensures { (answer_in false result ≡ totals.refused 7 i) × (pence_in result ≡ pence.refused_at 7 i) }
-{
-    Report {
-        result: 0,
-        head: 0,
-        flags: 0,
-        passes: 0,
-        last_edge: 0,
-        refusal: 7,
-        place: i as u64,
-        side: 0,
-        figure: 0,
+// Of a total and of pence alike.
+impl From<Refusal> for Report {
+    ghost from_gives = { λ e r. (answer_in false r ≡ totals.refused (number_of e) (place_of e)) × (pence_in r ≡ pence.refused_at (number_of e) (place_of e)) };
+
+    fn from(refusal: Refusal) -> Report {
+        Report {
+            refusal: refusal.number(),
+            place: refusal.place(),
+            ..Report::default()
+        }
     }
 }
 
-// The total, and the pence.
-pub fn answer_of(r: Report) -> Answer
-    ensures { answer_of result ≡ answer_in false r }
-{
-    Answer {
-        result: r.result,
-        flags: r.flags,
-        passes: r.passes,
-        last_edge: r.last_edge,
-        refusal: r.refusal,
-        place: r.place,
-        side: r.side,
+// The total, that of kind 4, and the pence.
+impl From<Report> for Answer {
+    ghost from_gives = { λ r a. answer_of a ≡ answer_in false r };
+
+    fn from(r: Report) -> Answer {
+        Answer {
+            result: r.result,
+            flags: r.flags,
+            passes: r.passes,
+            last_edge: r.last_edge,
+            refusal: r.refusal,
+            place: r.place,
+            side: r.side,
+        }
     }
 }
 
-// The total of kind 4.
-pub fn wide_of(r: Report) -> Wide
-    ensures { (answer_of result.answer ≡ answer_in false r) × (result.head ≡ r.head) }
-{
-    Wide {
-        head: r.head,
-        answer: answer_of(r),
+impl From<Report> for Wide {
+    ghost from_gives = { λ r t. (answer_of t.answer ≡ answer_in false r) × (t.head ≡ r.head) };
+
+    fn from(r: Report) -> Wide {
+        Wide {
+            head: r.head,
+            answer: Answer::from(r),
+        }
     }
 }
 
-pub fn pence_of(r: Report) -> Pence
-    ensures { pence_record result ≡ pence_in r }
-{
-    Pence {
-        figure: r.figure,
-        refusal: r.refusal,
-        place: r.place,
+impl From<Report> for Pence {
+    ghost from_gives = { λ r p. pence_record p ≡ pence_in r };
+
+    fn from(r: Report) -> Pence {
+        Pence {
+            figure: r.figure,
+            refusal: r.refusal,
+            place: r.place,
+        }
     }
 }
 
@@ -137,10 +139,7 @@ fn products(u: u64) -> bool
 fn infinity_first(u: u64) -> bool
     ensures { result ≡ first_in u }
 {
-    if u == 3 {
-        return false;
-    }
-    u != 0
+    u != 0 && u != 3
 }
 
 // The walk that a scan takes: for pence over the values.
@@ -193,18 +192,8 @@ fn special_pence(v: Unpacked) -> Pence
     ensures { pence_record result ≡ special_pence (unpacked_of v) }
 {
     match v {
-        Unpacked::Zero(_) => in_range(false, 0),
-        Unpacked::Finite {
-            negative: _,
-            shift: _,
-            significand: _,
-        } => in_range(false, 0),
-        Unpacked::Infinity(_) => refused_pence(8, 0),
-        Unpacked::Nan {
-            negative: _,
-            signaling: _,
-            payload: _,
-        } => refused_pence(8, 0),
+        Unpacked::Zero(_) | Unpacked::Finite { .. } => in_range(false, 0),
+        Unpacked::Infinity(_) | Unpacked::Nan { .. } => Pence::from(Refusal::NoPence),
     }
 }
 
@@ -214,9 +203,9 @@ pub fn early(f: Format, u: u64, subnormal: bool, g: Given) -> Report
     ensures { EarlyTells (eqb u 4) (format_of f) subnormal (unpacked_of g.value) g.invalid result }
 {
     if u == HUNDREDFOLD {
-        return of_pence(special_pence(g.value));
+        return Report::from(special_pence(g.value));
     }
-    of_total(special(f, subnormal, g.value, g.invalid))
+    Report::from(special(f, subnormal, g.value, g.invalid))
 }
 
 // The digits that a chain is to decide, and where it starts.
@@ -246,7 +235,7 @@ pub fn ended(f: Format, c: Settings, u: u64, subnormal: bool, e: ExactSum, v: Un
     ensures { EndTells (eqb u 4) (format_of f) (settings_of c) (products_in u) subnormal e result }
 {
     if u == HUNDREDFOLD {
-        return of_pence(whole_pence(f, v));
+        return Report::from(whole_pence(f, v));
     }
-    of_total(finish(f, c, products(u), subnormal, e, v))
+    Report::from(finish(f, c, products(u), subnormal, e, v))
 }

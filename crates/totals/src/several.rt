@@ -1,20 +1,20 @@
 // One total, several formats: the plain sum of a list, walked once, and rounded once into each of three targets.
-ghost use Rattle.std.specs.Prelude.{◌≡◌, ◌/◌, length};
+ghost use Rattle.std.specs.Prelude.{◌≡◌, ◌&&◌, ◌/◌, length};
+ghost use Rattle.totals_spec.specs.Format.{valid_format};
 ghost use Rattle.totals_spec.specs.Bytes.{values_in};
 ghost use Rattle.further_spec.specs.Several as spec;
 ghost use Rattle.format.specs.Joined.{format_of, settings_of};
 ghost use Rattle.reduction.specs.Answered.{answer_of};
-ghost use Rattle.totals.specs.Refusal.{sum_numbers};
+ghost use Rattle.totals.specs.Refusal.{refusal_number, sum_numbers};
 ghost use Rattle.totals.specs.Kept.{ListKept};
 ghost use Rattle.totals.specs.Targets.{target_numbers, Printable, Prints, Listed, Answers};
 
 use crate::lists::{Walked, no_walk, sum_walk};
-use crate::refusal::sum_refusal;
-use crate::report::strayed;
-use format::env::{Settings, valid_settings};
+use crate::refusal::{Refusal, first_refusal, list_refusal, sum_refusal};
+use crate::report::Report;
+use format::env::Settings;
 use format::{Format, digits, valid_format};
 use reduction::total::{Answer, print, print_zero, refused};
-use values::LIMIT;
 
 // A format to round into, with settings of its own.
 #[derive(Clone, Copy)]
@@ -36,37 +36,30 @@ fn reading(denormals_are_zero: u64) -> Settings
     ensures { settings_of result ≡ spec.reading_with denormals_are_zero }
 {
     Settings {
-        rounding: 0,
-        tininess: 0,
-        nan_propagation: 0,
-        default_nan_negative: 0,
-        flush_to_zero: 0,
         denormals_are_zero,
-        saturate: 0,
-        precision: 0,
+        ..Settings::default()
     }
 }
 
-// The refusal of a target that does not look at the n elements: 3, 4, 6, or 0.
-fn target_refusal(f: Format, denormals_are_zero: u64, n: usize, t: Format, c: Settings) -> u64
-    ensures { result ≡ target_numbers (format_of f) denormals_are_zero n (format_of t) (settings_of c) }
+// Whether a list's format and a target's are offered.
+fn both_valid(f: Format, t: Format) -> bool
+    ensures { result ≡ (valid_format (format_of f) && valid_format (format_of t)) }
 {
-    if !valid_format(f) {
-        return 3;
-    }
-    if !valid_format(t) {
-        return 3;
-    }
-    if denormals_are_zero > 1 {
-        return 4;
-    }
-    if !valid_settings(t, c) {
-        return 4;
-    }
-    if n > LIMIT {
-        return 6;
-    }
-    0
+    valid_format(f) && valid_format(t)
+}
+
+// The refusal of a target that does not look at the n elements: 3, 4 or 6.
+fn target_refusal(
+    f: Format,
+    denormals_are_zero: u64,
+    n: usize,
+    t: Format,
+    c: Settings,
+) -> Result<(), Refusal>
+    ensures { refusal_number result ≡ target_numbers (format_of f) denormals_are_zero n (format_of t) (settings_of c) }
+{
+    first_refusal(both_valid(f, t), t, c)?;
+    list_refusal(denormals_are_zero <= 1, n)
 }
 
 // The record of a target, where no element has a stray bit: 17, a zero, or what the list leaves, rounded.
@@ -74,18 +67,14 @@ fn print_one(f: Format, t: Format, c: Settings, w: Walked) -> Answer
     requires { Printable (format_of f) (format_of t) (settings_of c) w }
     ensures { Prints (format_of f) (format_of t) (settings_of c) w (answer_of result) }
 {
-    if digits(t) > digits(f) {
-        return refused(17, 0);
-    }
-    if w.special {
-        return refused(17, 0);
+    if digits(t) > digits(f) || w.special {
+        return Answer::from(Refusal::TargetOutOfReach);
     }
     if w.top == 0 {
         return print_zero(t, c, w.subnormal, w.positive_zero, w.negative_zero);
     }
     let r = w.report;
-    let v = w.rest;
-    print(f, t, c, w.subnormal, r.passes, r.last_edge, v)
+    print(f, t, c, w.subnormal, r.passes, r.last_edge, w.rest)
 }
 
 // The record of a target of a list of n values.
@@ -95,15 +84,12 @@ fn into_target(f: Format, denormals_are_zero: u64, n: usize, w: Walked, target: 
 {
     let t = target.format;
     let c = target.settings;
-    let number = target_refusal(f, denormals_are_zero, n, t, c);
-    if number != 0 {
-        return refused(number, 0);
-    }
     let r = w.report;
-    if r.refusal != 0 {
-        return refused(r.refusal, r.place);
+    match target_refusal(f, denormals_are_zero, n, t, c) {
+        Err(refusal) => Answer::from(refusal),
+        Ok(()) if r.refusal != 0 => refused(r.refusal, r.place),
+        Ok(()) => print_one(f, t, c, w),
     }
-    print_one(f, t, c, w)
 }
 
 // The walk of a list that is not refused as it stands.
@@ -111,10 +97,10 @@ fn walk_once(f: Format, denormals_are_zero: u64, values: &[u8]) -> Walked
     ensures { sum_numbers (format_of f) (spec.reading_with denormals_are_zero) 0 (length values.now / 8) ≡ 0 → ListKept (format_of f) (spec.reading_with denormals_are_zero) (values_in values.now) result }
 {
     let c = reading(denormals_are_zero);
-    if sum_refusal(f, c, 0, values.len() / 8) != 0 {
-        return no_walk(strayed(0));
+    match sum_refusal(f, c, 0, values.len() / 8) {
+        Ok(()) => sum_walk(f, c, values),
+        Err(refusal) => no_walk(Report::from(refusal)),
     }
-    sum_walk(f, c, values)
 }
 
 // The plain sum of the values in three targets. Bytes past the last whole value are not looked at.

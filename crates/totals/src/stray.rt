@@ -3,16 +3,8 @@ ghost use Rattle.std.specs.Prelude.{◌≡◌, ◌+◌, ◌^◌, ◌<◌, ◌≤
 ghost use Rattle.values.specs.Sources.{Within, elements};
 ghost use Rattle.values.specs.Walks.{is_dot};
 ghost use Rattle.totals.specs.Stray.{FoundIn, FoundOn};
-ghost use Rattle.totals.specs.declared.stray.Found.TheVariants.{Nothing};
 
 use values::{Source, Walk, element};
-
-// Where such an element stands.
-#[derive(Clone, Copy)]
-pub enum Found {
-    At(usize),
-    Nothing,
-}
 
 // The greatest encoding of a width.
 pub fn greatest(width: u64) -> u64
@@ -22,26 +14,23 @@ pub fn greatest(width: u64) -> u64
     u64::MAX >> (64 - width)
 }
 
-// The first element of a source above the greatest encoding. In 64 bits or more there is none.
-pub fn find_stray(width: u64, source: Source, words: &[u64], bytes: &[u8]) -> Found
+// The index of the first element of a source above the greatest encoding. In 64 bits or more there is none.
+pub fn find_stray(width: u64, source: Source, words: &[u64], bytes: &[u8]) -> Option<usize>
     requires { (0 < width) × Within source words.now bytes.now }
-    ensures { FoundIn result width (elements source words.now bytes.now) × (64 ≤ width → result ≡ Nothing) }
+    ensures { FoundIn result width (elements source words.now bytes.now) × (64 ≤ width → result ≡ None) }
 {
     if width >= 64 {
-        return Found::Nothing;
+        return None;
     }
     let most = greatest(width);
-    let count = source.count;
-    let mut i: usize = 0;
-    let mut place: usize = source.start;
-    while i < count {
+    let mut place = source.start;
+    for i in 0..source.count {
         if element(source, words, bytes, place) > most {
-            return Found::At(i);
+            return Some(i);
         }
-        i += 1;
         place += source.step;
     }
-    Found::Nothing
+    None
 }
 
 // The same of the lists of a walk: of the left one, and in a dot of the right one where the left has none.
@@ -52,16 +41,13 @@ pub fn walk_stray(
     left_bytes: &[u8],
     right_words: &[u64],
     right_bytes: &[u8],
-) -> Found
+) -> Option<usize>
     requires width_nonzero { 0 < width }
     requires within { Within k.source left_words.now left_bytes.now × Within k.source right_words.now right_bytes.now }
-    ensures { FoundOn (is_dot k) result width (elements k.source left_words.now left_bytes.now) (elements k.source right_words.now right_bytes.now) × (64 ≤ width → result ≡ Nothing) }
+    ensures { FoundOn (is_dot k) result width (elements k.source left_words.now left_bytes.now) (elements k.source right_words.now right_bytes.now) × (64 ≤ width → result ≡ None) }
 {
-    if let Found::At(i) = find_stray(width, k.source, left_words, left_bytes) {
-        return Found::At(i);
+    match find_stray(width, k.source, left_words, left_bytes) {
+        None if k.summand == 3 => find_stray(width, k.source, right_words, right_bytes),
+        found => found,
     }
-    if k.summand != 3 {
-        return Found::Nothing;
-    }
-    find_stray(width, k.source, right_words, right_bytes)
 }

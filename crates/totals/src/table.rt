@@ -6,22 +6,17 @@ ghost use Rattle.totals.specs.Refusal.{sum_numbers};
 ghost use Rattle.totals.specs.Tables.{Tables};
 
 use crate::lists::{column, words};
-use crate::refusal::sum_refusal;
+use crate::refusal::{Refusal, sum_refusal};
 use crate::sum;
 use format::Format;
 use format::env::Settings;
-use limbs::word::widening_mul;
-use reduction::total::{Answer, refused};
+use reduction::total::Answer;
 
 // Whether rows times columns, as whole numbers, is another number than n.
 fn misshapen(rows: usize, columns: usize, n: usize) -> bool
     ensures { result ≡ not (eqb (rows * columns) n) }
 {
-    let p = widening_mul(rows as u64, columns as u64);
-    if p.high != 0 {
-        return true;
-    }
-    p.low != n as u64
+    rows.checked_mul(columns) != Some(n)
 }
 
 // Each row is a part of the cells.
@@ -29,14 +24,10 @@ fn fill_rows(f: Format, c: Settings, rows: usize, columns: usize, cells: &[u64],
     requires { (rows * columns ≡ length cells.now) × (rows ≤ length totals.old) }
     ensures { totals.new ≡ spec.filled (map (spec.plain_total (format_of f) (settings_of c)) (spec.rows_of rows columns cells.now)) totals.old }
 {
-    let mut i: usize = 0;
-    let mut at: usize = 0;
-    while i < rows {
-        let end = at + columns;
-        let a = sum(f, c, 0, &cells[at..end]);
-        totals[i] = a.result;
-        at = end;
-        i += 1;
+    for i in 0..rows {
+        let at = i * columns;
+        let row = sum(f, c, 0, &cells[at..at + columns]);
+        totals[i] = row.result;
     }
 }
 
@@ -52,11 +43,9 @@ fn fill_columns(
     requires { (rows * columns ≡ length cells.now) × (columns ≤ length totals.old) × (sum_numbers (format_of f) (settings_of c) 0 (length cells.now) ≡ 0) }
     ensures { totals.new ≡ spec.filled (map (spec.plain_total (format_of f) (settings_of c)) (spec.columns_from rows columns cells.now 0 columns)) totals.old }
 {
-    let mut j: usize = 0;
-    while j < columns {
+    for j in 0..columns {
         let a = column(f, c, j, columns, rows, cells);
         totals[j] = a.result;
-        j += 1;
     }
 }
 
@@ -72,18 +61,14 @@ pub fn table(
 ) -> Answer
     ensures { Tables (spec.table_answer (format_of f) (settings_of c) rows columns cells.now row_totals.old column_totals.old) result row_totals.new column_totals.new }
 {
-    let number = sum_refusal(f, c, 0, cells.len());
-    if number != 0 {
-        return refused(number, 0);
+    if let Err(refusal) = sum_refusal(f, c, 0, cells.len()) {
+        return Answer::from(refusal);
     }
     if misshapen(rows, columns, cells.len()) {
-        return refused(9, 0);
+        return Answer::from(Refusal::BadShape);
     }
-    if row_totals.len() < rows {
-        return refused(10, 0);
-    }
-    if column_totals.len() < columns {
-        return refused(10, 0);
+    if row_totals.len() < rows || column_totals.len() < columns {
+        return Answer::from(Refusal::NoRoom);
     }
     let grand = words(f, c, 0, cells, cells);
     if grand.refusal != 0 {

@@ -1,0 +1,38 @@
+-- By the tests of the lengths, the refusal, and the total. The bias is the number that its 64 bits are read as.
+use Rattle.std.proofs.Common.{◌≡◌, refl, sym, ap, ◌∙◌}
+use Rattle.limbs.proofs.Signs.{read}
+use Rattle.format.specs.Joined.{format_of, settings_of}
+use Rattle.totals.specs.Entered.{format_with}
+use Rattle.totals.proofs.Refusals.{number-some}
+use Rattle.totals.proofs.Tens.{sum-asked, sum_told, sum-uneven, sum-short, sum-refused, sum_fits, sum-written}
+use Rattle.totals.proofs.entry.tens_sum.Goals as goal
+
+pub returns-then-values-ne0 : goal.returns-then-values-ne0
+returns-then-values-ne0 c = sum-uneven _ _ _ _ _ c.if-values-ne0.true
+
+pub returns-then-answer-lt32 : goal.returns-then-answer-lt32
+returns-then-answer-lt32 c = sum-short _ _ _ _ _ c.if-values-ne0.false c.if-answer-lt32.true
+
+pub returns-in-Err : goal.returns-in-Err
+returns-in-Err c =
+    let a = c.args in
+    let format = c.format_with-f.ensures ∙ ap (format_with 4 a.exponent_bits a.width a.named) (read a.bias c.ranges.bias.sfits) in
+    rw (format, c.settings-c.ensures) at
+    (sum-refused (format_of c.format_with-f.result) (settings_of c.settings-c.result) a.summand a.values.now a.answer.now c.if-values-ne0.false c.if-answer-lt32.false _
+    (c.number.ensures ∙ c.in-Err.ensures {u = tt}) (λ z. number-some c.in-Err.refusal (sym c.number.ensures ∙ z)))
+
+pub total-requires : goal.total-requires
+total-requires c = (refl, sum-asked _ _ _ _ _ (sym (c.in_default.ensures {u = tt})))
+
+pub enter_tens-requires : goal.enter_tens-requires
+enter_tens-requires c =
+    let passed = sym (c.in_default.ensures {u = tt}) in
+    sum_fits _ _ _ _ _ c.if-values-ne0.false _ (c.total.ensures ∙ sum_told _ _ _ _ _ passed) c.if-answer-lt32.false
+
+pub returns : goal.returns
+returns c =
+    let a = c.args in
+    let passed = sym (c.in_default.ensures {u = tt}) in
+    let format = c.format_with-f.ensures ∙ ap (format_with 4 a.exponent_bits a.width a.named) (read a.bias c.ranges.bias.sfits) in
+    rw (format, c.settings-c.ensures) at
+    (sum-written _ _ _ _ _ c.if-values-ne0.false _ (c.total.ensures ∙ sum_told _ _ _ _ _ passed) c.if-answer-lt32.false passed _ c.enter_tens.ensures)

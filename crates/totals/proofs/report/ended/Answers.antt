@@ -1,0 +1,11 @@
+use Rattle.std.proofs.Common.{eq-eqb}
+use Rattle.format.specs.Joined.{format_of, settings_of}
+use Rattle.totals.specs.Reported.{EndAsks}
+use Rattle.totals.proofs.Counted.{left-countable}
+use Rattle.totals.proofs.report.ended.Goals as goal
+
+pub whole_pence-requires : goal.whole_pence-requires
+whole_pence-requires c =
+    let a = c.args in
+    let h = rw (eq-eqb a.u 4 c.if-u-eq-HUNDREDFOLD.true) at c.requires in
+    (h.0, left-countable _ _ h.1)

@@ -1,0 +1,19 @@
+-- A turn fills the total of one more row in.
+use Rattle.std.proofs.Common.{◌≡◌, ◌<◌, ◌+◌, ◌-◌, ◌*◌, ℕ, length, take, drop, set, map, sym, ap, ◌∙◌, add-one, arith}
+use Rattle.totals_spec.specs.Totals.{Answer}
+use Rattle.totals_spec.specs.Table.{rows_of, plain_total, filled}
+use Rattle.totals_spec.proofs.Table.{rows-filled}
+use Rattle.format.specs.Joined.{format_of, settings_of}
+use Rattle.totals.proofs.table.fill_rows.Goals as goal
+
+pub loop-i-preserved : goal.loop-i-preserved
+loop-i-preserved c =
+    let a = c.args in
+    let l = c.loop-i in
+    let g = plain_total (format_of a.f) (settings_of a.c) in
+    let row = drop (l.i * a.columns) a.cells.now in
+    let old = a.totals.now in
+    let wide : l.i * a.columns + a.columns - l.i * a.columns ≡ a.columns = omega arith in
+    ap (λ (x : ℕ). set l.totals l.i x) (ap (λ (r : Answer). r.result) c.sum-row.ensures ∙ ap (λ (n : ℕ). g (take n row)) wide)
+    ∙ rows-filled g a.columns a.cells.now l.totals old l.i (omega arith) l.invariant
+    ∙ ap (λ (k : ℕ). filled (map g (rows_of k a.columns a.cells.now)) old) (sym (add-one l.i))
