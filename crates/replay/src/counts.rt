@@ -52,9 +52,9 @@ fn of_sums() -> u64
     ];
     let agreed = cases
         .iter()
-        .filter(|(kind, rounding, summand, n, number)| {
-            sum_agrees(*kind, *rounding, *summand, *n, *number)
-        })
+        .filter(|&&(kind, rounding, summand, n, number)| sum_agrees(
+            kind, rounding, summand, n, number,
+        ))
         .count();
     agreed as u64
 }
@@ -72,7 +72,7 @@ fn of_dots() -> u64
     ];
     let agreed = cases
         .iter()
-        .filter(|(kind, rounding, n, m, number)| dot_agrees(*kind, *rounding, *n, *m, *number))
+        .filter(|&&(kind, rounding, n, m, number)| dot_agrees(kind, rounding, n, m, number))
         .count();
     agreed as u64
 }

@@ -1,29 +1,19 @@
 // Rows of the pence of a list, each worked out by `pence_of_sum` and through the exported entry.
 ghost use Rattle.std.specs.Prelude.{◌≤◌};
 
-use crate::row::{at_most, format_at, signed_at, words_at};
+use crate::row::{at_most, format_at, pence_at, words_at};
 use crate::ways::bias_of;
 use format::Format;
-use hexadecimal::number;
 use totals::entry::totals_pence;
 use totals::pence::{Pence, pence_of_sum};
 
 // What a figure is before a call. A refused call leaves it.
 const BEFORE: i64 = 7777777777777777777;
 
-// The record that a row expects.
-fn pence_at(s: &[u8]) -> Pence {
-    Pence {
-        figure: signed_at(s, 12, 16),
-        refusal: number(s, 30, 1),
-        place: number(s, 32, 1),
-    }
-}
-
 fn by_function(s: &[u8]) -> bool {
     let values = words_at(s, 0);
     let n = at_most(s, 10, 1, 12);
-    pence_of_sum(format_at(s), &values[..n]) == pence_at(s)
+    pence_of_sum(format_at(s), &values[..n]) == pence_at(s, 12)
 }
 
 // Through the entry, which is told whether the format names a bias.
@@ -54,7 +44,7 @@ fn by_entry(s: &[u8]) -> bool {
     let n = at_most(s, 10, 1, 12);
     let mut figure = BEFORE;
     let returned = enter(format_at(s), &values[..n], &mut figure);
-    left(pence_at(s), returned, figure)
+    left(pence_at(s, 12), returned, figure)
 }
 
 // Whether both ways agree with the row.
@@ -86,7 +76,7 @@ pub fn misnamed() -> u64
     ];
     let refused = cases
         .iter()
-        .filter(|(bias_named, bias, b)| refused_bias(*bias_named, *bias, *b))
+        .filter(|&&(bias_named, bias, b)| refused_bias(bias_named, bias, b))
         .count();
     refused as u64
 }

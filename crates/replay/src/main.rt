@@ -17,14 +17,16 @@ mod targets;
 mod tens;
 mod ways;
 
-ghost use Rattle.std.specs.Prelude.{◌≡◌, ◌+◌, ◌^◌, ◌<◌, ◌≤◌};
+ghost use Rattle.std.specs.Prelude.{◌≡◌, ◌+◌, ◌^◌, ◌<◌, ◌≤◌, IfOk};
 
 use counts::counts;
 use hexadecimal::number;
 use input::{agreeing, next, print_disagreeing};
 use pages::{LONG_SPAN, LONG_WRITTEN, SPAN, WRITTEN};
 use row::{BIASED, BIASED_PENCE, BIASED_TABLE, LONG, PENCE, ROW};
+use std::io::Write;
 use std::ops::AddAssign;
+use std::{fmt, io};
 use ways::{by_bytes, by_entry, by_words};
 
 // How many rows were read, and how many of them agree, each way.
@@ -37,6 +39,7 @@ struct Agreed {
     ghost within: { (words ≤ rows) × (bytes ≤ rows) × (entries ≤ rows) },
 }
 
+// Written by hand, since none is derived for a struct with a ghost field.
 impl Default for Agreed {
     ghost is_default = { λ a. a.rows ≡ 0 };
 
@@ -65,165 +68,121 @@ impl AddAssign for Agreed {
     }
 }
 
-impl Agreed {
-    // One row, worked out each way, and printed where an answer disagrees.
-    fn of(row: &[u8]) -> Agreed
-        ensures { result.rows ≡ 1 }
-    {
-        let words = by_words(row);
-        let bytes = by_bytes(row);
-        let entries = by_entry(row);
-        if !(words && bytes && entries) {
-            print_disagreeing(row);
-        }
-        Agreed {
-            rows: 1,
-            words: u64::from(words),
-            bytes: u64::from(bytes),
-            entries: u64::from(entries),
-        }
+impl fmt::Display for Agreed {
+    fn fmt<W: fmt::Write>(&self, f: &mut fmt::Formatter<W>) -> fmt::Result {
+        let Agreed {
+            rows,
+            words,
+            bytes,
+            entries,
+        } = *self;
+        write!(
+            f,
+            "words {words}, bytes {bytes}, entries {entries} of {rows} agree"
+        )
     }
+}
 
-    fn print(&self) {
-        io::write_all(1, b" words ");
-        io::print_decimal(1, self.words);
-        io::write_all(1, b", bytes ");
-        io::print_decimal(1, self.bytes);
-        io::write_all(1, b", entries ");
-        io::print_decimal(1, self.entries);
-        io::write_all(1, b" of ");
-        io::print_decimal(1, self.rows);
-        io::write_all(1, b" agree\n");
+// One row, worked out each way, and printed where an answer disagrees.
+fn counted(rt: &HostRuntime, row: &[u8]) -> io::Result<Agreed>
+    ensures { IfOk result (λ a. a.rows ≡ 1) }
+{
+    let words = by_words(row);
+    let bytes = by_bytes(row);
+    let entries = by_entry(row);
+    if !(words && bytes && entries) {
+        print_disagreeing(rt, row)?;
     }
+    Ok(Agreed {
+        rows: 1,
+        words: u64::from(words),
+        bytes: u64::from(bytes),
+        entries: u64::from(entries),
+    })
 }
 
 // The next n rows, each of N bytes.
-fn rows_of<const N: usize>(n: u64) -> Agreed
+fn rows_of<const N: usize>(rt: &HostRuntime, n: u64) -> io::Result<Agreed>
     requires { N < 2 ^ 63 }
-    ensures { result.rows ≡ n }
+    ensures { IfOk result (λ a. a.rows ≡ n) }
 {
     let mut all = Agreed::default();
     for _ in 0..n {
-        all += Agreed::of(&next::<N>());
+        let row = next::<N>(rt)?;
+        all += counted(rt, &row)?;
     }
-    all
+    Ok(all)
 }
 
 // Reads a section, its name and its number of rows first, and prints what agrees. The rows are long ones, ones that name a bias, or ones of twelve values.
-fn section() -> Agreed
-    ensures { result.rows < 65536 }
+fn section(rt: &HostRuntime) -> io::Result<Agreed>
+    ensures { IfOk result (λ a. a.rows < 65536) }
 {
-    let name = next::<44>();
-    let count = next::<8>();
+    let name = next::<44>(rt)?;
+    let count = next::<8>(rt)?;
     let n = number(&count, 3, 4) % 65536;
     let agreed = match count[1] {
-        b'l' => rows_of::<LONG>(n),
-        b'b' => rows_of::<BIASED>(n),
-        _ => rows_of::<ROW>(n),
+        b'l' => rows_of::<LONG>(rt, n)?,
+        b'b' => rows_of::<BIASED>(rt, n)?,
+        _ => rows_of::<ROW>(rt, n)?,
     };
-    io::write_all(1, &name);
-    agreed.print();
-    agreed
+    rt.stdout().write_all(&name)?;
+    println!(rt; " {agreed}")?;
+    Ok(agreed)
 }
 
-fn sections(n: u64) -> Agreed
+fn sections(rt: &HostRuntime, n: u64) -> io::Result<Agreed>
     requires { n < 256 }
 {
     let mut all = Agreed::default();
     for _ in 0..n {
-        all += section();
+        all += section(rt)?;
     }
-    all
+    Ok(all)
 }
 
-fn report_of(name: &[u8], agreed: u64, n: u64) {
-    io::write_all(1, name);
-    io::print_decimal(1, agreed);
-    io::write_all(1, b" of ");
-    io::print_decimal(1, n);
-    io::write_all(1, b" agree\n");
+fn report(rt: &HostRuntime, name: &str, agreed: u64, n: u64) -> io::Result<()> {
+    println!(rt; "{name:.<44} {agreed} of {n} agree")
 }
 
 // Reads rows of N bytes, their number first, and prints how many agree.
-fn report_rows<const N: usize, F: Fn(&[u8]) -> bool>(name: &[u8], agrees: F)
+fn report_rows<const N: usize, F: Fn(&[u8]) -> bool>(
+    rt: &HostRuntime,
+    name: &str,
+    agrees: F,
+) -> io::Result<()>
     requires fits { N < 2 ^ 63 }
     requires callable { F.IsAlwaysCallable agrees }
 {
-    let head = next::<5>();
+    let head = next::<5>(rt)?;
     let n = number(&head, 0, 4) % 65536;
-    report_of(name, agreeing::<N, F>(n, agrees), n);
+    let agreed = agreeing::<N, F>(rt, n, agrees)?;
+    report(rt, name, agreed, n)
 }
 
-fn main() {
-    let head = next::<3>();
-    let all = sections(number(&head, 0, 2) % 256);
-    io::write_all(1, b"all of these ...............................");
-    all.print();
-    report_of(
-        b"refusals by the number of elements ......... ",
-        counts(),
-        12,
-    );
-    report_rows::<PENCE, _>(
-        b"pence of one encoding ...................... ",
-        figures::agrees,
-    );
-    report_rows::<BIASED_PENCE, _>(
-        b"pence of one encoding, a bias named ........ ",
-        figures::agrees,
-    );
-    report_rows::<ROW, _>(
-        b"pence of lists ............................. ",
-        lists::agrees,
-    );
-    report_rows::<BIASED, _>(
-        b"pence of lists, a bias named ............... ",
-        lists::agrees,
-    );
-    report_of(
-        b"pence of lists, a bias misnamed ............ ",
+fn main(rt: HostRuntime) -> io::Result<()> {
+    let head = next::<3>(&rt)?;
+    let all = sections(&rt, number(&head, 0, 2) % 256)?;
+    println!(rt; "all of these ............................... {all}")?;
+    report(&rt, "refusals by the number of elements ", counts(), 12)?;
+    report_rows::<PENCE, _>(&rt, "pence of one encoding ", figures::agrees)?;
+    report_rows::<BIASED_PENCE, _>(&rt, "pence of one encoding, a bias named ", figures::agrees)?;
+    report_rows::<ROW, _>(&rt, "pence of lists ", lists::agrees)?;
+    report_rows::<BIASED, _>(&rt, "pence of lists, a bias named ", lists::agrees)?;
+    report(
+        &rt,
+        "pence of lists, a bias misnamed ",
         lists::misnamed(),
         8,
-    );
-    report_rows::<LONG, _>(
-        b"tables ..................................... ",
-        tables::agrees,
-    );
-    report_rows::<BIASED_TABLE, _>(
-        b"tables, a bias named ....................... ",
-        tables::agrees,
-    );
-    report_of(
-        b"tables, a bias misnamed .................... ",
-        tables::misnamed(),
-        8,
-    );
-    report_rows::<LONG, _>(
-        b"amounts known within a range ............... ",
-        ranges::agrees,
-    );
-    report_rows::<SPAN, _>(
-        b"spans of pages ............................. ",
-        pages::span_agrees,
-    );
-    report_rows::<LONG_SPAN, _>(
-        b"spans of longer pages ...................... ",
-        pages::span_agrees,
-    );
-    report_rows::<WRITTEN, _>(
-        b"pages written .............................. ",
-        pages::page_agrees,
-    );
-    report_rows::<LONG_WRITTEN, _>(
-        b"longer pages written ....................... ",
-        pages::page_agrees,
-    );
-    report_rows::<{ tens::ROW }, _>(
-        b"values of ten bytes ........................ ",
-        tens::agrees,
-    );
-    report_rows::<{ targets::ROW }, _>(
-        b"one total, several formats ................. ",
-        targets::agrees,
-    );
+    )?;
+    report_rows::<LONG, _>(&rt, "tables ", tables::agrees)?;
+    report_rows::<BIASED_TABLE, _>(&rt, "tables, a bias named ", tables::agrees)?;
+    report(&rt, "tables, a bias misnamed ", tables::misnamed(), 8)?;
+    report_rows::<LONG, _>(&rt, "amounts known within a range ", ranges::agrees)?;
+    report_rows::<SPAN, _>(&rt, "spans of pages ", pages::span_agrees)?;
+    report_rows::<LONG_SPAN, _>(&rt, "spans of longer pages ", pages::span_agrees)?;
+    report_rows::<WRITTEN, _>(&rt, "pages written ", pages::page_agrees)?;
+    report_rows::<LONG_WRITTEN, _>(&rt, "longer pages written ", pages::page_agrees)?;
+    report_rows::<{ tens::ROW }, _>(&rt, "values of ten bytes ", tens::agrees)?;
+    report_rows::<{ targets::ROW }, _>(&rt, "one total, several formats ", targets::agrees)
 }

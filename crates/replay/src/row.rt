@@ -1,5 +1,5 @@
 // The fields of a row.
-ghost use Rattle.std.specs.Prelude.{◌≡◌, ◌+◌, ◌*◌, ◌^◌, ◌<◌, ◌≤◌, length, get_or};
+ghost use Rattle.std.specs.Prelude.{◌≡◌, ◌+◌, ◌*◌, ◌^◌, ◌<◌, ◌≤◌, get_or};
 ghost use Rattle.replay.specs.Row.{word_at, is_dot, named_in, format_in, settings_in, signed_at, answer_in};
 
 use format::env::Settings;
@@ -7,6 +7,7 @@ use format::{Format, Named};
 use hexadecimal::number;
 use reduction::total::Answer;
 use std::array;
+use totals::pence::Pence;
 use values::put_word;
 
 // Where the values begin; and the length of a row of twelve of them, of a long one, of twenty-four, and of one that names a bias behind its twelve.
@@ -111,6 +112,17 @@ pub fn answer_at(s: &[u8]) -> Answer
         refusal: number(s, 69, 1),
         place: number(s, 71, 1),
         side: number(s, 77, 1),
+    }
+}
+
+// The record of pence that a row expects, which begins with the figure.
+pub fn pence_at(s: &[u8], column: usize) -> Pence
+    requires { column < 512 }
+{
+    Pence {
+        figure: signed_at(s, column, 16),
+        refusal: number(s, column + 18, 1),
+        place: number(s, column + 20, 1),
     }
 }
 

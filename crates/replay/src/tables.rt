@@ -1,5 +1,5 @@
 // Rows of tables, each worked out by `table` and through the exported entry.
-ghost use Rattle.std.specs.Prelude.{◌+◌, ◌*◌, ◌^◌, ◌<◌, ◌≤◌};
+ghost use Rattle.std.specs.Prelude.{◌^◌, ◌<◌, ◌≤◌};
 
 use crate::row::{answer_at, at_most, format_at, returned_at, settings_at, words_at, words_in};
 use crate::ways::{bias_of, leaves, written_at};
@@ -219,7 +219,7 @@ pub fn misnamed() -> u64
     ];
     let refused = cases
         .iter()
-        .filter(|(bias_named, bias, b, columns)| refused_bias(*bias_named, *bias, *b, *columns))
+        .filter(|&&(bias_named, bias, b, columns)| refused_bias(bias_named, bias, b, columns))
         .count();
     refused as u64
 }

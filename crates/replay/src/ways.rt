@@ -1,5 +1,5 @@
 // A case worked out over words, over bytes and through the byte entries.
-ghost use Rattle.std.specs.Prelude.{◌≡◌, ◌<◌, ◌≤◌, length};
+ghost use Rattle.std.specs.Prelude.{◌<◌, ◌≤◌};
 ghost use Rattle.totals_spec.specs.Extended.{sum_call, dot_call};
 ghost use Rattle.format.specs.Joined.{format_of, settings_of};
 ghost use Rattle.totals.specs.Entered.{Enters};
