@@ -1,6 +1,6 @@
 // The fields of a row.
-ghost use Rattle.std.specs.Prelude.{◌≡◌, ◌+◌, ◌*◌, ◌^◌, ◌<◌, ◌≤◌, get_or};
-ghost use Rattle.replay.specs.Row.{word_at, is_dot, named_in, format_in, settings_in, signed_at, answer_in};
+ghost use Rattle.std.specs.Prelude.{◌≡◌, ◌+◌, ◌*◌, ◌%◌, ◌^◌, ◌<◌, ◌≤◌, get_or};
+ghost use Rattle.replay.specs.Row.{word_at, is_dot, named_in, format_in, settings_in, signed_at, answer_in, pence_in};
 
 use format::env::Settings;
 use format::{Format, Named};
@@ -118,6 +118,7 @@ pub fn answer_at(s: &[u8]) -> Answer
 // The record of pence that a row expects, which begins with the figure.
 pub fn pence_at(s: &[u8], column: usize) -> Pence
     requires { column < 512 }
+    ensures { result ≡ pence_in s.now column }
 {
     Pence {
         figure: signed_at(s, column, 16),
@@ -155,7 +156,9 @@ pub fn laid_words<const N: usize>(s: &[u8], column: usize, n: usize) -> [u8; N]
 }
 
 // The byte of two digits.
-pub fn byte_in(s: &[u8], column: usize) -> u8 {
+pub fn byte_in(s: &[u8], column: usize) -> u8
+    ensures { result ≡ word_at s.now column 2 % 256 }
+{
     (number(s, column, 2) % 256) as u8
 }
 

@@ -1,8 +1,10 @@
 // A case worked out over words, over bytes and through the byte entries.
-ghost use Rattle.std.specs.Prelude.{◌<◌, ◌≤◌};
+ghost use Rattle.std.specs.Prelude.{◌≡◌, ◌<◌, ◌≤◌, IsTrue, take, drop};
+ghost use Rattle.std.specs.Fn.{FnOnceReturnsAtMut};
 ghost use Rattle.totals_spec.specs.Extended.{sum_call, dot_call};
 ghost use Rattle.format.specs.Joined.{format_of, settings_of};
 ghost use Rattle.totals.specs.Entered.{Enters};
+ghost use Rattle.replay.specs.Row.{IsTold};
 
 use crate::row::{
     answer_at, at_most, bytes_at, format_at, is_dot, returned_at, right_bytes, right_words,
@@ -16,7 +18,9 @@ use totals::{dot, dot_bytes, sum, sum_bytes};
 use values::put_word;
 
 // Whether a format names a bias, as the entries are told, and the bias, which is 0 where there is none.
-pub fn bias_of(named: Named) -> (u64, i64) {
+pub fn bias_of(named: Named) -> (u64, i64)
+    ensures { IsTold named result.0 result.1 }
+{
     match named {
         Named::Bias(bias) => (1, bias),
         Named::Nothing => (0, 0),
@@ -182,6 +186,8 @@ pub fn leaves<const N: usize, F: FnOnce(&mut [u8]) -> u64>(
 ) -> bool
     requires callable { F.IsAlwaysCallable enter }
     requires within { lent ≤ N }
+    ensures called { IsTrue result → FnOnceReturnsAtMut F.FnOnce enter (take lent before.entry) returned (take lent after.entry) }
+    ensures behind { IsTrue result → drop lent before.entry ≡ drop lent after.entry }
 {
     let mut buffer = before;
     enter(&mut buffer[..lent]) == returned && buffer == after
