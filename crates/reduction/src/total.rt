@@ -40,7 +40,7 @@ pub const ABOVE: u64 = 2;
 pub const NO_COMPARISON: u64 = 3;
 
 // The record of a total.
-#[derive(Clone, Copy)]
+#[derive(Clone, Copy, PartialEq, Eq, Debug)]
 pub struct Answer {
     pub result: u64,
     pub flags: u64,

@@ -1,11 +1,12 @@
 -- The fields of a row, at the places that cases.py has: numbers in hex digits, and a sign before one of them.
-use Rattle.std.specs.Prelude.{Bool, cond, List, ℕ, ◌+◌, ◌%◌, ◌^◌, eqb, ℤ, pos, neg_ℤ, length, get_or}
+use Rattle.std.specs.Prelude.{Bool, cond, List, ℕ, ◌+◌, ◌%◌, ◌^◌, ◌≡◌, eqb, ℤ, pos, neg_ℤ, length, get_or}
 use Rattle.hexadecimal.specs.Digits.{number_at}
 use Rattle.format.specs.declared.Format.{Format}
 use Rattle.format.specs.declared.Named.{Named}
 use Rattle.format.specs.declared.Named.TheVariants.{Nothing, Bias}
 use Rattle.format.specs.declared.env.Settings.{Settings}
 use Rattle.reduction.specs.declared.total.Answer.{Answer}
+use Rattle.totals.specs.declared.pence.Pence.{Pence}
 
 -- the number of n digits from a place on, in a word
 abbrev pub word_at : List ℕ → ℕ → ℕ → ℕ
@@ -52,3 +53,12 @@ answer_in s = record {
   place = word_at s 71 1;
   side = word_at s 77 1;
 }
+
+-- a record of pence: the figure, its sign and 16 digits, and behind it the refusal and the place
+abbrev pub pence_in : List ℕ → ℕ → Pence
+pence_in s at = record { figure = signed_at s at 16; refusal = word_at s (at + 18) 1; place = word_at s (at + 20) 1 }
+
+-- a number says whether a format names a bias, and the bias is 0 where none is named
+abbrev pub IsTold : Named → ℕ → ℤ → Type 0
+IsTold (Bias b) told bias = (told ≡ 1) × (bias ≡ b)
+IsTold Nothing told bias = (told ≡ 0) × (bias ≡ pos 0)

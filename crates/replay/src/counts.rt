@@ -38,49 +38,51 @@ fn number_of(refusal: Result<(), Refusal>) -> u64 {
     }
 }
 
-// Whether a sum of n elements is refused with the number: 1, or 0.
-fn sum_agrees(kind: u64, rounding: u64, summand: u64, n: usize, number: u64) -> u64
-    ensures { result ≤ 1 }
-{
-    if number_of(sum_refusal(double(kind), plain(rounding), summand, n)) == number {
-        1
-    } else {
-        0
-    }
+// Whether a sum of n elements is refused with the number.
+fn sum_agrees(kind: u64, rounding: u64, summand: u64, n: usize, number: u64) -> bool {
+    number_of(sum_refusal(double(kind), plain(rounding), summand, n)) == number
 }
 
-fn dot_agrees(kind: u64, rounding: u64, n: usize, m: usize, number: u64) -> u64
-    ensures { result ≤ 1 }
-{
-    if number_of(dot_refusal(double(kind), plain(rounding), n, m)) == number {
-        1
-    } else {
-        0
-    }
+fn dot_agrees(kind: u64, rounding: u64, n: usize, m: usize, number: u64) -> bool {
+    number_of(dot_refusal(double(kind), plain(rounding), n, m)) == number
 }
 
 fn of_sums() -> u64
     ensures { result ≤ 6 }
 {
-    let mut agreed = sum_agrees(0, 0, 0, 268435456, 0);
-    agreed += sum_agrees(0, 0, 0, 268435457, 6);
-    agreed += sum_agrees(0, 0, 2, 18446744073709551615, 6);
-    agreed += sum_agrees(0, 0, 3, 268435457, 4);
-    agreed += sum_agrees(0, 8, 0, 268435457, 4);
-    agreed += sum_agrees(4, 0, 0, 268435457, 3);
-    agreed
+    let cases = [
+        (0, 0, 0, 268435456, 0),
+        (0, 0, 0, 268435457, 6),
+        (0, 0, 2, 18446744073709551615, 6),
+        (0, 0, 3, 268435457, 4),
+        (0, 8, 0, 268435457, 4),
+        (4, 0, 0, 268435457, 3),
+    ];
+    let agreed = cases
+        .iter()
+        .filter(|&&(kind, rounding, summand, n, number)| sum_agrees(
+            kind, rounding, summand, n, number,
+        ))
+        .count();
+    agreed as u64
 }
 
 fn of_dots() -> u64
     ensures { result ≤ 6 }
 {
-    let mut agreed = dot_agrees(0, 0, 268435456, 268435456, 0);
-    agreed += dot_agrees(0, 0, 268435457, 268435457, 6);
-    agreed += dot_agrees(0, 0, 268435457, 268435456, 5);
-    agreed += dot_agrees(0, 0, 268435457, 268435458, 5);
-    agreed += dot_agrees(0, 8, 268435457, 268435457, 4);
-    agreed += dot_agrees(4, 0, 268435457, 268435457, 3);
-    agreed
+    let cases = [
+        (0, 0, 268435456, 268435456, 0),
+        (0, 0, 268435457, 268435457, 6),
+        (0, 0, 268435457, 268435456, 5),
+        (0, 0, 268435457, 268435458, 5),
+        (0, 8, 268435457, 268435457, 4),
+        (4, 0, 268435457, 268435457, 3),
+    ];
+    let agreed = cases
+        .iter()
+        .filter(|&&(kind, rounding, n, m, number)| dot_agrees(kind, rounding, n, m, number))
+        .count();
+    agreed as u64
 }
 
 // How many of twelve answers are those of document 01, with the limit of document 02.

@@ -7,6 +7,7 @@
 
 mod counts;
 mod figures;
+mod input;
 mod lists;
 mod pages;
 mod ranges;
@@ -16,18 +17,16 @@ mod targets;
 mod tens;
 mod ways;
 
-ghost use Rattle.std.specs.Prelude.{◌≡◌, ◌+◌, ◌<◌, ◌≤◌};
+ghost use Rattle.std.specs.Prelude.{◌≡◌, ◌+◌, ◌^◌, ◌<◌, ◌≤◌, IfOk};
 
 use counts::counts;
-use figures::figures;
 use hexadecimal::number;
-use lists::{lists, misnamed};
-use pages::pages;
-use ranges::ranges;
-use row::{BIASED, LONG, ROW};
-use tables::tables;
-use targets::targets;
-use tens::tens;
+use input::{agreeing, next, print_disagreeing};
+use pages::{LONG_SPAN, LONG_WRITTEN, SPAN, WRITTEN};
+use row::{BIASED, BIASED_PENCE, BIASED_TABLE, LONG, PENCE, ROW};
+use std::io::Write;
+use std::ops::AddAssign;
+use std::{fmt, io};
 use ways::{by_bytes, by_entry, by_words};
 
 // How many rows were read, and how many of them agree, each way.
@@ -37,222 +36,153 @@ struct Agreed {
     words: u64,
     bytes: u64,
     entries: u64,
+    ghost within: { (words ≤ rows) × (bytes ≤ rows) × (entries ≤ rows) },
 }
 
-fn none() -> Agreed
-    ensures { (result.rows ≡ 0) × (result.words ≡ 0) × (result.bytes ≡ 0) × (result.entries ≡ 0) }
-{
-    Agreed {
-        rows: 0,
-        words: 0,
-        bytes: 0,
-        entries: 0,
+// Written by hand, since none is derived for a struct with a ghost field.
+impl Default for Agreed {
+    ghost is_default = { λ a. a.rows ≡ 0 };
+
+    fn default() -> Agreed {
+        Agreed {
+            rows: 0,
+            words: 0,
+            bytes: 0,
+            entries: 0,
+        }
     }
 }
 
-// Works a row out, counts it, and prints it where an answer disagrees.
-fn counted(a: Agreed, row: &[u8]) -> Agreed
-    requires { (a.rows < 65536) × (a.words ≤ a.rows) × (a.bytes ≤ a.rows) × (a.entries ≤ a.rows) }
-    ensures { (result.rows ≡ a.rows + 1) × (result.words ≤ result.rows) × (result.bytes ≤ result.rows) × (result.entries ≤ result.rows) }
-{
-    let rows = a.rows + 1;
-    let words = by_words(row);
-    let bytes = by_bytes(row);
-    let entries = by_entry(row);
-    if words + bytes + entries < 3 {
-        io::write_all(1, b"disagrees: ");
-        io::write_all(1, row);
-    }
-    Agreed {
-        rows,
-        words: a.words + words,
-        bytes: a.bytes + bytes,
-        entries: a.entries + entries,
+impl AddAssign for Agreed {
+    ghost can_add_assign = { λ a b. a.rows + b.rows < 2 ^ 64 };
+
+    ghost add_assign_gives = { λ a b c. c.rows ≡ a.rows + b.rows };
+
+    fn add_assign(&mut self, more: Agreed) {
+        *self = Agreed {
+            rows: self.rows + more.rows,
+            words: self.words + more.words,
+            bytes: self.bytes + more.bytes,
+            entries: self.entries + more.entries,
+        };
     }
 }
 
-// The next row: a long one, one that names a bias, or one of twelve values.
-fn next_row(a: Agreed, letter: u8) -> Agreed
-    requires { (a.rows < 65536) × (a.words ≤ a.rows) × (a.bytes ≤ a.rows) × (a.entries ≤ a.rows) }
-    ensures { (result.rows ≡ a.rows + 1) × (result.words ≤ result.rows) × (result.bytes ≤ result.rows) × (result.entries ≤ result.rows) }
-{
-    if letter == b'l' {
-        let mut row = [0u8; LONG];
-        io::read_full(0, &mut row);
-        return counted(a, &row);
-    }
-    if letter == b'b' {
-        let mut row = [0u8; BIASED];
-        io::read_full(0, &mut row);
-        return counted(a, &row);
-    }
-    let mut row = [0u8; ROW];
-    io::read_full(0, &mut row);
-    counted(a, &row)
-}
-
-fn next_rows(n: u64, letter: u8) -> Agreed
-    requires { n < 65536 }
-    ensures { (result.rows < 65536) × (result.words ≤ result.rows) × (result.bytes ≤ result.rows) × (result.entries ≤ result.rows) }
-{
-    let mut a = none();
-    while a.rows < n {
-        a = next_row(a, letter);
-    }
-    a
-}
-
-fn report(a: Agreed) {
-    io::write_all(1, b" words ");
-    io::print_decimal(1, a.words);
-    io::write_all(1, b", bytes ");
-    io::print_decimal(1, a.bytes);
-    io::write_all(1, b", entries ");
-    io::print_decimal(1, a.entries);
-    io::write_all(1, b" of ");
-    io::print_decimal(1, a.rows);
-    io::write_all(1, b" agree\n");
-}
-
-// Reads a section, its name and its number of rows first, and prints what agrees.
-fn section() -> Agreed
-    ensures { (result.rows < 65536) × (result.words ≤ result.rows) × (result.bytes ≤ result.rows) × (result.entries ≤ result.rows) }
-{
-    let mut name = [0u8; 44];
-    io::read_full(0, &mut name);
-    let mut count = [0u8; 8];
-    io::read_full(0, &mut count);
-    let a = next_rows(number(&count, 3, 4) % 65536, count[1]);
-    io::write_all(1, &name);
-    report(a);
-    a
-}
-
-fn sections(n: u64) -> Agreed
-    requires { n < 256 }
-{
-    let mut all = none();
-    let mut i: u64 = 0;
-    while i < n {
-        let a = section();
-        let rows = all.rows + a.rows;
-        let words = all.words + a.words;
-        let bytes = all.bytes + a.bytes;
-        let entries = all.entries + a.entries;
-        all = Agreed {
+impl fmt::Display for Agreed {
+    fn fmt<W: fmt::Write>(&self, f: &mut fmt::Formatter<W>) -> fmt::Result {
+        let Agreed {
             rows,
             words,
             bytes,
             entries,
-        };
-        i += 1;
+        } = *self;
+        write!(
+            f,
+            "words {words}, bytes {bytes}, entries {entries} of {rows} agree"
+        )
     }
-    all
 }
 
-// The number of the rows of pence, of tables, of ranges, of pages, of ten bytes or of targets that follow.
-fn next_count() -> u64
-    ensures { result < 65536 }
+// One row, worked out each way, and printed where an answer disagrees.
+fn counted(rt: &HostRuntime, row: &[u8]) -> io::Result<Agreed>
+    ensures { IfOk result (λ a. a.rows ≡ 1) }
 {
-    let mut head = [0u8; 5];
-    io::read_full(0, &mut head);
-    number(&head, 0, 4) % 65536
+    let words = by_words(row);
+    let bytes = by_bytes(row);
+    let entries = by_entry(row);
+    if !(words && bytes && entries) {
+        print_disagreeing(rt, row)?;
+    }
+    Ok(Agreed {
+        rows: 1,
+        words: u64::from(words),
+        bytes: u64::from(bytes),
+        entries: u64::from(entries),
+    })
 }
 
-fn report_of(name: &[u8], agreed: u64, n: u64) {
-    io::write_all(1, name);
-    io::print_decimal(1, agreed);
-    io::write_all(1, b" of ");
-    io::print_decimal(1, n);
-    io::write_all(1, b" agree\n");
+// The next n rows, each of N bytes.
+fn rows_of<const N: usize>(rt: &HostRuntime, n: u64) -> io::Result<Agreed>
+    requires { N < 2 ^ 63 }
+    ensures { IfOk result (λ a. a.rows ≡ n) }
+{
+    let mut all = Agreed::default();
+    for _ in 0..n {
+        let row = next::<N>(rt)?;
+        all += counted(rt, &row)?;
+    }
+    Ok(all)
 }
 
-// Reads the rows of the pence of one encoding, their number first, and prints how many agree.
-fn report_figures(name: &[u8], biased: bool) {
-    let n = next_count();
-    report_of(name, figures(n, biased), n);
+// Reads a section, its name and its number of rows first, and prints what agrees. The rows are long ones, ones that name a bias, or ones of twelve values.
+fn section(rt: &HostRuntime) -> io::Result<Agreed>
+    ensures { IfOk result (λ a. a.rows < 65536) }
+{
+    let name = next::<44>(rt)?;
+    let count = next::<8>(rt)?;
+    let n = number(&count, 3, 4) % 65536;
+    let agreed = match count[1] {
+        b'l' => rows_of::<LONG>(rt, n)?,
+        b'b' => rows_of::<BIASED>(rt, n)?,
+        _ => rows_of::<ROW>(rt, n)?,
+    };
+    rt.stdout().write_all(&name)?;
+    println!(rt; " {agreed}")?;
+    Ok(agreed)
 }
 
-// The same of the rows of the pence of lists.
-fn report_lists(name: &[u8], biased: bool) {
-    let n = next_count();
-    report_of(name, lists(n, biased), n);
+fn sections(rt: &HostRuntime, n: u64) -> io::Result<Agreed>
+    requires { n < 256 }
+{
+    let mut all = Agreed::default();
+    for _ in 0..n {
+        all += section(rt)?;
+    }
+    Ok(all)
 }
 
-// The same of the rows of tables.
-fn report_tables(name: &[u8], biased: bool) {
-    let n = next_count();
-    report_of(name, tables(n, biased), n);
+fn report(rt: &HostRuntime, name: &str, agreed: u64, n: u64) -> io::Result<()> {
+    println!(rt; "{name:.<44} {agreed} of {n} agree")
 }
 
-// The same of the rows of ranges.
-fn report_ranges(name: &[u8]) {
-    let n = next_count();
-    report_of(name, ranges(n), n);
+// Reads rows of N bytes, their number first, and prints how many agree.
+fn report_rows<const N: usize, F: Fn(&[u8]) -> bool>(
+    rt: &HostRuntime,
+    name: &str,
+    agrees: F,
+) -> io::Result<()>
+    requires fits { N < 2 ^ 63 }
+    requires callable { F.IsAlwaysCallable agrees }
+{
+    let head = next::<5>(rt)?;
+    let n = number(&head, 0, 4) % 65536;
+    let agreed = agreeing::<N, F>(rt, n, agrees)?;
+    report(rt, name, agreed, n)
 }
 
-// The same of the rows of pages, of spans or written.
-fn report_pages(name: &[u8], written: bool, long: bool) {
-    let n = next_count();
-    report_of(name, pages(n, written, long), n);
-}
-
-// The same of the rows of values of ten bytes.
-fn report_tens(name: &[u8]) {
-    let n = next_count();
-    report_of(name, tens(n), n);
-}
-
-// The same of the rows of one total in several formats.
-fn report_targets(name: &[u8]) {
-    let n = next_count();
-    report_of(name, targets(n), n);
-}
-
-fn main() {
-    let mut head = [0u8; 3];
-    io::read_full(0, &mut head);
-    let all = sections(number(&head, 0, 2) % 256);
-    io::write_all(1, b"all of these ...............................");
-    report(all);
-    report_of(
-        b"refusals by the number of elements ......... ",
-        counts(),
-        12,
-    );
-    report_figures(b"pence of one encoding ...................... ", false);
-    report_figures(b"pence of one encoding, a bias named ........ ", true);
-    report_lists(b"pence of lists ............................. ", false);
-    report_lists(b"pence of lists, a bias named ............... ", true);
-    report_of(
-        b"pence of lists, a bias misnamed ............ ",
-        misnamed(),
+fn main(rt: HostRuntime) -> io::Result<()> {
+    let head = next::<3>(&rt)?;
+    let all = sections(&rt, number(&head, 0, 2) % 256)?;
+    println!(rt; "all of these ............................... {all}")?;
+    report(&rt, "refusals by the number of elements ", counts(), 12)?;
+    report_rows::<PENCE, _>(&rt, "pence of one encoding ", figures::agrees)?;
+    report_rows::<BIASED_PENCE, _>(&rt, "pence of one encoding, a bias named ", figures::agrees)?;
+    report_rows::<ROW, _>(&rt, "pence of lists ", lists::agrees)?;
+    report_rows::<BIASED, _>(&rt, "pence of lists, a bias named ", lists::agrees)?;
+    report(
+        &rt,
+        "pence of lists, a bias misnamed ",
+        lists::misnamed(),
         8,
-    );
-    report_tables(b"tables ..................................... ", false);
-    report_tables(b"tables, a bias named ....................... ", true);
-    report_of(
-        b"tables, a bias misnamed .................... ",
-        tables::misnamed(),
-        8,
-    );
-    report_ranges(b"amounts known within a range ............... ");
-    report_pages(
-        b"spans of pages ............................. ",
-        false,
-        false,
-    );
-    report_pages(
-        b"spans of longer pages ...................... ",
-        false,
-        true,
-    );
-    report_pages(
-        b"pages written .............................. ",
-        true,
-        false,
-    );
-    report_pages(b"longer pages written ....................... ", true, true);
-    report_tens(b"values of ten bytes ........................ ");
-    report_targets(b"one total, several formats ................. ");
+    )?;
+    report_rows::<LONG, _>(&rt, "tables ", tables::agrees)?;
+    report_rows::<BIASED_TABLE, _>(&rt, "tables, a bias named ", tables::agrees)?;
+    report(&rt, "tables, a bias misnamed ", tables::misnamed(), 8)?;
+    report_rows::<LONG, _>(&rt, "amounts known within a range ", ranges::agrees)?;
+    report_rows::<SPAN, _>(&rt, "spans of pages ", pages::span_agrees)?;
+    report_rows::<LONG_SPAN, _>(&rt, "spans of longer pages ", pages::span_agrees)?;
+    report_rows::<WRITTEN, _>(&rt, "pages written ", pages::page_agrees)?;
+    report_rows::<LONG_WRITTEN, _>(&rt, "longer pages written ", pages::page_agrees)?;
+    report_rows::<{ tens::ROW }, _>(&rt, "values of ten bytes ", tens::agrees)?;
+    report_rows::<{ targets::ROW }, _>(&rt, "one total, several formats ", targets::agrees)
 }

@@ -1,9 +1,9 @@
 // Rows of amounts known within a range, each worked out by `range_total` and through the exported entry.
-ghost use Rattle.std.specs.Prelude.{◌≡◌, ◌<◌, ◌≤◌, length};
+ghost use Rattle.std.specs.Prelude.{◌≤◌};
 
-use crate::row::{LONG, count_at, words_at};
-use crate::tables::same_words;
+use crate::row::{at_most, words_at};
 use hexadecimal::number;
+use std::array;
 use totals::entry::totals_range;
 use totals::range::{Range, range_total};
 
@@ -42,48 +42,31 @@ fn tag_of(digit: u64) -> u64 {
     tags[(digit % 16) as usize]
 }
 
-fn tags_at(s: &[u8]) -> [u64; 6]
-    ensures { length result ≡ 6 }
-{
-    let mut tags = [0u64; 6];
-    let mut i: usize = 0;
-    while i < 6 {
-        tags[i] = tag_of(number(s, TAGS + i, 1));
-        i += 1;
-    }
-    tags
+fn tags_at(s: &[u8]) -> [u64; 6] {
+    array::from_fn(|i| tag_of(number(s, TAGS + i, 1)))
 }
 
 // Figures after a call, of which one begins the list: the first n are the lows, or the highs, where the call is accepted.
 fn after(s: &[u8], first: usize, n: usize, accepted: bool) -> [u64; 12]
     requires { (first ≤ 6) × (n ≤ 12) }
-    ensures { length result ≡ 12 }
 {
     let mut words = words_at(s, first);
     if accepted {
         let settled = words_at(s, first + 12);
-        let mut i: usize = 0;
-        while i < n {
-            words[i] = settled[i];
-            i += 1;
-        }
+        words[..n].copy_from_slice(&settled[..n]);
     }
     words
 }
 
 // Whether both lists are what a call leaves, one that is accepted or one that is not; what stands behind them is as it was.
-fn left(s: &[u8], accepted: bool, firsts: &[u64], seconds: &[u64]) -> bool {
-    let lows = after(s, 0, count_at(s, 3, 6), accepted);
-    let highs = after(s, 6, count_at(s, 4, 6), accepted);
-    same_words(firsts, &lows) && same_words(seconds, &highs)
+fn left(s: &[u8], accepted: bool, firsts: [u64; 12], seconds: [u64; 12]) -> bool {
+    firsts == after(s, 0, at_most(s, 3, 1, 6), accepted)
+        && seconds == after(s, 6, at_most(s, 4, 1, 6), accepted)
 }
 
 // Whether a double has an encoding, which tells -0 from +0. A NaN has none here.
 fn encoded(x: f64, b: u64) -> bool {
-    if x != x {
-        return false;
-    }
-    f64::to_bits(x) == b
+    !x.is_nan() && x.to_bits() == b
 }
 
 fn refusal_at(s: &[u8]) -> u64 {
@@ -100,13 +83,11 @@ fn told_as(s: &[u8], r: Range) -> bool {
 }
 
 // The function with as much of the lists as the row says.
-fn worked(s: &[u8], firsts: &mut [u64], seconds: &mut [u64]) -> Range
-    requires { (6 ≤ length firsts.old) × (6 ≤ length seconds.old) }
-{
+fn worked(s: &[u8], firsts: &mut [u64; 12], seconds: &mut [u64; 12]) -> Range {
     let tags = tags_at(s);
-    let t = count_at(s, 2, 6);
-    let n = count_at(s, 3, 6);
-    let m = count_at(s, 4, 6);
+    let t = at_most(s, 2, 1, 6);
+    let n = at_most(s, 3, 1, 6);
+    let m = at_most(s, 4, 1, 6);
     range_total(
         &tags[..t],
         &mut firsts[..n],
@@ -119,38 +100,36 @@ fn worked(s: &[u8], firsts: &mut [u64], seconds: &mut [u64]) -> Range
 fn by_function(s: &[u8]) -> bool {
     let mut firsts = words_at(s, 0);
     let mut seconds = words_at(s, 6);
+    let accepted = refusal_at(s) == 0;
     let once = told_as(s, worked(s, &mut firsts, &mut seconds));
-    let kept = left(s, refusal_at(s) == 0, &firsts, &seconds);
+    let kept = left(s, accepted, firsts, seconds);
     let twice = told_as(s, worked(s, &mut firsts, &mut seconds));
-    once && kept && twice && left(s, refusal_at(s) == 0, &firsts, &seconds)
-}
-
-fn enter_figures(s: &[u8], firsts: &mut [u64], seconds: &mut [u64], pair: &mut [u64]) -> u64 {
-    let tags = tags_at(s);
-    let t = count_at(s, 2, 6);
-    totals_range(&tags[..t], firsts, seconds, number(s, CEILING, 16), pair)
+    once && kept && twice && left(s, accepted, firsts, seconds)
 }
 
 // The entry with as much of the lists and of the pair as the row says.
-fn entered(s: &[u8], firsts: &mut [u64], seconds: &mut [u64], pair: &mut [u64]) -> u64
-    requires { (6 ≤ length firsts.old) × (6 ≤ length seconds.old) × (4 ≤ length pair.old) }
-{
-    let n = count_at(s, 3, 6);
-    let m = count_at(s, 4, 6);
-    let lent = count_at(s, 6, 4);
-    enter_figures(s, &mut firsts[..n], &mut seconds[..m], &mut pair[..lent])
+fn entered(s: &[u8], firsts: &mut [u64; 12], seconds: &mut [u64; 12], pair: &mut [u64; 4]) -> u64 {
+    let tags = tags_at(s);
+    let t = at_most(s, 2, 1, 6);
+    let n = at_most(s, 3, 1, 6);
+    let m = at_most(s, 4, 1, 6);
+    let lent = at_most(s, 6, 1, 4);
+    totals_range(
+        &tags[..t],
+        &mut firsts[..n],
+        &mut seconds[..m],
+        number(s, CEILING, 16),
+        &mut pair[..lent],
+    )
 }
 
 // The pair after a call.
-fn written(s: &[u8], accepted: bool) -> [u64; 4]
-    ensures { length result ≡ 4 }
-{
-    let mut pair = [BEFORE; 4];
+fn written(s: &[u8], accepted: bool) -> [u64; 4] {
     if accepted {
-        pair[0] = number(s, LOWER, 16);
-        pair[1] = number(s, UPPER, 16);
+        [number(s, LOWER, 16), number(s, UPPER, 16), BEFORE, BEFORE]
+    } else {
+        [BEFORE; 4]
     }
-    pair
 }
 
 fn by_entry(s: &[u8]) -> bool {
@@ -159,42 +138,11 @@ fn by_entry(s: &[u8]) -> bool {
     let mut pair = [BEFORE; 4];
     let returned = entered(s, &mut firsts, &mut seconds, &mut pair);
     let wanted = number(s, 11, 2);
-    let holds = written(s, wanted == 0);
-    returned == wanted && same_words(&pair, &holds) && left(s, wanted == 0, &firsts, &seconds)
+    let accepted = wanted == 0;
+    returned == wanted && pair == written(s, accepted) && left(s, accepted, firsts, seconds)
 }
 
-// Works a row out both ways, and prints it where an answer disagrees.
-fn told(row: &[u8]) -> u64
-    ensures { result ≤ 1 }
-{
-    let function = by_function(row);
-    let entry = by_entry(row);
-    if function && entry {
-        return 1;
-    }
-    io::write_all(1, b"disagrees: ");
-    io::write_all(1, row);
-    0
-}
-
-fn next_row() -> u64
-    ensures { result ≤ 1 }
-{
-    let mut row = [0u8; LONG];
-    io::read_full(0, &mut row);
-    told(&row)
-}
-
-// Reads n rows, and tells how many agree.
-pub fn ranges(n: u64) -> u64
-    requires { n < 65536 }
-    ensures { result ≤ n }
-{
-    let mut agreed: u64 = 0;
-    let mut i: u64 = 0;
-    while i < n {
-        agreed += next_row();
-        i += 1;
-    }
-    agreed
+// Whether both ways agree with the row.
+pub fn agrees(row: &[u8]) -> bool {
+    by_function(row) && by_entry(row)
 }

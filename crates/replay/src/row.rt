@@ -1,11 +1,13 @@
 // The fields of a row.
-ghost use Rattle.std.specs.Prelude.{◌≡◌, ◌<◌, ◌≤◌, length, get_or};
-ghost use Rattle.replay.specs.Row.{word_at, is_dot, named_in, format_in, settings_in, signed_at, answer_in};
+ghost use Rattle.std.specs.Prelude.{◌≡◌, ◌+◌, ◌*◌, ◌%◌, ◌^◌, ◌<◌, ◌≤◌, get_or};
+ghost use Rattle.replay.specs.Row.{word_at, is_dot, named_in, format_in, settings_in, signed_at, answer_in, pence_in};
 
 use format::env::Settings;
 use format::{Format, Named};
 use hexadecimal::number;
 use reduction::total::Answer;
+use std::array;
+use totals::pence::Pence;
 use values::put_word;
 
 // Where the values begin; and the length of a row of twelve of them, of a long one, of twenty-four, and of one that names a bias behind its twelve.
@@ -28,7 +30,7 @@ pub const BIASED_TABLE: usize = 505;
 fn byte_at(s: &[u8], i: usize) -> u8
     ensures { result ≡ get_or s.now i 48 }
 {
-    if i < s.len() { s[i] } else { 48 }
+    s.get(i).copied().unwrap_or(b'0')
 }
 
 pub fn is_dot(s: &[u8]) -> bool
@@ -41,16 +43,12 @@ pub fn is_dot(s: &[u8]) -> bool
 fn named_at(s: &[u8]) -> Named
     ensures { result ≡ named_in s.now }
 {
-    if s.len() == BIASED {
-        return Named::Bias(signed_at(s, 283, 16));
+    match s.len() {
+        BIASED => Named::Bias(signed_at(s, 283, 16)),
+        BIASED_PENCE => Named::Bias(signed_at(s, 49, 16)),
+        BIASED_TABLE => Named::Bias(signed_at(s, 487, 16)),
+        _ => Named::Nothing,
     }
-    if s.len() == BIASED_PENCE {
-        return Named::Bias(signed_at(s, 49, 16));
-    }
-    if s.len() == BIASED_TABLE {
-        return Named::Bias(signed_at(s, 487, 16));
-    }
-    Named::Nothing
 }
 
 pub fn format_at(s: &[u8]) -> Format
@@ -86,12 +84,11 @@ pub fn summand_at(s: &[u8]) -> u64
     number(s, 21, 1)
 }
 
-// The number of values: of a sum, or of one side of a dot.
-pub fn count_at(s: &[u8], at: usize, most: usize) -> usize
+// A number of some digits, as that of a list's values, but no higher than another.
+pub fn at_most(s: &[u8], at: usize, digits: usize, most: usize) -> usize
     ensures { result ≤ most }
 {
-    let n = number(s, at, 1) as usize;
-    if n > most { most } else { n }
+    (number(s, at, digits) as usize).min(most)
 }
 
 // A sign, and n digits behind it.
@@ -118,11 +115,58 @@ pub fn answer_at(s: &[u8]) -> Answer
     }
 }
 
+// The record of pence that a row expects, which begins with the figure.
+pub fn pence_at(s: &[u8], column: usize) -> Pence
+    requires { column < 512 }
+    ensures { result ≡ pence_in s.now column }
+{
+    Pence {
+        figure: signed_at(s, column, 16),
+        refusal: number(s, column + 18, 1),
+        place: number(s, column + 20, 1),
+    }
+}
+
 // What the byte entry returns.
 pub fn returned_at(s: &[u8]) -> u64
     ensures { result ≡ word_at s.now 73 3 }
 {
     number(s, 73, 3)
+}
+
+// ---- lists
+
+// N words of sixteen digits, one every seventeen columns.
+pub fn words_in<const N: usize>(s: &[u8], column: usize) -> [u64; N]
+    requires { column + 17 * N < 2 ^ 64 }
+{
+    array::from_fn(|i| number(s, column + 17 * i, 16))
+}
+
+// n of these words in bytes, and 255 in each byte behind them.
+pub fn laid_words<const N: usize>(s: &[u8], column: usize, n: usize) -> [u8; N]
+    requires bytes { 8 * n ≤ N }
+    requires columns { column + 17 * n < 2 ^ 64 }
+{
+    let mut bytes = [255u8; N];
+    for i in 0..n {
+        put_word(&mut bytes, 8 * i, number(s, column + 17 * i, 16));
+    }
+    bytes
+}
+
+// The byte of two digits.
+pub fn byte_in(s: &[u8], column: usize) -> u8
+    ensures { result ≡ word_at s.now column 2 % 256 }
+{
+    (number(s, column, 2) % 256) as u8
+}
+
+// N bytes, one every two columns.
+pub fn bytes_in<const N: usize>(s: &[u8], column: usize) -> [u8; N]
+    requires { column + 2 * N < 2 ^ 64 }
+{
+    array::from_fn(|i| byte_in(s, column + 2 * i))
 }
 
 // The first value of a dot's right list: behind the left one's six places, or twelve in a long row.
@@ -135,39 +179,21 @@ fn right_at(s: &[u8]) -> usize
 // Twelve values from one on. A sum's list begins at the value 0, and so does a dot's left list.
 pub fn words_at(s: &[u8], first: usize) -> [u64; 12]
     requires { first ≤ 18 }
-    ensures { length result ≡ 12 }
 {
-    let mut words = [0u64; 12];
-    let mut i: usize = 0;
-    while i < 12 {
-        words[i] = number(s, VALUES + 17 * (first + i), 16);
-        i += 1;
-    }
-    words
+    words_in(s, VALUES + 17 * first)
 }
 
 // The same in bytes, and eight bytes more, so that a list may end within a value.
 pub fn bytes_at(s: &[u8], first: usize) -> [u8; 104]
     requires { first ≤ 12 }
-    ensures { length result ≡ 104 }
 {
-    let mut bytes = [255u8; 104];
-    let mut i: usize = 0;
-    while i < 12 {
-        put_word(&mut bytes, 8 * i, number(s, VALUES + 17 * (first + i), 16));
-        i += 1;
-    }
-    bytes
+    laid_words(s, VALUES + 17 * first, 12)
 }
 
-pub fn right_words(s: &[u8]) -> [u64; 12]
-    ensures { length result ≡ 12 }
-{
+pub fn right_words(s: &[u8]) -> [u64; 12] {
     words_at(s, right_at(s))
 }
 
-pub fn right_bytes(s: &[u8]) -> [u8; 104]
-    ensures { length result ≡ 104 }
-{
+pub fn right_bytes(s: &[u8]) -> [u8; 104] {
     bytes_at(s, right_at(s))
 }

@@ -26,7 +26,7 @@ use limbs::word::{scaled, widening_mul};
 use values::LIMIT;
 
 // The record of a pence figure.
-#[derive(Clone, Copy)]
+#[derive(Clone, Copy, PartialEq, Eq, Debug)]
 pub struct Pence {
     pub figure: i64,
     pub refusal: u64,
