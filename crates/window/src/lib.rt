@@ -1,7 +1,7 @@
 // The exact sum of terms, found in a window of 768 bits that moves down: what one pass sees, and what follows from it.
 #![tactic(auto)]
 
-ghost use Rattle.std.specs.Prelude.{◌≡◌, None, Some, ℕ, ◌+◌, ◌-◌, ◌*◌, ◌/◌, ◌%◌, ◌^◌, ◌<◌, ◌≤◌};
+ghost use Rattle.std.specs.Prelude.{◌≡◌, ℕ, ◌+◌, ◌-◌, ◌*◌, ◌/◌, ◌%◌, ◌^◌, ◌<◌, ◌≤◌};
 ghost use Rattle.limbs.specs.Value.{value, bit_length};
 ghost use Rattle.totals_spec.specs.Basics.{flag};
 ghost use Rattle.totals_spec.specs.Chain as spec;
@@ -186,7 +186,9 @@ impl Units {
         }
     }
 
-    // In two words, with a sticky bit if the number that is meant lies above.
+    // In two words, with a sticky bit where any number between these units and one more is meant. Taken into `left` at each of its calls: a call of its
+    // own would copy the window once more, a fifth of the time of a sum of three values.
+    #[inline(always)]
     fn narrowed(self, sticky: bool) -> Unrounded
         requires { self.place < 2 ^ 63 }
         ensures { Narrows self.negative sticky self.place self.whole result }
