@@ -4,57 +4,35 @@
 
 mod rows;
 
-ghost use Rattle.std.specs.Prelude.{◌*◌, ◌<◌, ◌≤◌};
+ghost use Rattle.std.specs.Prelude.{ℕ, ◌*◌, ◌^◌, ◌<◌, ◌≤◌};
 
 use hexadecimal::number;
 use rows::{decode_row, format_row, nan_row, round_row, settings_row};
 
-// Reads the next row of a part, and tells how many of its answers agree.
-fn next_row(part: u64) -> u64
-    ensures { result ≤ 128 }
-{
-    if part == 0 {
-        let mut row = [0u8; 20];
-        io::read_full(0, &mut row);
-        return decode_row(&row);
-    }
-    if part == 1 {
-        let mut row = [0u8; 27];
-        io::read_full(0, &mut row);
-        return nan_row(&row);
-    }
-    if part == 2 {
-        let mut row = [0u8; 564];
-        io::read_full(0, &mut row);
-        return round_row(&row);
-    }
-    if part == 3 {
-        let mut row = [0u8; 71];
-        io::read_full(0, &mut row);
-        return format_row(&row);
-    }
-    let mut row = [0u8; 23];
-    io::read_full(0, &mut row);
-    settings_row(&row)
-}
-
-fn next_rows(part: u64, n: u64) -> u64
-    requires { n < 65536 }
+// How many answers of the next n rows, each of N bytes, agree, by a function that tells it of one row.
+fn next_rows<const N: usize, F: Fn(&[u8]) -> u64>(n: u64, agreeing: F) -> u64
+    requires few { n < 65536 }
+    requires short { N < 2 ^ 63 }
+    requires callable { F.IsAlwaysCallable agreeing }
+    requires at_most { (s : _) (r : ℕ) → F.post agreeing s r → r ≤ 128 }
     ensures { result ≤ 128 * n }
 {
-    let mut agreed: u64 = 0;
-    let mut i: u64 = 0;
-    while i < n {
-        agreed += next_row(part);
-        i += 1;
+    let mut agreed = 0;
+    for _i in 0..n {
+        let mut row = [0u8; N];
+        io::read_full(0, &mut row);
+        agreed += agreeing(&row);
     }
     agreed
 }
 
-fn report(part: u64, n: u64, all: u64)
-    requires { n < 65536 }
+fn report<const N: usize, F: Fn(&[u8]) -> u64>(n: u64, all: u64, agreeing: F)
+    requires few { n < 65536 }
+    requires short { N < 2 ^ 63 }
+    requires callable { F.IsAlwaysCallable agreeing }
+    requires at_most { (s : _) (r : ℕ) → F.post agreeing s r → r ≤ 128 }
 {
-    io::print_decimal(1, next_rows(part, n));
+    io::print_decimal(1, next_rows::<N, F>(n, agreeing));
     io::write_all(1, b" of ");
     io::print_decimal(1, all);
     io::write_all(1, b" agree\n");
@@ -69,13 +47,13 @@ fn main() {
     let f = number(&head, 15, 4) % 65536;
     let s = number(&head, 20, 4) % 65536;
     io::write_all(1, b"decode, operand, encode: ");
-    report(0, d, 5 * d);
+    report::<20, _>(d, 5 * d, decode_row);
     io::write_all(1, b"choice among NaNs: ");
-    report(1, n, 8 * n);
+    report::<27, _>(n, 8 * n, nan_row);
     io::write_all(1, b"rounding: ");
-    report(2, r, 128 * r);
+    report::<564, _>(r, 128 * r, round_row);
     io::write_all(1, b"formats: ");
-    report(3, f, 7 * f);
+    report::<71, _>(f, 7 * f, format_row);
     io::write_all(1, b"settings and zeros: ");
-    report(4, s, 4 * s);
+    report::<23, _>(s, 4 * s, settings_row);
 }

@@ -8,7 +8,7 @@ ghost use Rattle.binary.specs.Joined.{nan_of};
 ghost use Rattle.exact.specs.Joined.{significand_of};
 
 use binary::nan::{Nan, select, selected};
-use binary::{decode, encode, is_plain, nan, operand};
+use binary::{decode, encode, is_plain, operand};
 use exact::{Unrounded, narrowed, round};
 use format::env::{Settings, flag, valid_settings, zero_sum_is_negative, zero_sum_sign};
 use format::unpacked::Unpacked;
@@ -18,7 +18,7 @@ use hexadecimal::number;
 fn agrees(a: u64, b: u64) -> u64
     ensures { result ≤ 1 }
 {
-    if a == b { 1 } else { 0 }
+    u64::from(a == b)
 }
 
 fn format_at(s: &[u8]) -> Format {
@@ -30,55 +30,42 @@ fn format_at(s: &[u8]) -> Format {
     }
 }
 
+// As the vectors lay a format out by its numbers of exponent bits and of bits.
+fn long_format_at(s: &[u8]) -> Format {
+    Format {
+        kind: number(s, 0, 1),
+        exponent_bits: number(s, 2, 2),
+        width: number(s, 5, 2),
+        named: Named::Nothing,
+    }
+}
+
 fn tag(v: Unpacked, subnormal: bool, plain: bool) -> u64 {
-    let more = flag(16, subnormal) + flag(32, plain);
-    match v {
-        Unpacked::Zero(negative) => flag(4, negative) + more,
-        Unpacked::Finite {
-            negative,
-            shift: _,
-            significand: _,
-        } => 1 + flag(4, negative) + more,
-        Unpacked::Infinity(negative) => 2 + flag(4, negative) + more,
+    let (kind, negative, signaling) = match v {
+        Unpacked::Zero(negative) => (0, negative, false),
+        Unpacked::Finite { negative, .. } => (1, negative, false),
+        Unpacked::Infinity(negative) => (2, negative, false),
         Unpacked::Nan {
             negative,
             signaling,
-            payload: _,
-        } => 3 + flag(4, negative) + flag(8, signaling) + more,
-    }
+            ..
+        } => (3, negative, signaling),
+    };
+    kind + flag(4, negative) + flag(8, signaling) + flag(16, subnormal) + flag(32, plain)
 }
 
 fn shift_of(v: Unpacked) -> u64 {
     match v {
-        Unpacked::Zero(_) => 0,
-        Unpacked::Finite {
-            negative: _,
-            shift,
-            significand: _,
-        } => shift,
-        Unpacked::Infinity(_) => 0,
-        Unpacked::Nan {
-            negative: _,
-            signaling: _,
-            payload: _,
-        } => 0,
+        Unpacked::Finite { shift, .. } => shift,
+        _ => 0,
     }
 }
 
 fn number_of(v: Unpacked) -> u64 {
     match v {
-        Unpacked::Zero(_) => 0,
-        Unpacked::Finite {
-            negative: _,
-            shift: _,
-            significand,
-        } => significand,
-        Unpacked::Infinity(_) => 0,
-        Unpacked::Nan {
-            negative: _,
-            signaling: _,
-            payload,
-        } => payload,
+        Unpacked::Finite { significand, .. } => significand,
+        Unpacked::Nan { payload, .. } => payload,
+        _ => 0,
     }
 }
 
@@ -128,37 +115,29 @@ pub fn decode_row(s: &[u8]) -> u64
     if valid_format(f) { decodings(f, s) } else { 0 }
 }
 
-// The NaN that an encoding is.
-fn nan_at(f: Format, b: u64) -> Nan
+// The NaN that an encoding is, if it is one.
+fn nan_at(f: Format, b: u64) -> Option<Nan>
     requires { FormatBounds (format_of f) }
     ensures { Encodes (format_of f) (nan_of result) }
 {
-    let v = decode(f, b);
-    match v {
-        Unpacked::Zero(_) => nan::none(),
-        Unpacked::Finite {
-            negative: _,
-            shift: _,
-            significand: _,
-        } => nan::none(),
-        Unpacked::Infinity(_) => nan::none(),
+    match decode(f, b) {
         Unpacked::Nan {
             negative,
             signaling,
             payload,
-        } => Nan {
-            some: true,
+        } => Some(Nan {
             negative,
             signaling,
             payload,
-        },
+        }),
+        Unpacked::Zero(_) | Unpacked::Finite { .. } | Unpacked::Infinity(_) => None,
     }
 }
 
-fn chosen(f: Format, rule: u64, negative: u64, a: Nan, b: Nan) -> u64
+fn chosen(f: Format, rule: u64, negative: u64, a: Option<Nan>, b: Option<Nan>) -> u64
     requires { FormatBounds (format_of f) × Encodes (format_of f) (nan_of a) × Encodes (format_of f) (nan_of b) }
 {
-    let first = select(rule, nan::none(), a);
+    let first = select(rule, None, a);
     let n = select(rule, first, b);
     encode(f, selected(settings(0, 0, rule, negative, 0), n))
 }
@@ -169,14 +148,12 @@ fn choices(f: Format, s: &[u8]) -> u64
 {
     let a = nan_at(f, number(s, 4, 2));
     let b = nan_at(f, number(s, 7, 2));
-    let mut agreed: u64 = 0;
-    let mut j: u64 = 0;
-    while j < 8 {
+    let mut agreed = 0;
+    for j in 0..8u64 {
         agreed += agrees(
             chosen(f, j % 4, j / 4, a, b),
             number(s, 10 + 2 * (j as usize), 2),
         );
-        j += 1;
     }
     agreed
 }
@@ -204,36 +181,27 @@ fn is_long(f: Format, v: Unrounded) -> bool
     requires { FormatBounds (format_of f) }
     ensures { result ≡ true → v.sticky ≡ true → 2 ^ spec.digits (format_of f) ≤ significand_of v }
 {
-    if !v.sticky {
-        return true;
-    }
-    v.length() > digits(f)
+    !v.sticky || v.length() > digits(f)
 }
 
-// The result and the flags of a rounding, and 65,536 for what cannot be rounded.
-fn rounded(f: Format, c: Settings, g: u64, v: Unrounded) -> u64
+// The result and the flags of a rounding, of what can be rounded.
+fn rounded(f: Format, c: Settings, g: u64, v: Unrounded) -> Option<u64>
     requires { FormatBounds (format_of f) × (g < 65536) }
 {
-    if !valid_settings(f, c) {
-        return 65536;
+    if valid_settings(f, c)
+        && 64 <= v.position
+        && v.position <= 65535
+        && v.length() != 0
+        && is_long(f, v)
+    {
+        let r = round(f, c, g, v);
+        Some(encode(f, r.value) % 256 * 256 + r.flags)
+    } else {
+        None
     }
-    if v.position < 64 {
-        return 65536;
-    }
-    if v.position > 65535 {
-        return 65536;
-    }
-    if v.length() == 0 {
-        return 65536;
-    }
-    if !is_long(f, v) {
-        return 65536;
-    }
-    let r = round(f, c, g, v);
-    let u = r.value;
-    encode(f, u) % 256 * 256 + r.flags
 }
 
+// The vectors write 65,536 for what cannot be rounded.
 fn roundings(f: Format, s: &[u8]) -> u64
     requires { FormatBounds (format_of f) }
     ensures { result ≤ 128 }
@@ -241,17 +209,14 @@ fn roundings(f: Format, s: &[u8]) -> u64
     let g = number(s, 7, 4) % 65536;
     let plus = value_at(s, false);
     let minus = value_at(s, true);
-    let mut agreed: u64 = 0;
-    let mut j: u64 = 0;
-    while j < 128 {
+    let mut agreed = 0;
+    for j in 0..128u64 {
         let c = settings(j, 0, 0, 0, number(s, 3, 1));
-        let r = if j < 64 {
-            rounded(f, c, g, plus)
-        } else {
-            rounded(f, c, g, minus)
-        };
-        agreed += agrees(r, number(s, 51 + 4 * (j as usize), 4));
-        j += 1;
+        let v = if j < 64 { plus } else { minus };
+        agreed += agrees(
+            rounded(f, c, g, v).unwrap_or(65536),
+            number(s, 51 + 4 * (j as usize), 4),
+        );
     }
     agreed
 }
@@ -280,12 +245,7 @@ fn widths(f: Format, s: &[u8]) -> u64
 pub fn format_row(s: &[u8]) -> u64
     ensures { result ≤ 7 }
 {
-    let f = Format {
-        kind: number(s, 0, 1),
-        exponent_bits: number(s, 2, 2),
-        width: number(s, 5, 2),
-        named: Named::Nothing,
-    };
+    let f = long_format_at(s);
     if valid_format(f) { widths(f, s) } else { 0 }
 }
 
@@ -303,12 +263,7 @@ fn offered(f: Format, c: Settings) -> u64
 pub fn settings_row(s: &[u8]) -> u64
     ensures { result ≤ 4 }
 {
-    let f = Format {
-        kind: number(s, 0, 1),
-        exponent_bits: number(s, 2, 2),
-        width: number(s, 5, 2),
-        named: Named::Nothing,
-    };
+    let f = long_format_at(s);
     let c = Settings {
         rounding: number(s, 8, 1),
         tininess: number(s, 9, 1),

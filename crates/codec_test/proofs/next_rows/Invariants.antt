@@ -1,0 +1,6 @@
+-- Each row adds at most 128.
+use Rattle.std.proofs.Common.{◌*◌, ◌≤◌}
+use Rattle.codec_test.proofs.next_rows.Given as goal
+
+abbrev pub invariant-loop-i : goal.invariant-loop-i
+invariant-loop-i g l = l.agreed ≤ 128 * l._i
