@@ -82,11 +82,3 @@ shift-less t invalid_item h = omega (arith, h.1)
 shift-less t (infinite s) h = omega (arith, h.1)
 shift-less t (zero_item s) h = omega (arith, h.1)
 shift-less t (term s) h = h.2
-
--- what holds below g, and at g, holds below g + 1
-pub one_more : (P : ℕ → Type 0) (g : ℕ) → ((k : ℕ) → k < g → P k) → P g → (k : ℕ) → k < g + 1 → P k
-one_more P g f p k h = go (ltb k g) refl
-  where
-    go : (t : Bool) → ltb k g ≡ t → P k
-    go true e = f k (ltb-true k g e)
-    go false e = subst P (omega (arith, h, ltb-false k g e)) p
