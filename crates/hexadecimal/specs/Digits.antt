@@ -1,16 +1,21 @@
 -- Hex digits in bytes, by the program's digits (document 01).
-use Rattle.std.specs.Prelude.{List, ℕ, zero, suc, ◌+◌, ◌*◌, get_or}
-use Rattle.std.proofs.Math.Option.{Option, none, some}
+use Rattle.std.specs.Prelude.{List, ℕ, zero, suc, ◌+◌, ◌*◌, get_or, Option, None, Some}
+use Rattle.std.proofs.Math.Option as math
 use Rattle.totals_spec.specs.Program.{hex_digit}
 
--- a digit's value, or another number where there is none
-abbrev pub digit_or : ℕ → Option ℕ → ℕ
-digit_or x none = x
-digit_or x (some d) = d
+-- the definitions' option as the code's
+abbrev pub option_of : {A : Type 0} → math.Option A → Option A
+option_of math.none = None
+option_of (math.some x) = Some x
 
--- a byte's digit, 16 where it is none
-abbrev pub digit_of : ℕ → ℕ
-digit_of b = digit_or 16 (hex_digit b)
+-- a digit's value, or another number where there is none
+abbrev pub digit_or : ℕ → math.Option ℕ → ℕ
+digit_or x math.none = x
+digit_or x (math.some d) = d
+
+-- a byte's digit, if it is one
+abbrev pub digit_of : ℕ → Option ℕ
+digit_of b = option_of (hex_digit b)
 
 -- the digit at a place: 0 past the end, and for a byte that is no digit
 abbrev pub digit_at : List ℕ → ℕ → ℕ

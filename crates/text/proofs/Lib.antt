@@ -1,11 +1,7 @@
 pub mod FirstLine
 pub mod Steps
 pub mod Prefix
-pub mod Digits
-pub mod Places
-pub mod Filled
-pub mod Told
-pub mod Grown
+pub mod Numbers
+pub mod Pieces
 pub mod Spelt
-pub mod Figures
-pub mod FourLines
+pub mod Sums

@@ -13,7 +13,7 @@ use borrow.Author.Tests.{lt-ltb}
 use Rattle.totals_spec.specs.Program.{lines, hex_digit, more_hex, Read, bad_line, taken, read_from, text_of, program_text}
 use Rattle.text.specs.Reading.{Prefix}
 use Rattle.text.proofs.FirstLine.{line_from, first-value}
-use Rattle.text.proofs.Steps.{line_at, read_step}
+use Rattle.text.proofs.Steps.{value_of, read_step}
 
 drop-take : (m k : ℕ) (l : List ℕ) → drop m (take (m + k) l) ≡ take k (drop m l)
 drop-take zero k l = ap (λ (n : ℕ). take n l) (zero-add k)
@@ -21,7 +21,7 @@ drop-take (suc m) k [] = ap (λ (n : ℕ). drop (suc m) (take n [])) (suc-add m 
 drop-take (suc m) k (b ∷ bs) = ap (λ (n : ℕ). drop (suc m) (take n (b ∷ bs))) (suc-add m k) ∙ drop-take m k bs
 
 -- a line of n bytes is told by them and the next one
-line-of-take : (n k : ℕ) (l : List ℕ) (x : Option ℕ) → line_from n (take (suc n + k) l) x ≡ line_from n l x
+pub line-of-take : (n k : ℕ) (l : List ℕ) (x : Option ℕ) → line_from n (take (suc n + k) l) x ≡ line_from n l x
 line-of-take n k [] x = ap (λ (l : List ℕ). line_from n l x) (take-nil (suc n + k))
 line-of-take zero k (b ∷ bs) x = ap (λ (m : ℕ). line_from 0 (take m (b ∷ bs)) x) (suc-add 0 k)
 line-of-take (suc n) k (b ∷ bs) x =
@@ -29,7 +29,7 @@ line-of-take (suc n) k (b ∷ bs) x =
 
 -- some bytes are left, and no line more is taken
 too_many : (n : ℕ) (b : ℕ) (bs : List ℕ) → 8192 < n → read_from n (lines (b ∷ bs)) ≡ bad_line n
-too_many n b bs h = read_step (b ∷ bs) 0 (line_at (b ∷ bs) 0) refl (omega arith) n ∙ rw (lt-ltb 8192 n h)
+too_many n b bs h = read_step (b ∷ bs) (value_of (b ∷ bs)) refl (omega arith) n ∙ rw (lt-ltb 8192 n h)
 
 one_byte : (n : ℕ) (l : List ℕ) → 8192 < n → read_from n (lines (take 1 l)) ≡ read_from n (lines l)
 one_byte n [] h = refl
@@ -40,9 +40,9 @@ one_line : (n k : ℕ) → ((l : List ℕ) → read_from (suc n) (lines (take k 
     → (l : List ℕ) → read_from n (lines (take (17 + k) l)) ≡ read_from n (lines l)
 one_line n k ih [] = ap (λ (l : List ℕ). read_from n (lines l)) (take-nil (17 + k))
 one_line n k ih (b ∷ bs) =
-    read_step (take (17 + k) l) 0 v (first-value 16 (take (17 + k) l) (some 0) ∙ line-of-take 16 k l (some 0)) (rw (suc-add 16 k) (omega arith)) n
+    read_step (take (17 + k) l) v (first-value 16 (take (17 + k) l) (some 0) ∙ line-of-take 16 k l (some 0)) (rw (suc-add 16 k) (omega arith)) n
     ∙ ap (λ (r : Read). cond (ltb 8192 n) (bad_line n) (taken v n r)) (ap (λ (r : List ℕ). read_from (suc n) (lines r)) (drop-take 17 k l) ∙ ih (drop 17 l))
-    ∙ sym (read_step l 0 v (first-value 16 l (some 0)) (omega arith) n)
+    ∙ sym (read_step l v (first-value 16 l (some 0)) (omega arith) n)
   where
     l : List ℕ
     l = b ∷ bs

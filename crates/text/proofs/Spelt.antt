@@ -26,15 +26,15 @@ unfolding hex_text
 hex-digits zero x = refl
 hex-digits (suc n) x = ap₂ (λ (l : List ℕ) (b : ℕ). l ++ (b ∷ [])) (hex-digits n (x / 16)) (glyph-is (x % 16))
 
-pub hex-length : (n x : ℕ) → length (hex_text n x) ≡ n
+pub hex_length : (n x : ℕ) → length (hex_text n x) ≡ n
 unfolding hex_text
-hex-length zero x = refl
-hex-length (suc n) x = length-append (hex_text n (x / 16)) (hex_byte (x % 16) ∷ []) ∙ add-one (length (hex_text n (x / 16))) ∙ ap suc (hex-length n (x / 16))
+hex_length zero x = refl
+hex_length (suc n) x = length-append (hex_text n (x / 16)) (hex_byte (x % 16) ∷ []) ∙ add-one (length (hex_text n (x / 16))) ∙ ap suc (hex_length n (x / 16))
 
 -- the last two digits
-pub hex-byte : (x : ℕ) → hex_text 2 (x % 256) ≡ hex_text 2 x
+pub low_byte : (x : ℕ) → hex_text 2 (x % 256) ≡ hex_text 2 x
 unfolding hex_text
-hex-byte x = ap₂ (λ (m n : ℕ). hex_byte m ∷ hex_byte n ∷ []) (ap (λ (n : ℕ). n % 16) (field x 4 4) ∙ mod-mod (x / 16) 16) (mod-mod-pow x 4 4)
+low_byte x = ap₂ (λ (m n : ℕ). hex_byte m ∷ hex_byte n ∷ []) (ap (λ (n : ℕ). n % 16) (field x 4 4) ∙ mod-mod (x / 16) 16) (mod-mod-pow x 4 4)
 
 -- a number below b^n, where no fewer than n digits are asked for, has n
 fewest-least : (b n x k : ℕ) → 0 < b → x < b ^ n → IsDigitCount b n x k → k ≡ n
@@ -46,9 +46,9 @@ fewest-least b n x k p h f = go (ltb n k) (ltb→lt n k) (nltb→le n k)
         absurd (omega (arith, h, f.2 (u tt), pow-le-pow_right {n = b} p l))
     go false u v = omega (arith, v tt, f.0)
 
-pub hex-spelt : (n x k : ℕ) {s : List ℕ} → 1 ≤ n → n ≤ 16 → x < 16 ^ n → IsDigitCount 16 (min (max n 1) 16) x k → s ≡ last_digits 16 k x → s ≡ hex_text n x
-hex-spelt n x k l u h f e =
-    let g = subst (λ (j : ℕ). IsDigitCount 16 j x k) (width-kept n l u) f in
+pub hex-spelt : (n x k : ℕ) {s : List ℕ} → (1 ≤ n) × (n ≤ 16) → x < 16 ^ n → IsDigitCount 16 (min (max n 1) 16) x k → s ≡ last_digits 16 k x → s ≡ hex_text n x
+hex-spelt n x k w h f e =
+    let g = subst (λ (j : ℕ). IsDigitCount 16 j x k) (width-kept n w.0 w.1) f in
     e ∙ ap (λ (j : ℕ). last_digits 16 j x) (fewest-least 16 n x k (omega arith) h g) ∙ hex-digits n x
   where
     width-kept : (n : ℕ) → 1 ≤ n → n ≤ 16 → min (max n 1) 16 ≡ n
@@ -112,5 +112,5 @@ length_from (suc f) x n h = go (ltb x 10) (nltb→le x 10) n h (length_from f (x
     go false v zero h front = absurd (omega (arith, v tt, h))
     go false v (suc n) h front = rw length-append (omega (arith, front n (tenth x (suc n) h)))
 
-pub decimal-length : (x : ℕ) → x < 2 ^ 64 → length (decimal_text x) ≤ 20
-decimal-length x h = length_from (size x) x 19 (lt_of_lt_of_le h (lit≤ tt))
+pub decimal_length : (x : ℕ) → x < 2 ^ 64 → length (decimal_text x) ≤ 20
+decimal_length x h = length_from (size x) x 19 (lt_of_lt_of_le h (lit≤ tt))

@@ -1,102 +1,116 @@
 // What the program writes: a text of at most 64 bytes, put together by value.
 ghost use Rattle.std.specs.Prelude.{[], ◌∷◌, ◌++◌, ◌≡◌, ◌+◌, ◌^◌, ◌≤◌, ◌<◌, length};
-ghost use Rattle.totals_spec.specs.Program.{hex_text, decimal_text, pence_text, refused_text, line_end};
-ghost use Rattle.text.specs.Holds.{Holds, Puts};
-ghost use Rattle.text.specs.FourLines.{pence_from, four_lines};
+ghost use Rattle.totals_spec.specs.Program.{hex_text, decimal_text, refused_text, line_end};
+ghost use Rattle.text.specs.FourLines.{figure_text, four_lines};
 
-use limbs::word::magnitude;
+use arrayvec::ArrayVec;
+use std::marker::Model;
 
-#[derive(Clone, Copy)]
+// Contracts see a text as its bytes.
+#[derive(Drop)]
 pub struct Text {
-    pub length: usize,
-    pub bytes: [u8; 64],
+    bytes: ArrayVec<u8, 64>,
 }
 
-fn empty() -> Text
-    ensures { Holds result [] }
-{
-    Text {
-        length: 0,
-        bytes: [0u8; 64],
+impl Model for Text {
+    ghost use Rattle.std.specs.Prelude.{ℕ, List};
+
+    ghost Value = { List ℕ };
+
+    ghost view = { λ t. t.bytes.items };
+}
+
+// `write!` returns a Result, and what it promises does not say that it is Ok where the text has room; so the numbers come from `io`.
+impl Text {
+    fn new() -> Self
+        ensures { result ≡ [] }
+    {
+        Text {
+            bytes: ArrayVec::new(),
+        }
     }
-}
 
-fn put_byte(t: Text, b: u8) -> Text
-    requires { t.length < 64 }
-    ensures { Puts t (b ∷ []) result }
-{
-    let at = t.length;
-    let mut bytes = t.bytes;
-    bytes[at] = b;
-    Text {
-        length: at + 1,
-        bytes,
+    pub fn as_bytes(&self) -> &[u8]
+        ensures value { result.now ≡ self.now }
+        ensures fits { length result.now ≤ 64 }
+    {
+        self.bytes.as_slice()
     }
-}
 
-fn put_bytes(t: Text, s: &[u8]) -> Text
-    requires { t.length + length s.now ≤ 64 }
-    ensures { Puts t s.now result }
-{
-    let mut r = t;
-    let mut i: usize = 0;
-    while i < s.len() {
-        r = put_byte(r, s[i]);
-        i += 1;
+    fn byte(mut self, b: u8) -> Self
+        requires { length self < 64 }
+        ensures text { result ≡ self ++ b ∷ [] }
+        ensures len { length result ≡ length self + 1 }
+    {
+        self.bytes.push(b);
+        self
     }
-    r
-}
 
-// A number in `count` hex digits.
-fn put_hex(t: Text, x: u64, count: usize) -> Text
-    requires { (1 ≤ count) × (count ≤ 16) × (x < 16 ^ count) × (t.length + count ≤ 64) }
-    ensures { Puts t (hex_text count x) result }
-{
-    let mut digits = [0u8; 16];
-    let k = io::hex(x, count, &mut digits);
-    put_bytes(t, &digits[..k])
-}
-
-// A number in decimal: at most 20 digits.
-fn put_decimal(t: Text, x: u64) -> Text
-    requires { t.length + 20 ≤ 64 }
-    ensures { Puts t (decimal_text x) result }
-{
-    let mut digits = [0u8; 20];
-    let k = io::decimal(x, &mut digits);
-    put_bytes(t, &digits[..k])
-}
-
-// A figure in pence, or the word none where it is refused.
-fn put_figure(t: Text, figure: i64, refusal: u64) -> Text
-    requires { t.length + 21 ≤ 64 }
-    ensures { Puts t (pence_text (pence_from figure refusal)) result }
-{
-    if refusal != 0 {
-        return put_bytes(t, b"none");
+    fn bytes(mut self, s: &[u8]) -> Self
+        requires { length self + length s.now ≤ 64 }
+        ensures text { result ≡ self ++ s.now }
+        ensures len { length result ≡ length self + length s.now }
+    {
+        for b in s {
+            self.bytes.push(*b);
+        }
+        self
     }
-    let m = magnitude(figure);
-    if figure < 0 {
-        return put_decimal(put_byte(t, b'-'), m);
+
+    // A number in `count` hex digits.
+    fn hex(self, x: u64, count: usize) -> Self
+        requires width { (1 ≤ count) × (count ≤ 16) }
+        requires small { x < 16 ^ count }
+        requires room { length self + count ≤ 64 }
+        ensures text { result ≡ self ++ hex_text count x }
+        ensures len { length result ≡ length self + count }
+    {
+        let mut digits = [0u8; 16];
+        let k = io::hex(x, count, &mut digits);
+        self.bytes(&digits[..k])
     }
-    put_decimal(t, m)
+
+    // A number in decimal: at most 20 digits.
+    fn decimal(self, x: u64) -> Self
+        requires { length self + 20 ≤ 64 }
+        ensures text { result ≡ self ++ decimal_text x }
+        ensures len { length result ≤ length self + 20 }
+    {
+        let mut digits = [0u8; 20];
+        let k = io::decimal(x, &mut digits);
+        self.bytes(&digits[..k])
+    }
+
+    // A figure in pence, or the word none where there is none.
+    fn pence(self, pence: Option<i64>) -> Self
+        requires { length self + 21 ≤ 64 }
+        ensures text { result ≡ self ++ figure_text pence }
+        ensures len { length result ≤ length self + 21 }
+    {
+        match pence {
+            None => self.bytes(b"none"),
+            Some(figure) if figure < 0 => self.byte(b'-').decimal(figure.unsigned_abs()),
+            Some(figure) => self.decimal(figure.unsigned_abs()),
+        }
+    }
 }
 
 // The answer to a bad line, counted from 1.
 pub fn refused_line(n: usize) -> Text
-    ensures { Holds result (refused_text ++ (decimal_text n ++ line_end)) }
+    ensures { result ≡ refused_text ++ (decimal_text n ++ line_end) }
 {
-    let words = put_bytes(empty(), b"refused line ");
-    let number = put_decimal(words, n as u64);
-    put_byte(number, b'\n')
+    Text::new()
+        .bytes(b"refused line ")
+        .decimal(n as u64)
+        .byte(b'\n')
 }
 
 // The four lines of an answer: of its flags the last two hex digits.
-pub fn answer_lines(res: u64, flags: u64, passes: u64, figure: i64, refusal: u64) -> Text
-    ensures { Holds result (four_lines res flags passes (pence_from figure refusal)) }
+pub fn answer_lines(res: u64, flags: u64, passes: u64, pence: Option<i64>) -> Text
+    ensures { result ≡ four_lines res flags passes pence }
 {
-    let first = put_byte(put_hex(empty(), res, 16), b'\n');
-    let second = put_byte(put_hex(first, flags % 256, 2), b'\n');
-    let third = put_byte(put_decimal(second, passes), b'\n');
-    put_byte(put_figure(third, figure, refusal), b'\n')
+    let first = Text::new().hex(res, 16).byte(b'\n');
+    let second = first.hex(flags % 256, 2).byte(b'\n');
+    let third = second.decimal(passes).byte(b'\n');
+    third.pence(pence).byte(b'\n')
 }

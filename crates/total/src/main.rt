@@ -6,8 +6,19 @@ ghost use Rattle.std.specs.Prelude.{◌≤◌, length, IfOk};
 use std::io;
 use std::io::{Read, Write};
 use text::answer_text;
+use thiserror::Error;
 
-// Reads until the buffer is full or the input ends, and returns how many bytes there are.
+// Which end failed.
+#[derive(Debug, Drop, Error)]
+enum Failure {
+    #[error("standard input: {0}")]
+    Input(io::Error),
+    #[error("standard output: {0}")]
+    Output(io::Error),
+}
+
+// Reads until the buffer is full or the input ends, and returns how many bytes there are. std's `read_to_end` does so with a Vec, and the program has
+// no heap; its `read_exact` takes an input that ends early for an error.
 fn read_full<R: Read>(input: &mut R, buffer: &mut [u8]) -> io::Result<usize>
     ensures { IfOk result (λ n. n ≤ length buffer.new) }
 {
@@ -22,27 +33,19 @@ fn read_full<R: Read>(input: &mut R, buffer: &mut [u8]) -> io::Result<usize>
     Ok(done)
 }
 
-// Says on standard error which end failed. Where that fails too, there is nobody left to tell.
-fn tell(rt: &HostRuntime, end: &str, e: io::Error) {
-    if let Err(told) = eprintln!(rt; "total: standard {end}: {e}") {
-        drop(told);
-    }
+// 8,192 lines of 17 bytes and one byte more decide the answer: no more is read.
+fn run(rt: &HostRuntime) -> Result<(), Failure> {
+    let mut input = [0u8; 139265];
+    let n = read_full(&mut rt.stdin(), &mut input).map_err(Failure::Input)?;
+    let text = answer_text(&input[..n]);
+    rt.stdout()
+        .write_all(text.as_bytes())
+        .map_err(Failure::Output)
 }
 
-// 8,192 lines of 17 bytes and one byte more decide the answer: no more is read.
+// Says on standard error which end failed. Where that fails too, there is nobody left to tell; the program ends with status 0 all the same.
 fn main(rt: HostRuntime) {
-    let mut input = [0u8; 139265];
-    let n = match read_full(&mut rt.stdin(), &mut input) {
-        Ok(n) => n,
-        Err(e) => {
-            tell(&rt, "input", e);
-            return;
-        }
-    };
-    let t = answer_text(&input[..n]);
-    let bytes = t.bytes;
-    let length = t.length;
-    if let Err(e) = rt.stdout().write_all(&bytes[..length]) {
-        tell(&rt, "output", e);
+    if let Err(failure) = run(&rt) {
+        let _ = eprintln!(rt; "total: {failure}");
     }
 }
