@@ -110,7 +110,7 @@ fn plain_significand(f: Format, b: u64) -> u64
     power(fraction_bits(f)) + fraction_of(f, b)
 }
 
-// The term of an operand. This and `operand_pair` are inlined: a call would take 4 % off a sum.
+// The term of an operand. This and `operand_pair` are inlined into the loops over elements that take a closer look.
 #[inline(always)]
 #[tactic(auto, unfolding(crate::specs::Joined::magnitude))]
 fn operand_term(u: u64, v: Unpacked) -> Term
