@@ -1,5 +1,5 @@
 -- By the tests of the lengths, the refusal, and the total. The bias is the number that its 64 bits are read as.
-use Rattle.std.proofs.Common.{◌≡◌, refl, sym, ap, ◌∙◌}
+use Rattle.std.proofs.Common.{sym, ap, ◌∙◌}
 use Rattle.totals_spec.specs.Settings.{summand_of}
 use Rattle.totals_spec.proofs.Extended.{extended-dot-accepts}
 use Rattle.totals_spec.proofs.ExtendedCalls.{tens-values}

@@ -1,5 +1,5 @@
 -- By the tests of the lengths, the refusal, and the total. The bias is the number that its 64 bits are read as.
-use Rattle.std.proofs.Common.{◌≡◌, refl, sym, ap, ◌∙◌}
+use Rattle.std.proofs.Common.{refl, sym, ap, ◌∙◌}
 use Rattle.limbs.proofs.Signs.{read}
 use Rattle.format.specs.Joined.{format_of, settings_of}
 use Rattle.totals.specs.Entered.{format_with}

@@ -1,5 +1,5 @@
 -- A whole list as the source of the walk, which is of no wide format.
-use Rattle.std.proofs.Common.{◌≡◌, ◌/◌, ℕ, List, length, eqb, refl, sym, ap, ◌∙◌, arith, false}
+use Rattle.std.proofs.Common.{◌/◌, length, eqb, sym, ap, ◌∙◌, arith, false}
 use Rattle.totals_spec.proofs.Values.{values_length}
 use Rattle.format.specs.Joined.{format_of, settings_of}
 use Rattle.values.proofs.Sources.{whole-gives, whole-straight}

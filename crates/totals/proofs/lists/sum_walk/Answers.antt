@@ -1,5 +1,5 @@
 -- The list as the source of the walk, which is of no wide format.
-use Rattle.std.proofs.Common.{◌≡◌, ◌/◌, ℕ, List, length, refl, sym, ap, ◌∙◌, arith, false}
+use Rattle.std.proofs.Common.{◌/◌, length, refl, sym, arith, false}
 use Rattle.totals_spec.proofs.Values.{values_length}
 use Rattle.format.specs.Joined.{format_of, settings_of}
 use Rattle.values.proofs.Sources.{whole-gives, whole-straight}

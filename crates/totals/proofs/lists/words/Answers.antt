@@ -1,7 +1,7 @@
 -- A whole list as the source of the walk, which is of no wide format.
-use Rattle.std.proofs.Common.{◌≡◌, ◌/◌, ℕ, List, length, eqb, refl, sym, ap, ◌∙◌, arith, false}
+use Rattle.std.proofs.Common.{length, eqb, refl, sym, ap, ◌∙◌, arith, false}
 use Rattle.format.specs.Joined.{format_of, settings_of}
-use Rattle.values.proofs.Sources.{whole-gives, whole-straight}
+use Rattle.values.proofs.Sources.{whole-gives}
 use Rattle.values.proofs.Walks.{narrow, narrow-known, narrow-tens}
 use Rattle.totals.proofs.Answers.{walk-format}
 use Rattle.totals.proofs.Listed.{total-asked, total-told}

@@ -1,6 +1,5 @@
 -- By the format and the count, and then by the list.
-use Rattle.std.proofs.Common.{◌≡◌, refl, sym, ◌∙◌, true}
-use Rattle.totals_spec.specs.Format.{valid_format}
+use Rattle.std.proofs.Common.{refl, sym, ◌∙◌}
 use Rattle.totals_spec.proofs.Bits.{T_of}
 use Rattle.totals_spec.proofs.Valid.{format-bounds}
 use Rattle.totals.proofs.Counted.{no-format, too_many, list-pence}

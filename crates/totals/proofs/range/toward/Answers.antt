@@ -1,9 +1,8 @@
 -- A sum of finite doubles passes the tests, and its zero loses its sign.
-use Rattle.std.proofs.Common.{◌≡◌, ◌≢◌, ℕ, Bool, cond, ◌^◌, ◌≤◌, ◌<◌, refl, sym, ap, ◌∙◌, arith, rules, le-leb, le-ltb, eq-eqb, ne_eqb}
+use Rattle.std.proofs.Common.{◌≡◌, ◌≢◌, ℕ, Bool, cond, ◌^◌, ◌≤◌, ◌<◌, refl, sym, ap, ◌∙◌, arith, le-leb, le-ltb, eq-eqb, ne_eqb}
 use Rattle.totals_spec.specs.Format.{binary64, valid_format}
 use Rattle.totals_spec.specs.Settings.{with_rounding, valid_settings}
 use Rattle.totals_spec.specs.Totals.{Answer, limit}
-use Rattle.totals_spec.specs.Table.{plain_total}
 use Rattle.totals_spec.specs.Ranges.{plus_zero}
 use Rattle.totals.specs.Refusal.{sum_numbers}
 use Rattle.totals.proofs.range.toward.Goals as goal

@@ -1,5 +1,5 @@
 -- The element of a turn is the one at the place, by which the search goes on or ends.
-use Rattle.std.proofs.Common.{◌≡◌, ◌+◌, ◌*◌, ◌<◌, ℕ, List, length, get_or, refl, arith, ◌∙◌}
+use Rattle.std.proofs.Common.{◌<◌, length, refl, arith, ◌∙◌}
 use Rattle.values.specs.Sources.{elements}
 use Rattle.values.proofs.Sources.{elements-length, elements-small, element-is, next_place}
 use Rattle.totals.proofs.Search.{clear_next, clear-found, clear-end, word_wide}
