@@ -16,8 +16,11 @@ listed-requires-clause-known c =
 
 pub listed-requires-clause-within : goal.listed-requires-clause-within
 listed-requires-clause-within c =
-    let b = c.args.values.now in
-    ((whole-gives 1 _ b {count = length b / 8} (sym (values_length b)) (omega arith)).within, (whole-gives 1 _ b {count = length b / 8} (sym (values_length b)) (omega arith)).within, λ _. whole-straight 1 _)
+    let b = c.args.values.now in (
+      (whole-gives 1 _ b {count = length b / 8} (sym (values_length b)) (omega arith)).within,
+      (whole-gives 1 _ b {count = length b / 8} (sym (values_length b)) (omega arith)).within,
+      λ _. whole-straight 1 _,
+    )
 
 pub listed-requires-clause-list_asks : goal.listed-requires-clause-list_asks
 listed-requires-clause-list_asks c = total-asked (format_of c.args.f) (settings_of c.args.c) 0 (length c.args.values.now / 8) c.requires _ _

@@ -15,8 +15,11 @@ returns-then-values-gt-LIMIT c =
 pub pence-requires : goal.pence-requires
 pence-requires c =
     let valid = sym c.valid_format.ensures ∙ c.if-not-valid_format.false in
-    let e = c.default.ensures in
-    (format-bounds _ (T_of valid), rw (e.0, e.1.0, e.1.1.0, e.1.1.1.0, e.1.1.1.1.0, e.1.1.1.1.1.0, e.1.1.1.1.1.1.0, e.1.1.1.1.1.1.1) refl, c.if-values-gt-LIMIT.false)
+    let e = c.default.ensures in (
+      format-bounds _ (T_of valid),
+      rw (e.0, e.1.0, e.1.1.0, e.1.1.1.0, e.1.1.1.1.0, e.1.1.1.1.1.0, e.1.1.1.1.1.1.0, e.1.1.1.1.1.1.1) refl,
+      c.if-values-gt-LIMIT.false,
+    )
 
 pub returns : goal.returns
 returns c =

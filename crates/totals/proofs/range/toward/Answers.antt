@@ -22,18 +22,21 @@ pub words-a-requires-clause-left_value : goal.words-a-requires-clause-left_value
 unfolding with_rounding
 words-a-requires-clause-left_value c =
     let e = c.default.ensures in
-    rw (c.binary64.ensures, e.1.0, e.1.1.0, e.1.1.1.0, e.1.1.1.1.0, e.1.1.1.1.1.0, e.1.1.1.1.1.1.0, e.1.1.1.1.1.1.1) (passes c.args.rounding _ c.requires.1 c.requires.0)
+    rw (c.binary64.ensures, e.1.0, e.1.1.0, e.1.1.1.0, e.1.1.1.1.0, e.1.1.1.1.1.0, e.1.1.1.1.1.1.0, e.1.1.1.1.1.1.1)
+    (passes c.args.rounding _ c.requires.1 c.requires.0)
 
 pub returns-then-a : goal.returns-then-a
 unfolding with_rounding
 returns-then-a c =
     let e = c.default.ensures in
-    let is = rw (c.binary64.ensures, e.1.0, e.1.1.0, e.1.1.1.0, e.1.1.1.1.0, e.1.1.1.1.1.0, e.1.1.1.1.1.1.0, e.1.1.1.1.1.1.1) at (ap (λ (a : Answer). a.result) c.words-a.ensures) in
+    let is = rw (c.binary64.ensures, e.1.0, e.1.1.0, e.1.1.1.0, e.1.1.1.1.0, e.1.1.1.1.1.0, e.1.1.1.1.1.1.0, e.1.1.1.1.1.1.1)
+    at (ap (λ (a : Answer). a.result) c.words-a.ensures) in
     sign-lost _ (sym is ∙ c.if-a.true)
 
 pub returns-else-a : goal.returns-else-a
 unfolding with_rounding
 returns-else-a c =
     let e = c.default.ensures in
-    let is = rw (c.binary64.ensures, e.1.0, e.1.1.0, e.1.1.1.0, e.1.1.1.1.0, e.1.1.1.1.1.0, e.1.1.1.1.1.1.0, e.1.1.1.1.1.1.1) at (ap (λ (a : Answer). a.result) c.words-a.ensures) in
+    let is = rw (c.binary64.ensures, e.1.0, e.1.1.0, e.1.1.1.0, e.1.1.1.1.0, e.1.1.1.1.1.0, e.1.1.1.1.1.1.0, e.1.1.1.1.1.1.1)
+    at (ap (λ (a : Answer). a.result) c.words-a.ensures) in
     is ∙ number-kept _ (λ z. c.if-a.false (is ∙ z))
