@@ -2,7 +2,7 @@
 use mathlib.Core.Path.{◌≡◌, refl, sym, ap, ap₂, ◌∙◌, subst}
 use mathlib.Core.Logic.{◌≢◌}
 use mathlib.Core.Bool.{Bool, true, false, not, ◌&&◌, cond, true≢false}
-use Prim.Native.Nat.{ℕ, zero, suc, ◌+◌, ◌/◌, ◌%◌, ◌^◌, ◌≤◌, ◌<◌}
+use Prim.Native.Nat.{ℕ, ◌+◌, ◌/◌, ◌%◌, ◌^◌, ◌≤◌, ◌<◌}
 use native.Mathlib.Nat.{div-eq_of_lt, mod-eq_of_lt}
 use native.Mathlib.Omega.{arith}
 use lib.Dec.{T, eqb, leb}
@@ -13,7 +13,7 @@ use borrow.Author.Tests.{le-leb, lt-leb, leb-true, leb-false, eq-eqb, ne_eqb, eq
 use Rattle.totals_spec.specs.Format.{binary64}
 use Rattle.totals_spec.specs.Decode.{Unpacked, zero_of, finite, infinity, nan, sign_bit, field_of, fraction_of, decode, is_number, is_nan}
 use Rattle.totals_spec.specs.Totals.{stray}
-use Rattle.totals_spec.specs.Ranges.{amount_of, known, between, missing, figure_worth, at_most, good_figure, good_amount}
+use Rattle.totals_spec.specs.Ranges.{amount_of, known, between, figure_worth, at_most, good_figure}
 use Rattle.totals_spec.proofs.Valid.{and_right}
 use Rattle.totals_spec.proofs.Monotone.{ordered_bits, figures-ordered}
 

@@ -11,7 +11,7 @@ use lib.Dec.{T, ltb, eqb}
 use lib.Ieee.{Float, nan, inf, fin, to_bits, of_bits}
 use lib.Ieee as ieee
 use lib.ListN.{length, get_or, set, drop, length-map}
-use lib.Seq.{paste, paste-suc, length-paste, drop-paste, get_or-drop, take_all, drop-length}
+use lib.Seq.{paste, paste-suc, drop-paste, get_or-drop, take_all, drop-length}
 use borrow.Author.Tests.{eq-eqb, ne_eqb, lt-ltb, le-ltb}
 use Rattle.totals_spec.specs.Basics.{any}
 use Rattle.totals_spec.specs.Format.{binary64}

@@ -3,7 +3,6 @@ use Rattle.std.specs.Prelude.{Bool, not, ◌&&◌, ℕ, leb, ltb, eqb, Result, O
 use Rattle.totals_spec.specs.Format.{Format, valid_format}
 use Rattle.totals_spec.specs.Settings.{Settings, valid_settings}
 use Rattle.totals_spec.specs.Totals.{refuse_if, limit}
-use Rattle.totals_spec.specs.Extended.{extended, valid_extended}
 use Rattle.totals.specs.declared.refusal.Refusal.{Refusal}
 use Rattle.totals.specs.declared.refusal.Refusal.TheVariants.{UnevenLength, ShortBuffer, NoSuchFormat, SettingOutOfRange, DifferentLengths}
 use Rattle.totals.specs.declared.refusal.Refusal.TheVariants.{TooManyElements, StrayBit, NoPence, BadShape, NoRoom, BadAmount, NotAPage, BadSpan}

@@ -1,5 +1,5 @@
 -- The total where no test refuses it, and the record of the refusal that a test gives.
-use Rattle.std.proofs.Common.{refl, sym, ◌∙◌, arith}
+use Rattle.std.proofs.Common.{sym, ◌∙◌, arith}
 use Rattle.totals_spec.proofs.Values.{values_length}
 use Rattle.totals.proofs.Answers.{dot-stopped, alike}
 use Rattle.totals.proofs.dot_bytes.Goals as goal

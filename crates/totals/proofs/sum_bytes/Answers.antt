@@ -1,5 +1,5 @@
 -- The total where no test refuses it, and the record of the refusal that a test gives.
-use Rattle.std.proofs.Common.{refl, sym, ◌∙◌}
+use Rattle.std.proofs.Common.{sym, ◌∙◌}
 use Rattle.totals_spec.proofs.Values.{values_length}
 use Rattle.totals.proofs.Answers.{sum-stopped, sum-asked, sum_told}
 use Rattle.totals.proofs.sum_bytes.Goals as goal

@@ -1,5 +1,5 @@
 -- By the tests of the lengths, the refusal, and the total. The bias is the number that its 64 bits are read as.
-use Rattle.std.proofs.Common.{◌≡◌, refl, sym, ap, ◌∙◌}
+use Rattle.std.proofs.Common.{sym, ap, ◌∙◌}
 use Rattle.totals_spec.specs.Settings.{summand_of}
 use Rattle.totals_spec.proofs.Extended.{extended-dot-accepts}
 use Rattle.totals_spec.proofs.ExtendedCalls.{tens-values}
@@ -24,7 +24,8 @@ returns-in-Err c =
     let a = c.args in
     let format = c.format_with-f.ensures ∙ ap (format_with 4 a.exponent_bits a.width a.named) (read a.bias c.ranges.bias.sfits) in
     rw (format, c.settings-c.ensures) at
-    (dot-refused (format_of c.format_with-f.result) (settings_of c.settings-c.result) a.left.now a.right.now a.answer.now c.if-left-ne0.false c.if-right-ne0.false c.if-answer-lt32.false _
+    (dot-refused (format_of c.format_with-f.result) (settings_of c.settings-c.result) a.left.now a.right.now a.answer.now
+    c.if-left-ne0.false c.if-right-ne0.false c.if-answer-lt32.false _
     (c.number.ensures ∙ c.in-Err.ensures {u = tt}) (λ z. number-some c.in-Err.refusal (sym c.number.ensures ∙ z)))
 
 pub total-requires : goal.total-requires
@@ -45,4 +46,5 @@ returns c =
     let passed = sym (c.in_default.ensures {u = tt}) in
     let format = c.format_with-f.ensures ∙ ap (format_with 4 a.exponent_bits a.width a.named) (read a.bias c.ranges.bias.sfits) in
     rw (format, c.settings-c.ensures) at
-    (dot-written _ _ _ _ _ c.if-left-ne0.false c.if-right-ne0.false _ (c.total.ensures ∙ dot-told _ _ _ _ (summand_of 3) passed) c.if-answer-lt32.false passed _ c.enter_tens.ensures)
+    (dot-written _ _ _ _ _ c.if-left-ne0.false c.if-right-ne0.false _
+    (c.total.ensures ∙ dot-told _ _ _ _ (summand_of 3) passed) c.if-answer-lt32.false passed _ c.enter_tens.ensures)

@@ -1,5 +1,5 @@
 -- By the tests of the lengths, the refusal, and the total. The bias is the number that its 64 bits are read as.
-use Rattle.std.proofs.Common.{◌≡◌, refl, sym, ap, ◌∙◌}
+use Rattle.std.proofs.Common.{refl, sym, ap, ◌∙◌}
 use Rattle.limbs.proofs.Signs.{read}
 use Rattle.format.specs.Joined.{format_of, settings_of}
 use Rattle.totals.specs.Entered.{format_with}
@@ -18,7 +18,8 @@ returns-in-Err c =
     let a = c.args in
     let format = c.format_with-f.ensures ∙ ap (format_with 4 a.exponent_bits a.width a.named) (read a.bias c.ranges.bias.sfits) in
     rw (format, c.settings-c.ensures) at
-    (sum-refused (format_of c.format_with-f.result) (settings_of c.settings-c.result) a.summand a.values.now a.answer.now c.if-values-ne0.false c.if-answer-lt32.false _
+    (sum-refused (format_of c.format_with-f.result) (settings_of c.settings-c.result) a.summand a.values.now a.answer.now
+    c.if-values-ne0.false c.if-answer-lt32.false _
     (c.number.ensures ∙ c.in-Err.ensures {u = tt}) (λ z. number-some c.in-Err.refusal (sym c.number.ensures ∙ z)))
 
 pub total-requires : goal.total-requires

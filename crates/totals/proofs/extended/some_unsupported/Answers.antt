@@ -1,7 +1,6 @@
 -- The question by the two searches.
-use Rattle.std.proofs.Common.{◌≡◌, sym, ◌∙◌, ◌&&◌, ◌||◌, eqb, eq-eqb}
-use Rattle.totals_spec.specs.Basics.{any}
-use Rattle.totals_spec.specs.Extended.{unsupported, tens_in}
+use Rattle.std.proofs.Common.{sym, ◌∙◌, eqb, eq-eqb}
+use Rattle.totals_spec.specs.Extended.{unsupported}
 use Rattle.totals_spec.proofs.ExtendedCalls.{tens-values}
 use Rattle.totals.proofs.Tens.{any-tens}
 use Rattle.totals.proofs.extended.some_unsupported.Goals as goal

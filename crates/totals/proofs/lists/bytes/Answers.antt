@@ -1,5 +1,5 @@
 -- A whole list as the source of the walk, which is of no wide format.
-use Rattle.std.proofs.Common.{◌≡◌, ◌/◌, ℕ, List, length, eqb, refl, sym, ap, ◌∙◌, arith, false}
+use Rattle.std.proofs.Common.{◌/◌, length, eqb, sym, ap, ◌∙◌, arith, false}
 use Rattle.totals_spec.proofs.Values.{values_length}
 use Rattle.format.specs.Joined.{format_of, settings_of}
 use Rattle.values.proofs.Sources.{whole-gives, whole-straight}
@@ -16,7 +16,12 @@ listed-requires-clause-known c =
     (narrow-known (format_of a.f) b, narrow-tens (format_of a.f) b _ _ _)
 
 pub listed-requires-clause-within : goal.listed-requires-clause-within
-listed-requires-clause-within c = let a = c.args in ((whole-gives 1 _ a.left.now {count = length a.left.now / 8} (sym (values_length a.left.now)) (omega arith)).within, (whole-gives 1 _ a.right.now {count = length a.left.now / 8} (sym (values_length a.right.now ∙ c.requires.right_len)) (omega arith)).within, λ _. whole-straight 1 _)
+listed-requires-clause-within c =
+    let a = c.args in (
+      (whole-gives 1 _ a.left.now {count = length a.left.now / 8} (sym (values_length a.left.now)) (omega arith)).within,
+      (whole-gives 1 _ a.right.now {count = length a.left.now / 8} (sym (values_length a.right.now ∙ c.requires.right_len)) (omega arith)).within,
+      λ _. whole-straight 1 _,
+    )
 
 pub listed-requires-clause-list_asks : goal.listed-requires-clause-list_asks
 listed-requires-clause-list_asks c =
@@ -30,4 +35,8 @@ returns c =
     let b = walk-format (eqb a.u 3) f (settings_of a.c) a.u _ c.requires.left_value in
     c.from.ensures ∙ ap (answer_in false) c.report_of.ensures
     ∙ total-told f (settings_of a.c) a.u (length a.left.now / 8) c.requires.left_value _ _ _
-    (rw (narrow f b, (whole-gives 1 _ a.left.now {count = length a.left.now / 8} (sym (values_length a.left.now)) (omega arith)).are, (whole-gives 1 _ a.right.now {count = length a.left.now / 8} (sym (values_length a.right.now ∙ c.requires.right_len)) (omega arith)).are) at c.listed.ensures.0)
+    (rw (
+      narrow f b,
+      (whole-gives 1 _ a.left.now {count = length a.left.now / 8} (sym (values_length a.left.now)) (omega arith)).are,
+      (whole-gives 1 _ a.right.now {count = length a.left.now / 8} (sym (values_length a.right.now ∙ c.requires.right_len)) (omega arith)).are,
+    ) at c.listed.ensures.0)

@@ -1,5 +1,5 @@
 -- A column as the source of the walk, which is of no wide format.
-use Rattle.std.proofs.Common.{◌≡◌, ◌+◌, ◌*◌, ◌<◌, ◌≤◌, ◌^◌, ℕ, List, length, refl, sym, ap, ◌∙◌, arith, false}
+use Rattle.std.proofs.Common.{◌≡◌, ℕ, List, ap, ◌∙◌, false}
 use Rattle.totals_spec.specs.Table.{column_of}
 use Rattle.format.specs.Joined.{format_of, settings_of}
 use Rattle.values.specs.Sources.{source_of, elements}

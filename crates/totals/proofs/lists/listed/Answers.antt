@@ -1,5 +1,5 @@
 -- By the search for a stray bit.
-use Rattle.std.proofs.Common.{◌≡◌, ℕ, List, length, eqb, refl, sym}
+use Rattle.std.proofs.Common.{eqb, refl, sym}
 use Rattle.format.specs.Joined.{format_of, settings_of}
 use Rattle.values.specs.Sources.{source_of}
 use Rattle.values.specs.Walks.{wide, read_as}

@@ -1,5 +1,5 @@
 -- The list as the source of the walk, which is of no wide format.
-use Rattle.std.proofs.Common.{◌≡◌, ℕ, List, length, refl, ap, ◌∙◌, arith}
+use Rattle.std.proofs.Common.{length, refl, ap, ◌∙◌, arith}
 use Rattle.format.specs.Joined.{format_of}
 use Rattle.values.proofs.Sources.{whole-gives}
 use Rattle.values.proofs.Walks.{narrow}

@@ -1,5 +1,5 @@
 -- The list as the source of the walk, which is of no wide format.
-use Rattle.std.proofs.Common.{◌≡◌, ◌/◌, ℕ, List, length, refl, sym, ap, ◌∙◌, arith, false}
+use Rattle.std.proofs.Common.{◌/◌, length, refl, sym, arith, false}
 use Rattle.totals_spec.proofs.Values.{values_length}
 use Rattle.format.specs.Joined.{format_of, settings_of}
 use Rattle.values.proofs.Sources.{whole-gives, whole-straight}
@@ -16,8 +16,11 @@ listed-requires-clause-known c =
 
 pub listed-requires-clause-within : goal.listed-requires-clause-within
 listed-requires-clause-within c =
-    let b = c.args.values.now in
-    ((whole-gives 1 _ b {count = length b / 8} (sym (values_length b)) (omega arith)).within, (whole-gives 1 _ b {count = length b / 8} (sym (values_length b)) (omega arith)).within, λ _. whole-straight 1 _)
+    let b = c.args.values.now in (
+      (whole-gives 1 _ b {count = length b / 8} (sym (values_length b)) (omega arith)).within,
+      (whole-gives 1 _ b {count = length b / 8} (sym (values_length b)) (omega arith)).within,
+      λ _. whole-straight 1 _,
+    )
 
 pub listed-requires-clause-list_asks : goal.listed-requires-clause-list_asks
 listed-requires-clause-list_asks c = total-asked (format_of c.args.f) (settings_of c.args.c) 0 (length c.args.values.now / 8) c.requires _ _

@@ -1,5 +1,5 @@
 -- The lists as the source of the walk, which is of the one wide format.
-use Rattle.std.proofs.Common.{◌≡◌, ◌/◌, ℕ, List, length, refl, sym, ap, ◌∙◌, arith, true}
+use Rattle.std.proofs.Common.{◌/◌, length, refl, sym, ap, ◌∙◌, arith, true}
 use Rattle.format.specs.Joined.{format_of, settings_of}
 use Rattle.values.proofs.Sources.{whole-straight}
 use Rattle.totals.specs.Reported.{answer_in}

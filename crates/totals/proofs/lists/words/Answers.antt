@@ -1,7 +1,7 @@
 -- A whole list as the source of the walk, which is of no wide format.
-use Rattle.std.proofs.Common.{◌≡◌, ◌/◌, ℕ, List, length, eqb, refl, sym, ap, ◌∙◌, arith, false}
+use Rattle.std.proofs.Common.{length, eqb, refl, sym, ap, ◌∙◌, arith, false}
 use Rattle.format.specs.Joined.{format_of, settings_of}
-use Rattle.values.proofs.Sources.{whole-gives, whole-straight}
+use Rattle.values.proofs.Sources.{whole-gives}
 use Rattle.values.proofs.Walks.{narrow, narrow-known, narrow-tens}
 use Rattle.totals.proofs.Answers.{walk-format}
 use Rattle.totals.proofs.Listed.{total-asked, total-told}
@@ -26,4 +26,8 @@ returns c =
     let b = walk-format (eqb a.u 3) f (settings_of a.c) a.u _ c.requires.left_value in
     c.from.ensures ∙ ap (answer_in false) c.report_of.ensures
     ∙ total-told f (settings_of a.c) a.u (length a.left.now) c.requires.left_value _ _ _
-    (rw (narrow f b, (whole-gives 0 a.left.now _ {count = length a.left.now} refl (omega arith)).are, (whole-gives 0 a.right.now _ {count = length a.left.now} (sym c.requires.right_len) (omega arith)).are) at c.listed.ensures.0)
+    (rw (
+      narrow f b,
+      (whole-gives 0 a.left.now _ {count = length a.left.now} refl (omega arith)).are,
+      (whole-gives 0 a.right.now _ {count = length a.left.now} (sym c.requires.right_len) (omega arith)).are,
+    ) at c.listed.ensures.0)

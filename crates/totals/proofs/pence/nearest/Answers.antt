@@ -1,5 +1,5 @@
 -- By where its highest bit stands.
-use Rattle.std.proofs.Common.{◌≡◌, ◌+◌, ◌-◌, ◌≤◌, ◌<◌, ◌^◌, ap₂, refl, ◌∙◌, arith, false}
+use Rattle.std.proofs.Common.{◌≡◌, ◌+◌, ◌-◌, ◌≤◌, ap₂, refl, ◌∙◌, arith, false}
 use Rattle.totals_spec.specs.Format.{origin, fall}
 use Rattle.totals_spec.proofs.Nearest.{penny}
 use Rattle.format.specs.Joined.{format_of}

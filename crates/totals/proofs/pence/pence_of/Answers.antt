@@ -1,6 +1,5 @@
 -- By the format, and by whether the encoding has a stray bit.
-use Rattle.std.proofs.Common.{◌≡◌, sym, ◌∙◌, true}
-use Rattle.totals_spec.specs.Format.{valid_format}
+use Rattle.std.proofs.Common.{sym, ◌∙◌}
 use Rattle.totals_spec.specs.Pence.{figure_of}
 use Rattle.totals_spec.proofs.Bits.{T_of}
 use Rattle.totals_spec.proofs.Valid.{format-bounds}

@@ -1,6 +1,5 @@
 -- By the format and the count, and then by the list.
-use Rattle.std.proofs.Common.{◌≡◌, refl, sym, ◌∙◌, true}
-use Rattle.totals_spec.specs.Format.{valid_format}
+use Rattle.std.proofs.Common.{refl, sym, ◌∙◌}
 use Rattle.totals_spec.proofs.Bits.{T_of}
 use Rattle.totals_spec.proofs.Valid.{format-bounds}
 use Rattle.totals.proofs.Counted.{no-format, too_many, list-pence}
@@ -16,8 +15,11 @@ returns-then-values-gt-LIMIT c =
 pub pence-requires : goal.pence-requires
 pence-requires c =
     let valid = sym c.valid_format.ensures ∙ c.if-not-valid_format.false in
-    let e = c.default.ensures in
-    (format-bounds _ (T_of valid), rw (e.0, e.1.0, e.1.1.0, e.1.1.1.0, e.1.1.1.1.0, e.1.1.1.1.1.0, e.1.1.1.1.1.1.0, e.1.1.1.1.1.1.1) refl, c.if-values-gt-LIMIT.false)
+    let e = c.default.ensures in (
+      format-bounds _ (T_of valid),
+      rw (e.0, e.1.0, e.1.1.0, e.1.1.1.0, e.1.1.1.1.0, e.1.1.1.1.1.0, e.1.1.1.1.1.1.0, e.1.1.1.1.1.1.1) refl,
+      c.if-values-gt-LIMIT.false,
+    )
 
 pub returns : goal.returns
 returns c =

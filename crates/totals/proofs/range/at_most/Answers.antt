@@ -1,5 +1,5 @@
 -- By the signs.
-use Rattle.std.proofs.Common.{◌≡◌, sym, ◌∙◌, ◌<◌, ◌≤◌, arith, ne_eqb}
+use Rattle.std.proofs.Common.{◌∙◌, arith, ne_eqb}
 use Rattle.totals.proofs.RangeFigures.{both-plus, plus-minus, zero_minus, minus_plus, both-minus}
 use Rattle.totals.proofs.range.at_most.Goals as goal
 

@@ -1,4 +1,3 @@
-use Rattle.std.proofs.Common.{refl}
 use lib.Ieee.{of_bits, to_bits}
 use Rattle.totals.proofs.range.low_of.Goals as goal
 

@@ -1,6 +1,6 @@
 -- Test by test.
-use Rattle.std.proofs.Common.{◌≡◌, sym, ap, ◌∙◌, not, true, false}
-use Rattle.totals.proofs.RangeSettled.{bad, first-unequal, second-unequal, too_many, by-ceiling, by_entries, all-passed}
+use Rattle.std.proofs.Common.{sym, ap, ◌∙◌, not}
+use Rattle.totals.proofs.RangeSettled.{first-unequal, second-unequal, too_many, by-ceiling, by_entries, all-passed}
 use Rattle.totals.proofs.range.range_refusal.Goals as goal
 use Rattle.totals.proofs.range.range_refusal.Goals.{then-firsts-n-via-then-firsts-n, then-firsts-n-via-else-firsts-n+then-seconds-n}
 use Rattle.totals.proofs.range.range_refusal.Goals.{then-not-good_ceiling-via-then-not-good_ceiling}

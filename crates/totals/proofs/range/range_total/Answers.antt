@@ -1,5 +1,5 @@
 -- A refusal, or the settled lists and their two totals.
-use Rattle.std.proofs.Common.{◌≡◌, ℕ, List, length, sym, ap, ◌∙◌, ne_eqb, rules}
+use Rattle.std.proofs.Common.{ℕ, List, sym, ap, ◌∙◌, ne_eqb, rules}
 use Rattle.std.proofs.lemmas.List.{length-map}
 use Rattle.totals_spec.specs.Format.{binary64}
 use Rattle.totals_spec.specs.Settings.{with_rounding}

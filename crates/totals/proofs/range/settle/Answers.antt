@@ -1,8 +1,6 @@
 -- A turn settles the figures of one more entry.
-use Rattle.std.proofs.Common.{◌≡◌, ℕ, ◌<◌, ◌≤◌, length, get_or, set, sym, ap, ap₂, ◌∙◌, subst, T, arith}
-use lib.Ieee.{binary64, to_bits, of_bits}
+use Rattle.std.proofs.Common.{◌≡◌, ℕ, length, get_or, sym, ap, ap₂, ◌∙◌, subst, T, arith}
 use Rattle.totals_spec.specs.Ranges.{Amount, amount_of, low_of, high_of, good_figure, good_amount}
-use Rattle.totals.specs.Ranges.{lows, highs}
 use Rattle.totals.proofs.RangeFigures.{no_nan, figure-no-nan, written-again}
 use Rattle.totals.proofs.RangeSettled.{no-nan-double, low-good, high-good, good-at, lows-length, highs-length}
 use Rattle.totals.proofs.RangeSettled.{entry-read, first-settled, second-settled, settled-all}

@@ -1,9 +1,8 @@
 -- A sum of finite doubles passes the tests, and its zero loses its sign.
-use Rattle.std.proofs.Common.{◌≡◌, ◌≢◌, ℕ, Bool, cond, ◌^◌, ◌≤◌, ◌<◌, refl, sym, ap, ◌∙◌, arith, rules, le-leb, le-ltb, eq-eqb, ne_eqb}
+use Rattle.std.proofs.Common.{◌≡◌, ◌≢◌, ℕ, Bool, cond, ◌^◌, ◌≤◌, ◌<◌, refl, sym, ap, ◌∙◌, arith, le-leb, le-ltb, eq-eqb, ne_eqb}
 use Rattle.totals_spec.specs.Format.{binary64, valid_format}
 use Rattle.totals_spec.specs.Settings.{with_rounding, valid_settings}
 use Rattle.totals_spec.specs.Totals.{Answer, limit}
-use Rattle.totals_spec.specs.Table.{plain_total}
 use Rattle.totals_spec.specs.Ranges.{plus_zero}
 use Rattle.totals.specs.Refusal.{sum_numbers}
 use Rattle.totals.proofs.range.toward.Goals as goal
@@ -23,18 +22,21 @@ pub words-a-requires-clause-left_value : goal.words-a-requires-clause-left_value
 unfolding with_rounding
 words-a-requires-clause-left_value c =
     let e = c.default.ensures in
-    rw (c.binary64.ensures, e.1.0, e.1.1.0, e.1.1.1.0, e.1.1.1.1.0, e.1.1.1.1.1.0, e.1.1.1.1.1.1.0, e.1.1.1.1.1.1.1) (passes c.args.rounding _ c.requires.1 c.requires.0)
+    rw (c.binary64.ensures, e.1.0, e.1.1.0, e.1.1.1.0, e.1.1.1.1.0, e.1.1.1.1.1.0, e.1.1.1.1.1.1.0, e.1.1.1.1.1.1.1)
+    (passes c.args.rounding _ c.requires.1 c.requires.0)
 
 pub returns-then-a : goal.returns-then-a
 unfolding with_rounding
 returns-then-a c =
     let e = c.default.ensures in
-    let is = rw (c.binary64.ensures, e.1.0, e.1.1.0, e.1.1.1.0, e.1.1.1.1.0, e.1.1.1.1.1.0, e.1.1.1.1.1.1.0, e.1.1.1.1.1.1.1) at (ap (λ (a : Answer). a.result) c.words-a.ensures) in
+    let is = rw (c.binary64.ensures, e.1.0, e.1.1.0, e.1.1.1.0, e.1.1.1.1.0, e.1.1.1.1.1.0, e.1.1.1.1.1.1.0, e.1.1.1.1.1.1.1)
+    at (ap (λ (a : Answer). a.result) c.words-a.ensures) in
     sign-lost _ (sym is ∙ c.if-a.true)
 
 pub returns-else-a : goal.returns-else-a
 unfolding with_rounding
 returns-else-a c =
     let e = c.default.ensures in
-    let is = rw (c.binary64.ensures, e.1.0, e.1.1.0, e.1.1.1.0, e.1.1.1.1.0, e.1.1.1.1.1.0, e.1.1.1.1.1.1.0, e.1.1.1.1.1.1.1) at (ap (λ (a : Answer). a.result) c.words-a.ensures) in
+    let is = rw (c.binary64.ensures, e.1.0, e.1.1.0, e.1.1.1.0, e.1.1.1.1.0, e.1.1.1.1.1.0, e.1.1.1.1.1.1.0, e.1.1.1.1.1.1.1)
+    at (ap (λ (a : Answer). a.result) c.words-a.ensures) in
     is ∙ number-kept _ (λ z. c.if-a.false (is ∙ z))

@@ -1,6 +1,4 @@
 use Rattle.std.proofs.Common.{eq-eqb}
-use Rattle.format.specs.Joined.{format_of, settings_of}
-use Rattle.totals.specs.Reported.{EndAsks}
 use Rattle.totals.proofs.Counted.{left-countable}
 use Rattle.totals.proofs.report.ended.Goals as goal
 

@@ -29,5 +29,6 @@ pub returns : goal.returns
 returns c = λ d l a n k.
     let o = k.ends c.if-w.false c.if-w-eq0.false in
     let f = format_of c.args.f in
-    c.print.ensures _ (chain (digits f) (sum_terms f (reading_with d) value l)) o.left o.passes (to_z-of_z {w = w64} {z = c.args.w.report.last_edge} (search rules) ∙ o.edge)
+    c.print.ensures _ (chain (digits f) (sum_terms f (reading_with d) value l)) o.left o.passes
+    (to_z-of_z {w = w64} {z = c.args.w.report.last_edge} (search rules) ∙ o.edge)
     ∙ by_chain _ d l _ _ a n (omega (arith, c.digits.ensures, c.digits-2.ensures, c.if-digits.false)) (k.special ∙ c.if-w.false) o.some _ k.subnormal

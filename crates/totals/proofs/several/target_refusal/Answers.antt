@@ -1,5 +1,5 @@
 -- By the two parts of the tests.
-use Rattle.std.proofs.Common.{◌≡◌, true, sym, ◌∙◌}
+use Rattle.std.proofs.Common.{sym, ◌∙◌}
 use Rattle.std.proofs.lemmas.Result.{err_from_is_err_and}
 use Rattle.totals_spec.proofs.Valid.{and_right, format-bounds}
 use Rattle.totals_spec.proofs.Bits.{T_of}

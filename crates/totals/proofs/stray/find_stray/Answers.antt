@@ -1,5 +1,5 @@
 -- The element of a turn is the one at the place, by which the search goes on or ends.
-use Rattle.std.proofs.Common.{◌≡◌, ◌+◌, ◌*◌, ◌<◌, ℕ, List, length, get_or, refl, arith, ◌∙◌}
+use Rattle.std.proofs.Common.{◌<◌, length, refl, arith, ◌∙◌}
 use Rattle.values.specs.Sources.{elements}
 use Rattle.values.proofs.Sources.{elements-length, elements-small, element-is, next_place}
 use Rattle.totals.proofs.Search.{clear_next, clear-found, clear-end, word_wide}
@@ -7,8 +7,11 @@ use Rattle.totals.proofs.stray.find_stray.Goals as goal
 
 pub returns-then-width-ge64 : goal.returns-then-width-ge64
 returns-then-width-ge64 c =
-    let a = c.args in
-    (word_wide a.width (elements a.source a.words.now a.bytes.now) c.if-width-ge64.true (elements-small _ _ _ (λ k. omega (arith, c.type_inv.words k)) (λ k. omega (arith, c.type_inv.bytes k))), λ h. refl)
+    let a = c.args in (
+      word_wide a.width (elements a.source a.words.now a.bytes.now) c.if-width-ge64.true
+          (elements-small _ _ _ (λ k. omega (arith, c.type_inv.words k)) (λ k. omega (arith, c.type_inv.bytes k))),
+      λ h. refl,
+    )
 
 pub returns-then-element-most : goal.returns-then-element-most
 returns-then-element-most c =

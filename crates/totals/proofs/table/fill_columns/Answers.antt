@@ -1,5 +1,5 @@
 -- A turn fills the total of one more column in, which has no more cells than the table.
-use Rattle.std.proofs.Common.{◌≡◌, ◌<◌, ◌≤◌, ◌+◌, ◌*◌, ℕ, length, set, map, sym, ap, ◌∙◌, add-one, arith}
+use Rattle.std.proofs.Common.{◌≤◌, ◌*◌, ℕ, set, map, sym, ap, ◌∙◌, add-one, arith}
 use Rattle.std.proofs.Math.Nat.{mul-le-mul_left}
 use Rattle.totals_spec.specs.Totals.{Answer}
 use Rattle.totals_spec.specs.Table.{columns_from, plain_total, filled}

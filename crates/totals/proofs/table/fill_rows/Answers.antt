@@ -1,5 +1,5 @@
 -- A turn fills the total of one more row in.
-use Rattle.std.proofs.Common.{◌≡◌, ◌<◌, ◌+◌, ◌-◌, ◌*◌, ℕ, length, take, drop, set, map, sym, ap, ◌∙◌, add-one, arith}
+use Rattle.std.proofs.Common.{◌≡◌, ◌+◌, ◌-◌, ◌*◌, ℕ, take, drop, set, map, sym, ap, ◌∙◌, add-one, arith}
 use Rattle.totals_spec.specs.Totals.{Answer}
 use Rattle.totals_spec.specs.Table.{rows_of, plain_total, filled}
 use Rattle.totals_spec.proofs.Table.{rows-filled}

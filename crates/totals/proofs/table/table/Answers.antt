@@ -28,7 +28,8 @@ unfolding sum_numbers
 returns-in-Err c =
     let a = c.args in
     let e = c.in-Err.ensures {u = tt} in
-    tables _ (table-stopped (format_of a.f) (settings_of a.c) a.cells.now a.rows a.columns a.row_totals.now a.column_totals.now _ e (number-some c.in-Err.refusal))
+    tables _ (table-stopped (format_of a.f) (settings_of a.c) a.cells.now a.rows a.columns a.row_totals.now a.column_totals.now _ e
+    (number-some c.in-Err.refusal))
     (rw (sum-place (format_of a.f) (settings_of a.c) 0 (length a.cells.now) c.in-Err.refusal e) at c.from.ensures)
 
 pub returns-then-misshapen : goal.returns-then-misshapen
