@@ -28,7 +28,7 @@ pub const BIASED_TABLE: usize = 505;
 fn byte_at(s: &[u8], i: usize) -> u8
     ensures { result ≡ get_or s.now i 48 }
 {
-    if i < s.len() { s[i] } else { 48 }
+    s.get(i).copied().unwrap_or(b'0')
 }
 
 pub fn is_dot(s: &[u8]) -> bool
