@@ -24,7 +24,8 @@ one_more l i x h s = s.rest ∙ rw (add-one, drop-cons l i 0) refl
 pub so_far_bad : (l : List ℕ) (i x : ℕ) → i < length l → SoFar l i x → digit_of (get_or l i 0) ≡ code.None → code.None ≡ option_of (hex_from l (some 0))
 so_far_bad l i x h s e = bad (hex_digit (get_or l i 0)) e (one_more l i x h s)
   where
-    bad : (d : Option ℕ) → option_of d ≡ code.None → hex_from l (some 0) ≡ hex_from (drop (i + 1) l) (more_hex (some x) d) → code.None ≡ option_of (hex_from l (some 0))
+    bad : (d : Option ℕ) → option_of d ≡ code.None → hex_from l (some 0) ≡ hex_from (drop (i + 1) l) (more_hex (some x) d)
+        → code.None ≡ option_of (hex_from l (some 0))
     bad none e k = sym (ap option_of (k ∙ hex-none (drop (i + 1) l)))
     bad (some d) e k = cc
 

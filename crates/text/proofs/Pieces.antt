@@ -1,5 +1,6 @@
 -- A list in pieces of 17 bytes: the lines that are read from the first piece, and from the others.
-use Rattle.std.proofs.Common.{◌≡◌, refl, sym, ap, ◌∙◌, ℕ, suc, ◌+◌, ◌≤◌, ◌<◌, min, List, [], ◌∷◌, ◌++◌, length, take, drop, get_or, arith, append-nil, length-append, add-one}
+use Rattle.std.proofs.Common.{◌≡◌, refl, sym, ap, ◌∙◌, ℕ, suc, ◌+◌, ◌≤◌, ◌<◌, min, Bor, List, [], ◌∷◌, ◌++◌, length, take, drop, get_or}
+use Rattle.std.proofs.Common.{arith, append-nil, length-append, add-one}
 use Rattle.std.proofs.lemmas.Grind.{common_steps}
 use Rattle.std.specs.Prelude as code
 use Rattle.std.proofs.Math.Option.{Option, none, some}
@@ -9,7 +10,6 @@ use lib.Dec.{ltb}
 use borrow.Author.Tests.{lt-ltb, le-ltb}
 use Rattle.std.specs.Slice.Iter.{chunks_rest, chunks_size, chunks_steps}
 use Rattle.std.specs.declared.slice.Chunks.{Chunks}
-use Rattle.std.proofs.Common.{Bor}
 use Rattle.totals_spec.specs.Program.{lines, hex_from, Read, values, bad_line, taken, read_from}
 use Rattle.hexadecimal.specs.Digits.{option_of}
 use Rattle.arrayvec.specs.ArrayVec.{ArrayVec}
@@ -100,7 +100,8 @@ pub so_far_start : (input : List ℕ) → SoFar input input []
 so_far_start input = record { read = sym (behind-none (read_from 1 (lines input))) }
 
 module _ (input s p t l : List ℕ) (c : Cut s p t) (f : SoFar input s l) where
-  bad : (n : ℕ) → n ≡ suc (length l) → read_from (suc (length l)) (lines s) ≡ bad_line (suc (length l)) → code.Err (record { line = n }) ≡ result_of (read_from 1 (lines input))
+  bad : (n : ℕ) → n ≡ suc (length l) → read_from (suc (length l)) (lines s) ≡ bad_line (suc (length l))
+      → code.Err (record { line = n }) ≡ result_of (read_from 1 (lines input))
   bad n e r = rw (f.read, r, e) refl
 
   pub so_far_full : (n : ℕ) → n ≡ length l → length l ≡ 8192 → code.Err (record { line = n + 1 }) ≡ result_of (read_from 1 (lines input))

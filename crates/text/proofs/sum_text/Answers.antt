@@ -13,6 +13,7 @@ pub returns : goal.returns
 returns c =
     let a = c.sum-a in
     let p = c.pence_of_sum-p in
+    let figure = read p.result.figure (search rules) in
     c.answer_lines.ensures
-    ∙ answer_is (answer_of a.result) (pence_record p.result) _ (c.then_some-pence.ensures ∙ ap (then_some (eqb p.result.refusal 0)) (read p.result.figure (search rules)))
+    ∙ answer_is (answer_of a.result) (pence_record p.result) _ (c.then_some-pence.ensures ∙ ap (then_some (eqb p.result.refusal 0)) figure)
     ∙ ap₂ answer_text a.ensures p.ensures

@@ -10,8 +10,9 @@ returns-in_err-x c = c.from_residual.ensures ∙ so_far_bad _ _ _ (omega arith) 
 
 pub overflow_add-x : goal.overflow_add-x
 overflow_add-x c =
-    let next = so_far_next c.args.digits.now c.loop-b.b-index c.loop-b.x c.in_ok-x.field-0 (omega arith) c.loop-b.invariant (sym c.digit.ensures ∙ c.in_ok-x.was) in
-    omega (arith, next.0, room _ _ _ (omega arith) c.loop-b.invariant)
+    let l = c.loop-b in
+    let next = so_far_next c.args.digits.now l.b-index l.x c.in_ok-x.field-0 (omega arith) l.invariant (sym c.digit.ensures ∙ c.in_ok-x.was) in
+    omega (arith, next.0, room _ _ _ (omega arith) l.invariant)
 
 pub loop-b-preserved : goal.loop-b-preserved
 loop-b-preserved c = (so_far_next _ _ _ _ (omega arith) c.loop-b.invariant (sym c.digit.ensures ∙ c.in_ok-x.was)).1
