@@ -1,27 +1,25 @@
 -- One turn of a pass: the window and the lost bit of the first i elements, with the part of one more.
 use mathlib.Core.Path.{◌≡◌, refl, sym, ap, ap₂, ◌∙◌, subst}
 use mathlib.Core.Bool.{Bool, true, false, not, cond}
-use mathlib.Core.List.{List, [], ◌∷◌, ◌++◌}
+use mathlib.Core.List.{List, [], ◌∷◌, ◌++◌, append-nil}
 use Prim.Native.Nat.{ℕ, ◌+◌, ◌-◌, ◌/◌, ◌%◌, ◌^◌, ◌<◌, ◌≤◌, max, zero-le}
 use native.Mathlib.Nat.{add-zero, zero-add, add_assoc, add_comm, mod-eq_of_lt, zero-div, max-zero}
 use native.Mathlib.Numerals.{add-one, add-one-le}
 use native.Mathlib.Omega.{arith}
 use borrow.Author.Tests.{not-true}
-use lib.Dec.{ltb}
-use lib.ListN.{length, take, get_or, set}
+use lib.ListN.{length, take, get_or}
 use lib.Seq.{take-suc, take-length}
 use lib.Pow.{pow_pos}
 use denote.Shadow.{shadow}
 use denote.Struct.Declared.{row}
 use denote.Struct.Laws.{val}
+use Rattle.std.proofs.Math.Option.{none}
 use Rattle.limbs.specs.declared.word.Sum.{Sum}
 use Rattle.limbs.specs.Value.{Words, value, moved, term}
 use Rattle.limbs.proofs.Words.{alike, value-lt}
 use Rattle.limbs.specs.contracts.word.Sum.{the_type}
 use Rattle.limbs.proofs.word.Sum.TheLaws.{the_laws}
-use Rattle.limbs_term.specs.declared.Placed.{Placed}
-use Rattle.limbs_term.specs.Placed.{flip, Settles}
-use Rattle.limbs_term.proofs.Stored.{Adds, past-moved, two-stored, two-moved, three-stored, three-moved}
+use Rattle.limbs_term.proofs.Stored.{past-moved}
 use Rattle.totals_spec.specs.Basics.{total, greatest, keep}
 use Rattle.totals_spec.specs.Format as spec
 use Rattle.totals_spec.specs.Settings as env
@@ -99,13 +97,13 @@ adds w t terms.invalid_item h = adds_none w t terms.invalid_item refl h.0
 adds w t (terms.infinite s) h = adds_none w t (terms.infinite s) refl h.0
 adds w t (terms.zero_item s) h = adds_none w t (terms.zero_item s) refl h.0
 
--- what a term that stands for an item is cut by: its shift is small, and what is no term has none
-pub cuttable : (t : Term) (i : terms.Item) → StandsFor t i → (t.shift < 2 ^ 62) × (magnitude t ≡ 0 → t.shift ≡ 0)
-cuttable t (terms.term s) h = (omega (arith, h.2), λ e. absurd (omega (arith, h.3, h.0, e)))
-cuttable t terms.nan_item h = (omega (arith, h.1), λ _. h.1)
-cuttable t terms.invalid_item h = (omega (arith, h.1), λ _. h.1)
-cuttable t (terms.infinite s) h = (omega (arith, h.1), λ _. h.1)
-cuttable t (terms.zero_item s) h = (omega (arith, h.1), λ _. h.1)
+-- nothing above 0 stands for what is no term
+pub none-stands-for : (t : Term) (i : terms.Item) → magnitude t ≡ 0 → StandsFor t i → terms.term_of i ≡ none
+none-stands-for t (terms.term s) e h = absurd (omega (arith, h.0, h.3, e))
+none-stands-for t terms.nan_item e h = refl
+none-stands-for t terms.invalid_item e h = refl
+none-stands-for t (terms.infinite s) e h = refl
+none-stands-for t (terms.zero_item s) e h = refl
 
 -- ---- the gathering of a list of items, and of one more
 
@@ -187,16 +185,13 @@ running-end {l} {w = w} {i = i} {lost = lost} {q = q} h e =
     let whole : i ≡ length l = omega (arith, h.all) in
     passed (terms.terms l) w _ lost q (rw (whole, take-length l) at h.held)
 
--- ---- what a call of `add_word` gives: a `Sum`, whose word fits, and what the contract says of it
+-- ---- what a call of `add_word` gives: a `Sum`, whose word fits
 
-abbrev Owned : Sum → Type 0
+abbrev pub Owned : Sum → Type 0
 Owned r = shadow ((row the_type).own_val r (val the_type the_laws r ∷ []))
 
-fits : (r : Sum) → Owned r → r.word < 2 ^ 64
+pub fits : (r : Sum) → Owned r → r.word < 2 ^ 64
 fits r h = omega arith
-
-abbrev pub Added : ℕ → ℕ → ℕ → Sum → Type 0
-Added a b c r = Owned r × Adds a b c r
 
 -- ---- one turn: t stands for the item i, p is its part at the edge, and `lost` is that of all i + 1
 
@@ -214,13 +209,20 @@ terms-next l i h =
     ap (λ n. terms.terms (take n l)) (add-one i) ∙ ap terms.terms (take-suc l i terms.nan_item h)
     ∙ picked-append terms.term_of (take i l) (get_or l i terms.nan_item ∷ [])
 
+-- where that item is none, they are the same
+pub running-over : {l : List terms.Item} {n w i : ℕ} {total : List ℕ} {lost : ℕ} → Running l n w i total lost → i < n
+    → terms.term_of (get_or l i terms.nan_item) ≡ none → Running l n w (i + 1) total lost
+running-over {l} {w = w} {i = i} {total} {lost} so_far h e = record {
+  all = so_far.all;
+  within = add-one-le h;
+  words = so_far.words;
+  held = rw (terms-next l i (rw so_far.all h), e, append-nil (terms.terms (take i l))) so_far.held;
+}
+
 module _ {l : List terms.Item} {n w i : ℕ} {total : List ℕ} {before : ℕ} {so_far : Running l n w i total before} {t : Term} {p : Part} {lost : ℕ}
     (k : Turn so_far t p lost) where
   abbrev part : ℕ
   part = term p.low p.high p.up
-
-  pub turn-less : n - (i + 1) < n - i
-  turn-less = omega (arith, k.inside)
 
   -- with the part moved into the window
   pub turn_moved : {r : List ℕ} → Words 12 r → value r ≡ moved t.negative (value total) part → Running l n w (i + 1) r lost
@@ -241,60 +243,10 @@ module _ {l : List terms.Item} {n w i : ℕ} {total : List ℕ} {before : ℕ} {
   pub turn-none : not p.some ≡ true → Running l n w (i + 1) total lost
   turn-none e = past (ap (λ (n : ℕ). n % 2 ^ 768) (k.part.none (not-true _ e)))
 
-  -- with its words settled: none of them lies within the window
-  module _ {end last : ℕ} {q : Placed} where
-    pub turn-past : Settles end last t.negative part q → not q.inside ≡ true → Running l n w (i + 1) total lost
-    turn-past s e = past (s.past (not-true _ e))
-
-    -- a term of one word has a part of one word
-    pub one_word : t.high ≡ 0 → Settles end last t.negative (term p.low 0 p.up) q → Settles end last t.negative part q
-    one_word e s = rw (k.part.one_word e) s
-
-  -- they are added to two words of the window, or to three, and no carry goes on
-  module _ {q : Placed} {x y : Sum} (ax : Added (get_or total q.at 0) q.w0 q.carry x) (ay : Added (get_or total (q.at + 1) 0) q.w1 x.carry y)
-      {goes : Bool} where
-    pub turn_two : t.high ≡ 0 → Settles 10 q.w1 t.negative (term p.low 0 p.up) q × (q.w2 ≡ flip t.negative 0)
-        → goes ≡ ltb (flip t.negative y.word) (flip t.negative (get_or total (q.at + 1) 0)) → goes ≡ false
-        → Running l n w (i + 1) (set (set total q.at x.word) (q.at + 1) y.word) lost
-    turn_two h s g e =
-        let v = so_far.words in
-        let r = one_word h s.0 in
-        let fx = fits x ax.0 in
-        let fy = fits y ay.0 in
-        turn_moved (two-stored v r s.1 fx fy ax.1 ay.1 (sym g ∙ e)) (two-moved v r s.1 fx fy ax.1 ay.1 (sym g ∙ e))
-
-    pub turn_three : {z : Sum} → Added (get_or total (q.at + 2) 0) q.w2 y.carry z → Settles 9 q.w2 t.negative part q
-        → goes ≡ ltb (flip t.negative z.word) (flip t.negative (get_or total (q.at + 2) 0)) → goes ≡ false
-        → Running l n w (i + 1) (set (set (set total q.at x.word) (q.at + 1) y.word) (q.at + 2) z.word) lost
-    turn_three {z} az s g e =
-        let v = so_far.words in
-        let fx = fits x ax.0 in
-        let fy = fits y ay.0 in
-        let fz = fits z az.0 in
-        turn_moved (three-stored v s fx fy fz ax.1 ay.1 az.1 (sym g ∙ e)) (three-moved v s fx fy fz ax.1 ay.1 az.1 (sym g ∙ e))
-
--- ---- a turn without a term, of an item that is none
+-- ---- what is no term
 
 abbrev pub nothing : Term
 nothing = record { negative = false; low = 0; high = 0; shift = 0 }
 
 pub nothing_is : magnitude nothing ≡ 0
 nothing_is = no-magnitude nothing refl refl
-
-no_part : Part
-no_part = record { low = 0; high = 0; up = 0; some = false; lost = 0 }
-
-part-of-nothing : (w : ℕ) → PartAt w nothing no_part
-unfolding no_part
-part-of-nothing w = record {
-  exact = sym (ap (λ (m : ℕ). m / 2 ^ w) nothing_is ∙ zero-div (2 ^ w));
-  lost-is = sym (ap (lost_end w) nothing_is ∙ lost-of-zero w);
-  none = λ _. refl;
-  one_word = λ _. refl;
-}
-
-pub turn-over : {l : List terms.Item} {n w i : ℕ} {total : List ℕ} {lost : ℕ} → Running l n w i total lost → i < n
-    → StandsFor nothing (get_or l i terms.nan_item) → Running l n w (i + 1) total lost
-unfolding no_part
-turn-over {w = w} {lost = lost} so_far h s =
-    turn-none {so_far = so_far} (record { inside = h; stands = s; part = part-of-nothing w; larger = sym (max-zero lost) }) refl

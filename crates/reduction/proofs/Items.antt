@@ -8,12 +8,14 @@ use native.Mathlib.Omega.{arith}
 use borrow.Author.Tests.{eqb-true, le-leb}
 use lib.Dec.{leb, eqb, eqb-suc-zero}
 use lib.ListN.{length, get_or, length-map}
+use Rattle.std.specs.Prelude.{Option}
+use Rattle.std.proofs.Math.Option.{none}
 use Rattle.totals_spec.specs.Format.{Format, kind_of}
 use Rattle.totals_spec.specs.Settings.{Settings, Summand, summand_of}
 use Rattle.totals_spec.specs.Bounds.{SettingsBounds}
 use Rattle.totals_spec.specs.Decode.{operand}
 use Rattle.totals_spec.specs.Nan.{select_all}
-use Rattle.totals_spec.specs.Terms.{Item, nan_item, item, pair_item, terms, top_of}
+use Rattle.totals_spec.specs.Terms.{Item, nan_item, item, pair_item, term_of, terms, top_of}
 use Rattle.totals_spec.specs.Hundredfold.{hundred_item}
 use Rattle.totals_spec.specs.Totals.{Answer, limit, pairs, is_value, is_square, accepted, finite_total, sum_accepted, dot_accepted}
 use Rattle.totals_spec.specs.Settled.{chain_total}
@@ -28,9 +30,8 @@ use Rattle.totals_spec.proofs.ExtendedTerms.{extended-top, extended-dot-top}
 use Rattle.totals_spec.proofs.Halves.{supported-record, ieee-give}
 use Rattle.totals_spec.proofs.Tops.{top_product, sum_top, dot-top}
 use Rattle.arithmetic.specs.declared.Term.{Term}
-use Rattle.arithmetic.specs.Joined.{StandsFor}
 use Rattle.arithmetic.proofs.Elements.{none-stands, no-hundred}
-use Rattle.arithmetic.proofs.Pairs.{pairs-at}
+use Rattle.arithmetic.proofs.Pairs.{pairs-at, none_left, none-either}
 use Rattle.binary.specs.Joined.{is_blank}
 use Rattle.binary.proofs.Blank.{operand-blank}
 use Rattle.values.specs.declared.Source.{Source}
@@ -43,7 +44,8 @@ use Rattle.values.proofs.Walks.{read_length}
 use Rattle.scan.specs.Walked.{subnormal_in, signaling_in, operands_in}
 use Rattle.reduction.specs.Answered.{given_as, products_in, first_in, Accepted, answer_in}
 use Rattle.reduction.proofs.Loop.{Base, sum-base, dot-base, hundred-base, tens-base}
-use Rattle.reduction.proofs.Gather.{nothing, nothing_is}
+use Rattle.reduction.specs.Listed.{Gives}
+use Rattle.reduction.proofs.Gather.{nothing, nothing_is, none-stands-for}
 
 pub mapped : {A B : Type 0} (g : A → B) (l : List A) (i : ℕ) (d : A) (e : B) → i < length l → get_or (map g l) i e ≡ g (get_or l i d)
 mapped g [] i d e h = absurd (not-suc-le-zero h)
@@ -77,6 +79,25 @@ module _ (f : Format) (c : Settings) (u : Summand) (x y : List ℕ) where
   items-top false true h = dot-top f c x y
   items-top false false h = sum_top f c u x
 
+-- ---- a blank element is no term, and no pair with one is
+
+module _ (f : Format) (c : Settings) where
+  pub blank-element : (u : Summand) (x : ℕ) → is_blank f x ≡ true → term_of (item f c u x) ≡ none
+  unfolding item
+  blank-element u x e = none-stands-for nothing _ nothing_is (none-stands u (operand f c x) nothing (operand-blank f c x e) nothing_is refl)
+
+  pub blank-hundred : (x : ℕ) → is_blank f x ≡ true → term_of (hundred_item f c x) ≡ none
+  unfolding hundred_item
+  blank-hundred x e = none-stands-for nothing _ nothing_is (no-hundred (operand f c x) nothing (operand-blank f c x e) nothing_is refl)
+
+  pub blank-left : (x y : ℕ) → is_blank f x ≡ true → term_of (pair_item f c (x, y)) ≡ none
+  unfolding pair_item
+  blank-left x y e = none-stands-for nothing _ nothing_is (none_left (operand f c x) (operand f c y) nothing (operand-blank f c x e) nothing_is refl)
+
+  pub blank-right : (x y : ℕ) → is_blank f y ≡ true → term_of (pair_item f c (x, y)) ≡ none
+  unfolding pair_item
+  blank-right x y e = none-stands-for nothing _ nothing_is (none-either (operand f c x) (operand f c y) nothing (operand-blank f c y e) nothing_is refl)
+
 -- ---- the items of a source, of its elements or of the pairs of two lists that it gives
 
 pub lists-alike : (s : Source) (lw lb rw' rb : List ℕ) → length (elements s rw' rb) ≡ length (elements s lw lb)
@@ -90,10 +111,14 @@ module _ (s : Source) (lw lb : List ℕ) where
   inside : {i : ℕ} → i < s.count → i < length (elements s lw lb)
   inside h = rw (elements-length s lw lb) h
 
-  -- the term of the element i stands for the item i
-  pub element-stands : {i x : ℕ} → i < s.count → x ≡ get_or (elements s lw lb) i 0 → (t : Term) (g : ℕ → Item) → StandsFor t (g x)
-      → StandsFor t (get_or (map g (elements s lw lb)) i nan_item)
-  element-stands {i} h e t g = subst (StandsFor t) (ap g e ∙ sym (mapped g (elements s lw lb) i 0 nan_item (inside h)))
+  -- an index of an item is one of an element
+  pub of-element : (g : ℕ → Item) {i : ℕ} → i < length (map g (elements s lw lb)) → i < s.count
+  of-element g h = rw (element-items g) at h
+
+  -- what is given of the element i is given of the item i
+  pub element-gives : {i x : ℕ} → i < s.count → x ≡ get_or (elements s lw lb) i 0 → (t : Option Term) (g : ℕ → Item) → Gives t (g x)
+      → Gives t (get_or (map g (elements s lw lb)) i nan_item)
+  element-gives {i} h e t g = subst (Gives t) (ap g e ∙ sym (mapped g (elements s lw lb) i 0 nan_item (inside h)))
 
 module _ (f : Format) (c : Settings) (s : Source) (lw lb : List ℕ) where
   pub pair-items : (rw' rb : List ℕ) → length (map (pair_item f c) (pairs (elements s lw lb) (elements s rw' rb))) ≡ s.count
@@ -102,23 +127,15 @@ module _ (f : Format) (c : Settings) (s : Source) (lw lb : List ℕ) where
       let r = elements s rw' rb in
       length-map (pairs l r) (pair_item f c) ∙ pairs-length l r (sym (lists-alike s lw lb rw' rb)) ∙ elements-length s lw lb
 
+  pub of-pair : (rw' rb : List ℕ) {i : ℕ} → i < length (map (pair_item f c) (pairs (elements s lw lb) (elements s rw' rb))) → i < s.count
+  of-pair rw' rb h = rw (pair-items rw' rb) at h
+
   module _ {i x : ℕ} (h : i < s.count) (e : x ≡ get_or (elements s lw lb) i 0) where
-    -- nothing stands for a blank one
-    pub blank_stands : (u : Summand) {b : Bool} → b ≡ is_blank f x → b ≡ true → StandsFor nothing (get_or (map (item f c u) (elements s lw lb)) i nan_item)
-    unfolding item
-    blank_stands u a b =
-        element-stands s lw lb h e nothing (item f c u) (none-stands u (operand f c x) nothing (operand-blank f c x (sym a ∙ b)) nothing_is refl)
-
-    pub blank-hundred : {b : Bool} → b ≡ is_blank f x → b ≡ true → StandsFor nothing (get_or (map (hundred_item f c) (elements s lw lb)) i nan_item)
-    unfolding hundred_item
-    blank-hundred a b =
-        element-stands s lw lb h e nothing (hundred_item f c) (no-hundred (operand f c x) nothing (operand-blank f c x (sym a ∙ b)) nothing_is refl)
-
-    -- the term of the pair i stands for the item i
-    pub pair-stands-at : (t : Term) (rw' rb : List ℕ) {y : ℕ} → y ≡ get_or (elements s rw' rb) i 0 → StandsFor t (pair_item f c (x, y))
-        → StandsFor t (get_or (map (pair_item f c) (pairs (elements s lw lb) (elements s rw' rb))) i nan_item)
-    pair-stands-at t rw' rb g =
-        subst (StandsFor t)
+    -- and of the pair i
+    pub pair-gives : (t : Option Term) (rw' rb : List ℕ) {y : ℕ} → y ≡ get_or (elements s rw' rb) i 0 → Gives t (pair_item f c (x, y))
+        → Gives t (get_or (map (pair_item f c) (pairs (elements s lw lb) (elements s rw' rb))) i nan_item)
+    pair-gives t rw' rb g =
+        subst (Gives t)
         (ap (pair_item f c) (ap₂ (λ a b. (a, b)) e g)
         ∙ sym (pairs-mapped (pair_item f c) (elements s lw lb) (elements s rw' rb) i nan_item (lists-alike s lw lb rw' rb) (inside s lw lb h)))
 

@@ -3,5 +3,6 @@
 
 pub mod extended;
 pub mod pass;
+pub mod terms;
 pub mod total;
 pub mod walk;

@@ -1,23 +1,25 @@
 // What a pass starts and ends with, and the terms that it adds up.
-ghost use Rattle.std.specs.Prelude.{◌≡◌, ◌<◌};
-ghost use Rattle.limbs.specs.Value.{value, minus};
+ghost use Rattle.std.specs.Prelude.{◌≡◌, ◌<◌, IfSome};
+ghost use Rattle.limbs.specs.Value.{Words, value, minus, moved, term};
 ghost use Rattle.totals_spec.specs.Settings as env;
 ghost use Rattle.totals_spec.specs.Terms as terms;
 ghost use Rattle.totals_spec.specs.Hundredfold.{hundred_item};
 ghost use Rattle.totals_spec.specs.Bounds.{FormatBounds};
 ghost use Rattle.format.specs.Joined.{format_of, settings_of};
-ghost use Rattle.arithmetic.specs.Joined.{StandsFor};
 ghost use Rattle.reduction.specs.Held.{middle};
+ghost use Rattle.reduction.specs.Listed.{Gives};
 
 use arithmetic::{
-    Term, both_plain, looked_hundred, looked_pair, looked_term, no_term, plain_hundred,
-    plain_product, plain_term,
+    Term, both_plain, looked_hundred, looked_pair, looked_term, plain_hundred, plain_product,
+    plain_term,
 };
 use binary::{is_blank, is_plain};
 use format::Format;
 use format::env::Settings;
+use limbs::word::add_word;
+use limbs_term::{goes_on, move_term, settle, settle_single};
 use limbs_window::sub;
-use window::Pass;
+use window::{Part, Pass};
 
 // Each word of a pass starts at its middle: the sum so far then changes its sign without a carry through all the words above a term.
 pub fn start() -> [u64; 12]
@@ -34,42 +36,95 @@ pub fn finished(total: [u64; 12], lost: u64) -> Pass
     Pass { lost, total: t }
 }
 
-// The term of an element of a list. That of a value or a magnitude has one word.
-pub fn element_term(f: Format, c: Settings, u: u64, x: u64) -> Term
-    requires { FormatBounds (format_of f) }
-    ensures stands_for { StandsFor result (terms.item (format_of f) (settings_of c) (env.summand_of u) x) }
-    ensures high_value { u < 2 → result.high ≡ 0 }
+// Adds a part to the window, or takes it off: three of its words are stored, unless a carry goes on.
+#[inline(always)]
+pub fn add_part(mut total: [u64; 12], p: Part, negative: bool) -> [u64; 12]
+    ensures words { Words 12 result }
+    ensures added { value result ≡ moved negative (value total) (term p.low p.high p.up) }
 {
-    if is_plain(f, x) {
-        return plain_term(f, u, x);
+    let q = settle(p.low, p.high, p.up, negative);
+    if !q.inside {
+        return total;
     }
-    looked_term(f, c, u, x)
+    let at = q.at;
+    let x = add_word(total[at], q.w0, q.carry);
+    let y = add_word(total[at + 1], q.w1, x.carry);
+    let z = add_word(total[at + 2], q.w2, y.carry);
+    if goes_on(negative, total[at + 2], z.word) {
+        return move_term(total, p.low, p.high, p.up, negative);
+    }
+    total[at] = x.word;
+    total[at + 1] = y.word;
+    total[at + 2] = z.word;
+    total
+}
+
+// The same of a part of one word: two of its words are stored.
+#[inline(always)]
+pub fn add_single(mut total: [u64; 12], p: Part, negative: bool) -> [u64; 12]
+    requires { p.high ≡ 0 }
+    ensures words { Words 12 result }
+    ensures added { value result ≡ moved negative (value total) (term p.low p.high p.up) }
+{
+    let q = settle_single(p.low, p.up, negative);
+    if !q.inside {
+        return total;
+    }
+    let at = q.at;
+    let x = add_word(total[at], q.w0, q.carry);
+    let y = add_word(total[at + 1], q.w1, x.carry);
+    if goes_on(negative, total[at + 1], y.word) {
+        return move_term(total, p.low, p.high, p.up, negative);
+    }
+    total[at] = x.word;
+    total[at + 1] = y.word;
+    total
+}
+
+// The term of an element of a list, where it has one. That of a value or a magnitude has one word. A zero, as of a missing month, is told at once. Inlined by
+// name: both passes over elements ask for it, and a call for each element takes three times the time.
+#[inline(always)]
+pub fn element_term(f: Format, c: Settings, u: u64, b: u64) -> Option<Term>
+    requires { FormatBounds (format_of f) }
+    ensures gives { Gives result (terms.item (format_of f) (settings_of c) (env.summand_of u) b) }
+    ensures high_value { IfSome result (λ t. u < 2 → t.high ≡ 0) }
+{
+    if is_plain(f, b) {
+        return Some(plain_term(f, u, b));
+    }
+    if is_blank(f, b) {
+        return None;
+    }
+    Some(looked_term(f, c, u, b))
 }
 
 // A hundred times an element of a list.
-pub fn hundred_term(f: Format, c: Settings, x: u64) -> Term
+pub fn hundred_term(f: Format, c: Settings, a: u64) -> Option<Term>
     requires { FormatBounds (format_of f) }
-    ensures { StandsFor result (hundred_item (format_of f) (settings_of c) x) }
+    ensures { Gives result (hundred_item (format_of f) (settings_of c) a) }
 {
-    if is_plain(f, x) {
-        return plain_hundred(f, x);
+    if is_plain(f, a) {
+        return Some(plain_hundred(f, a));
     }
-    looked_hundred(f, c, x)
+    if is_blank(f, a) {
+        return None;
+    }
+    Some(looked_hundred(f, c, a))
 }
 
-// The term of a pair of a dot. Pairs with a zero, as of missing months, are common enough to be told at once.
-pub fn pair_term(f: Format, c: Settings, x: u64, y: u64) -> Term
+// The term of a pair of a dot. Pairs with a zero are common enough to be told at once.
+pub fn pair_term(f: Format, c: Settings, x: u64, y: u64) -> Option<Term>
     requires { FormatBounds (format_of f) }
-    ensures { StandsFor result (terms.pair_item (format_of f) (settings_of c) (x, y)) }
+    ensures { Gives result (terms.pair_item (format_of f) (settings_of c) (x, y)) }
 {
     if both_plain(f, x, y) {
-        return plain_product(f, x, y);
+        return Some(plain_product(f, x, y));
     }
     if is_blank(f, x) {
-        return no_term();
+        return None;
     }
     if is_blank(f, y) {
-        return no_term();
+        return None;
     }
-    looked_pair(f, c, x, y)
+    Some(looked_pair(f, c, x, y))
 }

@@ -11,20 +11,39 @@ ghost use Rattle.values.specs.Walks.{wide, Known, TensThere, Orderly, is_hundred
 ghost use Rattle.window.specs.Joined.{Passed};
 ghost use Rattle.reduction.specs.Held.{Sums};
 
-use crate::extended::pass as pass_tens;
-use crate::pass::{element_term, finished, hundred_term, pair_term, start as middle};
-use binary::{is_blank, is_plain};
+use crate::extended::Tens;
+use crate::pass::{add_part, add_single, element_term, finished, start as middle};
+use crate::terms::{Hundreds, Pairs, Squares, Terms};
 use format::Format;
 use format::env::Settings;
-use limbs::word::{add_word, larger};
-use limbs_term::{goes_on, move_term, settle, settle_single};
 use std::ops::ControlFlow;
 use values::{HUNDREDFOLD, Source, Walk, element};
 use window::{Chain, ExactSum, Pass, window_part};
 
-// One pass at the edge w over the values or magnitudes of a list: terms of one word, which reach two words of the window. Only these are stored, unless a
-// carry goes on. A zero, as of a missing month, ends its turn at once: where it is told, here and for squares, is what was measured to be fastest.
-fn pass_singles(
+// One pass at the edge w over a list of terms.
+fn pass_over<T: Terms>(list: &T, w: u64) -> Pass
+    requires { T.valid list.now }
+    ensures { Passed (terms.terms (T.items list.now)) w result }
+{
+    let mut total = middle();
+    let mut lost: u64 = 0;
+    for i in 0..list.count() {
+        let Some(t) = list.term(i) else {
+            continue;
+        };
+        let p = window_part(t, w);
+        lost = lost.max(p.lost);
+        if p.some {
+            let next = add_part(total, p, t.negative);
+            total = next;
+        }
+    }
+    finished(total, lost)
+}
+
+// And over the values of a list (u = 0) or their magnitudes (1), every step-th of them: terms of one word, which reach two words of the window. A loop of
+// its own, and a `while`: through `pass_over`, with the place made of step and index, cancelling values took a tenth to a third longer.
+fn pass_values(
     f: Format,
     c: Settings,
     u: u64,
@@ -42,170 +61,16 @@ fn pass_singles(
     let end = source.start + source.step * source.count;
     while place < end {
         let b = element(source, words, bytes, place);
-        let t = element_term(f, c, u, b);
         place += source.step;
-        if is_blank(f, b) {
+        let Some(t) = element_term(f, c, u, b) else {
             continue;
-        }
+        };
         let p = window_part(t, w);
-        lost = larger(lost, p.lost);
-        if !p.some {
-            continue;
-        }
-        let q = settle_single(p.low, p.up, t.negative);
-        if !q.inside {
-            continue;
-        }
-        let at = q.at;
-        let x = add_word(total[at], q.w0, q.carry);
-        let y = add_word(total[at + 1], q.w1, x.carry);
-        if goes_on(t.negative, total[at + 1], y.word) {
-            let next = move_term(total, p.low, p.high, p.up, t.negative);
+        lost = lost.max(p.lost);
+        if p.some {
+            let next = add_single(total, p, t.negative);
             total = next;
-            continue;
         }
-        total[at] = x.word;
-        total[at + 1] = y.word;
-    }
-    finished(total, lost)
-}
-
-// The same over squares: terms of two words, which reach three. The three loops over products are apart, so that none tests for another in each turn; their
-// elements stand side by side, since a step of its own slows squares more than sums.
-fn pass_squares(f: Format, c: Settings, source: Source, words: &[u64], bytes: &[u8], w: u64) -> Pass
-    requires { FormatBounds (format_of f) × Within source words.now bytes.now × Straight source }
-    ensures { Passed (totals.sum_terms (format_of f) (settings_of c) env.square (elements source words.now bytes.now)) w result }
-{
-    let mut total = middle();
-    let mut lost: u64 = 0;
-    let mut i: usize = 0;
-    while i < source.count {
-        let b = element(source, words, bytes, i);
-        if !is_plain(f, b) {
-            if is_blank(f, b) {
-                i += 1;
-                continue;
-            }
-        }
-        let t = element_term(f, c, 2, b);
-        i += 1;
-        let p = window_part(t, w);
-        lost = larger(lost, p.lost);
-        if !p.some {
-            continue;
-        }
-        let q = settle(p.low, p.high, p.up, t.negative);
-        if !q.inside {
-            continue;
-        }
-        let at = q.at;
-        let x = add_word(total[at], q.w0, q.carry);
-        let y = add_word(total[at + 1], q.w1, x.carry);
-        let z = add_word(total[at + 2], q.w2, y.carry);
-        if goes_on(t.negative, total[at + 2], z.word) {
-            let next = move_term(total, p.low, p.high, p.up, t.negative);
-            total = next;
-            continue;
-        }
-        total[at] = x.word;
-        total[at + 1] = y.word;
-        total[at + 2] = z.word;
-    }
-    finished(total, lost)
-}
-
-// And over the values a hundred times each, for pence.
-fn pass_hundreds(
-    f: Format,
-    c: Settings,
-    source: Source,
-    words: &[u64],
-    bytes: &[u8],
-    w: u64,
-) -> Pass
-    requires { FormatBounds (format_of f) × Within source words.now bytes.now × Straight source }
-    ensures { Passed (hundred_terms (format_of f) (settings_of c) (elements source words.now bytes.now)) w result }
-{
-    let mut total = middle();
-    let mut lost: u64 = 0;
-    let mut i: usize = 0;
-    while i < source.count {
-        let a = element(source, words, bytes, i);
-        if !is_plain(f, a) {
-            if is_blank(f, a) {
-                i += 1;
-                continue;
-            }
-        }
-        let t = hundred_term(f, c, a);
-        i += 1;
-        let p = window_part(t, w);
-        lost = larger(lost, p.lost);
-        if !p.some {
-            continue;
-        }
-        let q = settle(p.low, p.high, p.up, t.negative);
-        if !q.inside {
-            continue;
-        }
-        let at = q.at;
-        let x = add_word(total[at], q.w0, q.carry);
-        let y = add_word(total[at + 1], q.w1, x.carry);
-        let z = add_word(total[at + 2], q.w2, y.carry);
-        if goes_on(t.negative, total[at + 2], z.word) {
-            let next = move_term(total, p.low, p.high, p.up, t.negative);
-            total = next;
-            continue;
-        }
-        total[at] = x.word;
-        total[at + 1] = y.word;
-        total[at + 2] = z.word;
-    }
-    finished(total, lost)
-}
-
-// And over the products of pairs.
-fn pass_pairs(
-    f: Format,
-    c: Settings,
-    source: Source,
-    left_words: &[u64],
-    left_bytes: &[u8],
-    right_words: &[u64],
-    right_bytes: &[u8],
-    w: u64,
-) -> Pass
-    requires { FormatBounds (format_of f) × Within source left_words.now left_bytes.now × Within source right_words.now right_bytes.now × Straight source }
-    ensures { Passed (totals.dot_terms (format_of f) (settings_of c) (elements source left_words.now left_bytes.now) (elements source right_words.now right_bytes.now)) w result }
-{
-    let mut total = middle();
-    let mut lost: u64 = 0;
-    let mut i: usize = 0;
-    while i < source.count {
-        let x = element(source, left_words, left_bytes, i);
-        let t = pair_term(f, c, x, element(source, right_words, right_bytes, i));
-        i += 1;
-        let p = window_part(t, w);
-        lost = larger(lost, p.lost);
-        if !p.some {
-            continue;
-        }
-        let q = settle(p.low, p.high, p.up, t.negative);
-        if !q.inside {
-            continue;
-        }
-        let at = q.at;
-        let x = add_word(total[at], q.w0, q.carry);
-        let y = add_word(total[at + 1], q.w1, x.carry);
-        let z = add_word(total[at + 2], q.w2, y.carry);
-        if goes_on(t.negative, total[at + 2], z.word) {
-            let next = move_term(total, p.low, p.high, p.up, t.negative);
-            total = next;
-            continue;
-        }
-        total[at] = x.word;
-        total[at + 1] = y.word;
-        total[at + 2] = z.word;
     }
     finished(total, lost)
 }
@@ -226,27 +91,56 @@ fn pass(
 {
     let source = k.source;
     if k.summand == HUNDREDFOLD {
-        return pass_hundreds(f, c, source, left_words, left_bytes, w);
+        return pass_over(
+            &Hundreds {
+                format: f,
+                settings: c,
+                source,
+                words: left_words,
+                bytes: left_bytes,
+            },
+            w,
+        );
     }
     if f.width > 64 {
-        return pass_tens(c, k.summand, source.count, left_bytes, right_bytes, w);
+        return pass_over(
+            &Tens {
+                settings: c,
+                summand: k.summand,
+                count: source.count,
+                left: left_bytes,
+                right: right_bytes,
+            },
+            w,
+        );
     }
     if k.summand == 3 {
-        return pass_pairs(
-            f,
-            c,
-            source,
-            left_words,
-            left_bytes,
-            right_words,
-            right_bytes,
+        return pass_over(
+            &Pairs {
+                format: f,
+                settings: c,
+                source,
+                left_words,
+                left_bytes,
+                right_words,
+                right_bytes,
+            },
             w,
         );
     }
     if k.summand < 2 {
-        return pass_singles(f, c, k.summand, source, left_words, left_bytes, w);
+        return pass_values(f, c, k.summand, source, left_words, left_bytes, w);
     }
-    pass_squares(f, c, source, left_words, left_bytes, w)
+    pass_over(
+        &Squares {
+            format: f,
+            settings: c,
+            source,
+            words: left_words,
+            bytes: left_bytes,
+        },
+        w,
+    )
 }
 
 // The exact sum of the terms, the highest of whose bits lies at `top`: pass after pass until one of them decides its first p digits.
