@@ -56,7 +56,8 @@ pub struct Rounded {
 }
 
 // A window to round, in two words: those from its highest on, with a sticky bit for what is dropped below them. They keep at least 65 bits, one more than
-// a result can have.
+// a result can have. Inlined by name: a call hands the window over in memory, which for a list of one element is a fifth.
+#[inline(always)]
 pub fn narrowed(negative: bool, sticky: bool, position: u64, w: [u64; 12]) -> Unrounded
     requires { position < 2 ^ 63 }
     ensures { Narrows negative sticky position w result }

@@ -237,7 +237,7 @@ module _ {l : List terms.Item} {n w i : ℕ} {total : List ℕ} {before : ℕ} {
   }
 
   -- where there is no part within the window
-  past : part % 2 ^ 768 ≡ 0 → Running l n w (i + 1) total lost
+  pub past : part % 2 ^ 768 ≡ 0 → Running l n w (i + 1) total lost
   past e = turn_moved so_far.words (past-moved t.negative part so_far.words e)
 
   pub turn-none : not p.some ≡ true → Running l n w (i + 1) total lost

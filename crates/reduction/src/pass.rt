@@ -1,6 +1,6 @@
 // What a pass starts and ends with, and the terms that it adds up.
 ghost use Rattle.std.specs.Prelude.{◌≡◌, ◌<◌, IfSome};
-ghost use Rattle.limbs.specs.Value.{Words, value, minus, moved, term};
+ghost use Rattle.limbs.specs.Value.{value, minus};
 ghost use Rattle.totals_spec.specs.Settings as env;
 ghost use Rattle.totals_spec.specs.Terms as terms;
 ghost use Rattle.totals_spec.specs.Hundredfold.{hundred_item};
@@ -16,10 +16,8 @@ use arithmetic::{
 use binary::{is_blank, is_plain};
 use format::Format;
 use format::env::Settings;
-use limbs::word::add_word;
-use limbs_term::{goes_on, move_term, settle, settle_single};
 use limbs_window::sub;
-use window::{Part, Pass};
+use window::Pass;
 
 // Each word of a pass starts at its middle: the sum so far then changes its sign without a carry through all the words above a term.
 pub fn start() -> [u64; 12]
@@ -34,51 +32,6 @@ pub fn finished(total: [u64; 12], lost: u64) -> Pass
 {
     let t = sub(total, start());
     Pass { lost, total: t }
-}
-
-// Adds a part to the window, or takes it off: three of its words are stored, unless a carry goes on.
-#[inline(always)]
-pub fn add_part(mut total: [u64; 12], p: Part, negative: bool) -> [u64; 12]
-    ensures words { Words 12 result }
-    ensures added { value result ≡ moved negative (value total) (term p.low p.high p.up) }
-{
-    let q = settle(p.low, p.high, p.up, negative);
-    if !q.inside {
-        return total;
-    }
-    let at = q.at;
-    let x = add_word(total[at], q.w0, q.carry);
-    let y = add_word(total[at + 1], q.w1, x.carry);
-    let z = add_word(total[at + 2], q.w2, y.carry);
-    if goes_on(negative, total[at + 2], z.word) {
-        return move_term(total, p.low, p.high, p.up, negative);
-    }
-    total[at] = x.word;
-    total[at + 1] = y.word;
-    total[at + 2] = z.word;
-    total
-}
-
-// The same of a part of one word: two of its words are stored.
-#[inline(always)]
-pub fn add_single(mut total: [u64; 12], p: Part, negative: bool) -> [u64; 12]
-    requires { p.high ≡ 0 }
-    ensures words { Words 12 result }
-    ensures added { value result ≡ moved negative (value total) (term p.low p.high p.up) }
-{
-    let q = settle_single(p.low, p.up, negative);
-    if !q.inside {
-        return total;
-    }
-    let at = q.at;
-    let x = add_word(total[at], q.w0, q.carry);
-    let y = add_word(total[at + 1], q.w1, x.carry);
-    if goes_on(negative, total[at + 1], y.word) {
-        return move_term(total, p.low, p.high, p.up, negative);
-    }
-    total[at] = x.word;
-    total[at + 1] = y.word;
-    total
 }
 
 // The term of an element of a list, where it has one. That of a value or a magnitude has one word. A zero, as of a missing month, is told at once. Inlined by

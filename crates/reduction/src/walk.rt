@@ -12,15 +12,18 @@ ghost use Rattle.window.specs.Joined.{Passed};
 ghost use Rattle.reduction.specs.Held.{Sums};
 
 use crate::extended::Tens;
-use crate::pass::{add_part, add_single, element_term, finished, start as middle};
+use crate::pass::{element_term, finished, start as middle};
 use crate::terms::{Hundreds, Pairs, Squares, Terms};
 use format::Format;
 use format::env::Settings;
+use limbs::word::add_word;
+use limbs_term::{goes_on, move_term, settle, settle_single};
 use std::ops::ControlFlow;
 use values::{HUNDREDFOLD, Source, Walk, element};
 use window::{Chain, ExactSum, Pass, window_part};
 
-// One pass at the edge w over a list of terms.
+// One pass at the edge w over a list of terms: of the window, an array of the loop, only the three words are stored that a term reaches, unless a carry goes
+// on.
 fn pass_over<T: Terms>(list: &T, w: u64) -> Pass
     requires { T.valid list.now }
     ensures { Passed (terms.terms (T.items list.now)) w result }
@@ -33,10 +36,25 @@ fn pass_over<T: Terms>(list: &T, w: u64) -> Pass
         };
         let p = window_part(t, w);
         lost = lost.max(p.lost);
-        if p.some {
-            let next = add_part(total, p, t.negative);
-            total = next;
+        if !p.some {
+            continue;
         }
+        let q = settle(p.low, p.high, p.up, t.negative);
+        if !q.inside {
+            continue;
+        }
+        let at = q.at;
+        let x = add_word(total[at], q.w0, q.carry);
+        let y = add_word(total[at + 1], q.w1, x.carry);
+        let z = add_word(total[at + 2], q.w2, y.carry);
+        if goes_on(t.negative, total[at + 2], z.word) {
+            let next = move_term(total, p.low, p.high, p.up, t.negative);
+            total = next;
+            continue;
+        }
+        total[at] = x.word;
+        total[at + 1] = y.word;
+        total[at + 2] = z.word;
     }
     finished(total, lost)
 }
@@ -67,10 +85,23 @@ fn pass_values(
         };
         let p = window_part(t, w);
         lost = lost.max(p.lost);
-        if p.some {
-            let next = add_single(total, p, t.negative);
-            total = next;
+        if !p.some {
+            continue;
         }
+        let q = settle_single(p.low, p.up, t.negative);
+        if !q.inside {
+            continue;
+        }
+        let at = q.at;
+        let x = add_word(total[at], q.w0, q.carry);
+        let y = add_word(total[at + 1], q.w1, x.carry);
+        if goes_on(t.negative, total[at + 1], y.word) {
+            let next = move_term(total, p.low, p.high, p.up, t.negative);
+            total = next;
+            continue;
+        }
+        total[at] = x.word;
+        total[at + 1] = y.word;
     }
     finished(total, lost)
 }

@@ -1,16 +1,24 @@
-use Rattle.std.proofs.Common.{◌≡◌, ◌<◌, ◌%◌, ◌^◌, min, ℕ, get_or, eqb, not, ap, ◌∙◌, arith}
-use Rattle.std.proofs.lemmas.Grind.{common_steps}
+-- A word below the place of c that is not 0, or none of them.
+use Rattle.std.proofs.Common.{◌≡◌, ◌<◌, ◌%◌, ◌^◌, min, ℕ, get_or, eqb, not, ap, ◌∙◌, ne_eqb, arith}
 use Rattle.limbs.proofs.Words.{words}
-use Rattle.limbs_window.proofs.Below.{some_below, rest_below}
+use Rattle.limbs_window.proofs.Below.{gather_none, gather-next, some_below, rest_below}
 use Rattle.limbs_window.proofs.any_below.Goals as goal
 
-pub returns-then-any : goal.returns-then-any
-returns-then-any c =
-    let some : (k : ℕ) × (k < c.split-p.result.word) × (get_or c.args.a k 0 ≡ 0 → ⊥) = grind (arith, common_steps) in
-    c.if-any.true ∙ some_below c.args.a (words 12 _ _ c.well_formed.0) c.split-p.ensures some.0 some.1 some.2
+pub loop-i-init : goal.loop-i-init
+loop-i-init c = gather_none _
 
-pub returns-else-any : goal.returns-else-any
-returns-else-any c =
-    let none : (k : ℕ) → k < min c.split-p.result.word 12 → get_or c.args.a k 0 ≡ 0 = grind arith in
+pub loop-i-preserved : goal.loop-i-preserved
+loop-i-preserved c = gather-next c.loop-i.invariant
+
+pub returns-then-whole-ne0 : goal.returns-then-whole-ne0
+returns-then-whole-ne0 c =
+    let s = c.loop-i.invariant.some c.if-whole-ne0.true in
+    let below : s.0 < c.split-p.result.word = omega (arith, s.1, c.loop-i.auto.i-end, c.min-i-end.ensures) in
+    ap not (ne_eqb c.loop-i.whole 0 c.if-whole-ne0.true) ∙ some_below c.args.a (words 12 _ _ c.well_formed.0) c.split-p.ensures s.0 below s.2
+
+pub returns-else-whole-ne0 : goal.returns-else-whole-ne0
+returns-else-whole-ne0 c =
+    let none : (k : ℕ) → k < min c.split-p.result.word 12 → get_or c.args.a k 0 ≡ 0 =
+    λ k h. c.loop-i.invariant.none c.if-whole-ne0.false k (omega (arith, h, c.loop-i-test.false, c.min-i-end.ensures)) in
     ap (λ (x : ℕ). not (eqb x 0)) (c.low_bits.ensures ∙ ap (λ (x : ℕ). x % 2 ^ c.split-p.result.bit) c.word_at.ensures)
     ∙ rest_below c.args.a (words 12 _ _ c.well_formed.0) c.split-p.ensures none

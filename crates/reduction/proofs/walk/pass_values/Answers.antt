@@ -1,5 +1,5 @@
 -- One element more: one that has no term changes nothing, and the part of a term is added. The next one stands a step on.
-use Rattle.std.proofs.Common.{◌≡◌, ℕ, ◌+◌, ◌*◌, ◌<◌, max, List, Option, None, Some, map, get_or, not, ap, ◌∙◌, arith}
+use Rattle.std.proofs.Common.{sym, ◌≡◌, ℕ, ◌+◌, ◌*◌, ◌<◌, max, List, Option, None, Some, map, get_or, not, ap, ◌∙◌, arith}
 use Rattle.totals_spec.specs.Terms.{Item, item, nan_item}
 use Rattle.values.specs.declared.Source.{Source}
 use Rattle.values.specs.Sources.{values, elements, Within}
@@ -9,7 +9,12 @@ use Rattle.arithmetic.specs.Joined.{StandsFor}
 use Rattle.window.specs.declared.Part.{Part}
 use Rattle.window.specs.Joined.{PartAt}
 use Rattle.reduction.specs.Listed.{Gives}
-use Rattle.reduction.proofs.Gather.{Running, Turn, running-start, running-end, running-over, turn-none, turn_moved}
+use borrow.Author.Tests.{not-true}
+use Rattle.limbs.specs.Value.{term}
+use Rattle.limbs.proofs.Words.{words}
+use Rattle.limbs_term.specs.Placed.{Settles}
+use Rattle.limbs_term.proofs.Stored.{two-stored, two-moved}
+use Rattle.reduction.proofs.Gather.{fits, past, Running, Turn, running-start, running-end, running-over, turn-none, turn_moved}
 use Rattle.reduction.proofs.Items.{element-items, element-gives}
 use Rattle.reduction.proofs.walk.pass_values.Invariants.{Reached}
 use Rattle.reduction.proofs.walk.pass_values.Goals as goal
@@ -51,22 +56,51 @@ loop-place-preserved-in_default c =
     let h = c.loop-place-test.true in
     further w (item _ _ _) k h (running-over k.so_far (inside w (item _ _ _) k h) (gives w (item _ _ _) k h c.element-b.ensures None c.in_default.ensures.gives))
 
-pub loop-place-preserved-then-p : goal.loop-place-preserved-then-p
-loop-place-preserved-then-p c =
+pub loop-place-preserved-then-not-p : goal.loop-place-preserved-then-not-p
+loop-place-preserved-then-not-p c =
     let w = c.requires.1 in
     let k = c.loop-place.invariant in
     let h = c.loop-place-test.true in
-    further w (item _ _ _) k h
-    (turn_moved (turn w (item _ _ _) k h c.element-b.ensures c.in-Some.ensures.gives c.window_part-p.ensures c.max-lost.ensures) c.add_single-next.ensures.words
-    c.add_single-next.ensures.added)
+    let t = turn w (item _ _ _) k h c.element-b.ensures c.in-Some.ensures.gives c.window_part-p.ensures c.max-lost.ensures in
+    further w (item _ _ _) k h (turn-none t c.if-not-p.true)
+
+pub loop-place-preserved-then-not-q : goal.loop-place-preserved-then-not-q
+loop-place-preserved-then-not-q c =
+    let w = c.requires.1 in
+    let k = c.loop-place.invariant in
+    let h = c.loop-place-test.true in
+    let t = turn w (item _ _ _) k h c.element-b.ensures c.in-Some.ensures.gives c.window_part-p.ensures c.max-lost.ensures in
+    let q = c.settle_single-q in
+    let p = c.window_part-p.result in
+    let s : Settles 10 q.result.w1 c.in-Some.t.negative (term p.low p.high p.up) q.result =
+    rw (c.window_part-p.ensures.one_word (c.in-Some.ensures.high_value c.requires.2)) q.ensures.0 in
+    further w (item _ _ _) k h (past t (s.past (not-true _ c.if-not-q.true)))
+
+pub loop-place-preserved-then-goes_on : goal.loop-place-preserved-then-goes_on
+loop-place-preserved-then-goes_on c =
+    let w = c.requires.1 in
+    let k = c.loop-place.invariant in
+    let h = c.loop-place-test.true in
+    let t = turn w (item _ _ _) k h c.element-b.ensures c.in-Some.ensures.gives c.window_part-p.ensures c.max-lost.ensures in
+    further w (item _ _ _) k h (turn_moved t (words 12 _ _ c.move_term-next.type_inv) c.move_term-next.ensures)
 
 pub loop-place-preserved : goal.loop-place-preserved
 loop-place-preserved c =
     let w = c.requires.1 in
     let k = c.loop-place.invariant in
     let h = c.loop-place-test.true in
+    let t = turn w (item _ _ _) k h c.element-b.ensures c.in-Some.ensures.gives c.window_part-p.ensures c.max-lost.ensures in
+    let q = c.settle_single-q in
+    let p = c.window_part-p.result in
+    let s : Settles 10 q.result.w1 c.in-Some.t.negative (term p.low p.high p.up) q.result =
+    rw (c.window_part-p.ensures.one_word (c.in-Some.ensures.high_value c.requires.2)) q.ensures.0 in
+    let none = q.ensures.1 in
+    let x = fits _ c.add_word-x.type_inv in
+    let y = fits _ c.add_word-y.type_inv in
+    let stays = sym c.goes_on.ensures ∙ c.if-goes_on.false in
+    let r = k.so_far.words in
     further w (item _ _ _) k h
-    (turn-none (turn w (item _ _ _) k h c.element-b.ensures c.in-Some.ensures.gives c.window_part-p.ensures c.max-lost.ensures) (ap not c.if-p.false))
+    (turn_moved t (two-stored r s none x y c.add_word-x.ensures c.add_word-y.ensures stays) (two-moved r s none x y c.add_word-x.ensures c.add_word-y.ensures stays))
 
 pub returns : goal.returns
 returns c =
