@@ -11,7 +11,7 @@ ghost use Rattle.values.specs.Tens.{ten_of};
 use crate::Read;
 use format::env::{Settings, flag};
 use format::unpacked::Unpacked;
-use format::{Format, Named};
+use format::Format;
 use values::Ten;
 
 // The sign lies above the 15 bits of the field.
@@ -33,7 +33,7 @@ pub fn extended() -> Format
         kind: 0,
         exponent_bits: 15,
         width: 79,
-        named: Named::Nothing,
+        named: None,
     }
 }
 

@@ -12,7 +12,7 @@ use binary::{decode, encode, is_plain, operand};
 use exact::{Unrounded, narrowed, round};
 use format::env::{Settings, flag, valid_settings, zero_sum_is_negative, zero_sum_sign};
 use format::unpacked::Unpacked;
-use format::{Format, Named, bias, depth, digits, exponent_range, grid, origin, valid_format};
+use format::{Format, bias, depth, digits, exponent_range, grid, origin, valid_format};
 use hexadecimal::number;
 
 fn agrees(a: u64, b: u64) -> u64
@@ -26,7 +26,7 @@ fn format_at(s: &[u8]) -> Format {
         kind: number(s, 0, 1),
         exponent_bits: number(s, 1, 1),
         width: number(s, 2, 1),
-        named: Named::Nothing,
+        named: None,
     }
 }
 
@@ -36,7 +36,7 @@ fn long_format_at(s: &[u8]) -> Format {
         kind: number(s, 0, 1),
         exponent_bits: number(s, 2, 2),
         width: number(s, 5, 2),
-        named: Named::Nothing,
+        named: None,
     }
 }
 

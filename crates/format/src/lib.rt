@@ -10,17 +10,10 @@ ghost use Rattle.std.specs.Prelude.{◌≡◌, ◌-◌, ◌*◌, ◌^◌, ◌<�
 ghost use Rattle.totals_spec.specs.Format as spec;
 ghost use Rattle.format.specs.Joined.{named_of, format_of};
 
-use limbs::word::{magnitude, power};
+use limbs::word::power;
 
 // A unit lies this far below the lowest bit that a term of the format can have: room for the passes below the last bit (totals_spec, `room`).
 pub const ROOM: u64 = 1024;
-
-// The bias that a format names, or none: then it has its kind's own.
-#[derive(Clone, Copy)]
-pub enum Named {
-    Nothing,
-    Bias(i64),
-}
 
 // The farthest bias from 0 that may be named.
 const FARTHEST: u64 = 268435456;
@@ -31,15 +24,15 @@ pub struct Format {
     pub kind: u64,
     pub exponent_bits: u64,
     pub width: u64,
-    pub named: Named,
+    pub named: Option<i64>,
 }
 
-fn offered(n: Named) -> bool
+fn offered(n: Option<i64>) -> bool
     ensures { result ≡ spec.offered (named_of n) }
 {
     match n {
-        Named::Nothing => true,
-        Named::Bias(b) => magnitude(b) <= FARTHEST,
+        None => true,
+        Some(b) => b.unsigned_abs() <= FARTHEST,
     }
 }
 
@@ -104,10 +97,9 @@ pub fn bias(f: Format) -> u64
     requires { RangeBounds (format_of f) }
     ensures { (result ≡ spec.bias (format_of f)) × (result ≤ 268435456) }
 {
-    let n = f.named;
-    match n {
-        Named::Nothing => own_bias(f),
-        Named::Bias(b) => if b < 0 { 0 } else { magnitude(b) },
+    match f.named {
+        None => own_bias(f),
+        Some(b) => if b < 0 { 0 } else { b.unsigned_abs() },
     }
 }
 
@@ -115,10 +107,9 @@ pub fn lift(f: Format) -> u64
     requires { RangeBounds (format_of f) }
     ensures { (result ≡ spec.lift (format_of f)) × (result ≤ 268435456) }
 {
-    let n = f.named;
-    match n {
-        Named::Nothing => 0,
-        Named::Bias(b) => if b < 0 { magnitude(b) } else { 0 },
+    match f.named {
+        None => 0,
+        Some(b) => if b < 0 { b.unsigned_abs() } else { 0 },
     }
 }
 

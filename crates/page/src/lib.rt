@@ -15,7 +15,7 @@ ghost use Rattle.page.specs.Paged.{seen_of, both, AllStand, Summarized, Counts, 
 use arithmetic::{Item, item_of, looked_term};
 use binary::operand;
 use format::env::{Settings, flag};
-use format::{Format, Named};
+use format::Format;
 use std::error::Error;
 use std::fmt;
 use values::{LIMIT, put_word, word_at};
@@ -44,7 +44,7 @@ pub fn binary64() -> Format
         kind: 0,
         exponent_bits: 11,
         width: 64,
-        named: Named::Nothing,
+        named: None,
     }
 }
 

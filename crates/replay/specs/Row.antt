@@ -1,9 +1,7 @@
 -- The fields of a row, at the places that cases.py has: numbers in hex digits, and a sign before one of them.
-use Rattle.std.specs.Prelude.{Bool, cond, List, ℕ, ◌+◌, ◌%◌, ◌^◌, ◌≡◌, eqb, ℤ, pos, neg_ℤ, length, get_or}
+use Rattle.std.specs.Prelude.{Option, Some, None, Bool, cond, List, ℕ, ◌+◌, ◌%◌, ◌^◌, ◌≡◌, eqb, ℤ, pos, neg_ℤ, length, get_or}
 use Rattle.hexadecimal.specs.Digits.{number_at}
 use Rattle.format.specs.declared.Format.{Format}
-use Rattle.format.specs.declared.Named.{Named}
-use Rattle.format.specs.declared.Named.TheVariants.{Nothing, Bias}
 use Rattle.format.specs.declared.env.Settings.{Settings}
 use Rattle.reduction.specs.declared.total.Answer.{Answer}
 use Rattle.totals.specs.declared.pence.Pence.{Pence}
@@ -34,11 +32,11 @@ signed_at s at n =
     cond (eqb (get_or s at 48) 45) (neg_ℤ (pos (word_at s (at + 1) n % 2 ^ 63))) (pos (word_at s (at + 1) n % 2 ^ 63))
 
 -- a bias, in the longer rows that name one
-abbrev pub named_in : List ℕ → Named
+abbrev pub named_in : List ℕ → Option ℤ
 named_in s =
-    cond (eqb (length s) 301) (Bias (signed_at s 283 16))
-    (cond (eqb (length s) 67) (Bias (signed_at s 49 16))
-    (cond (eqb (length s) 505) (Bias (signed_at s 487 16)) Nothing))
+    cond (eqb (length s) 301) (Some (signed_at s 283 16))
+    (cond (eqb (length s) 67) (Some (signed_at s 49 16))
+    (cond (eqb (length s) 505) (Some (signed_at s 487 16)) None))
 
 abbrev pub format_in : List ℕ → Format
 format_in s = record { kind = word_at s 2 1; exponent_bits = word_at s 4 2; width = word_at s 7 2; named = named_in s }
@@ -59,6 +57,6 @@ abbrev pub pence_in : List ℕ → ℕ → Pence
 pence_in s at = record { figure = signed_at s at 16; refusal = word_at s (at + 18) 1; place = word_at s (at + 20) 1 }
 
 -- a number says whether a format names a bias, and the bias is 0 where none is named
-abbrev pub IsTold : Named → ℕ → ℤ → Type 0
-IsTold (Bias b) told bias = (told ≡ 1) × (bias ≡ b)
-IsTold Nothing told bias = (told ≡ 0) × (bias ≡ pos 0)
+abbrev pub IsTold : Option ℤ → ℕ → ℤ → Type 0
+IsTold (Some b) told bias = (told ≡ 1) × (bias ≡ b)
+IsTold None told bias = (told ≡ 0) × (bias ≡ pos 0)

@@ -3,7 +3,7 @@
 ghost use Rattle.std.specs.Prelude.{◌≤◌};
 
 use format::env::Settings;
-use format::{Format, Named};
+use format::Format;
 use totals::refusal::{Refusal, dot_refusal, sum_refusal};
 
 // binary64, or of a kind that there is not
@@ -12,7 +12,7 @@ fn double(kind: u64) -> Format {
         kind,
         exponent_bits: 11,
         width: 64,
-        named: Named::Nothing,
+        named: None,
     }
 }
 

@@ -3,7 +3,7 @@ ghost use Rattle.std.specs.Prelude.{◌≡◌, ◌+◌, ◌*◌, ◌%◌, ◌^�
 ghost use Rattle.replay.specs.Row.{word_at, is_dot, named_in, format_in, settings_in, signed_at, answer_in, pence_in};
 
 use format::env::Settings;
-use format::{Format, Named};
+use format::Format;
 use hexadecimal::number;
 use reduction::total::Answer;
 use std::array;
@@ -40,14 +40,14 @@ pub fn is_dot(s: &[u8]) -> bool
 }
 
 // The bias behind all else, in a row that names one.
-fn named_at(s: &[u8]) -> Named
+fn named_at(s: &[u8]) -> Option<i64>
     ensures { result ≡ named_in s.now }
 {
     match s.len() {
-        BIASED => Named::Bias(signed_at(s, 283, 16)),
-        BIASED_PENCE => Named::Bias(signed_at(s, 49, 16)),
-        BIASED_TABLE => Named::Bias(signed_at(s, 487, 16)),
-        _ => Named::Nothing,
+        BIASED => Some(signed_at(s, 283, 16)),
+        BIASED_PENCE => Some(signed_at(s, 49, 16)),
+        BIASED_TABLE => Some(signed_at(s, 487, 16)),
+        _ => None,
     }
 }
 

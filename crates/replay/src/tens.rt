@@ -3,7 +3,7 @@ use crate::row::{
     at_most, bytes_in, format_at, is_dot, returned_at, settings_at, signed_at, summand_at,
 };
 use crate::ways::{enter_dot, enter_sum, leaves};
-use format::{Format, Named};
+use format::Format;
 use hexadecimal::number;
 
 // The length of a row.
@@ -30,7 +30,7 @@ fn format_of(s: &[u8]) -> Format {
         return f;
     }
     Format {
-        named: Named::Bias(signed_at(s, 34, 16)),
+        named: Some(signed_at(s, 34, 16)),
         ..f
     }
 }

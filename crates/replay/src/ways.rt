@@ -11,19 +11,19 @@ use crate::row::{
     settings_at, summand_at, words_at,
 };
 use format::env::Settings;
-use format::{Format, Named};
+use format::Format;
 use reduction::total::Answer;
 use totals::entry::{totals_dot, totals_dot_biased, totals_sum, totals_sum_biased};
 use totals::{dot, dot_bytes, sum, sum_bytes};
 use values::put_word;
 
 // Whether a format names a bias, as the entries are told, and the bias, which is 0 where there is none.
-pub fn bias_of(named: Named) -> (u64, i64)
+pub fn bias_of(named: Option<i64>) -> (u64, i64)
     ensures { IsTold named result.0 result.1 }
 {
     match named {
-        Named::Bias(bias) => (1, bias),
-        Named::Nothing => (0, 0),
+        Some(bias) => (1, bias),
+        None => (0, 0),
     }
 }
 
@@ -73,7 +73,7 @@ pub fn enter_sum(f: Format, c: Settings, u: u64, values: &[u8], answer: &mut [u8
     ensures { Enters (sum_call (format_of f) (settings_of c) u values.now answer.old) result answer.new }
 {
     match f.named {
-        Named::Bias(bias) => totals_sum_biased(
+        Some(bias) => totals_sum_biased(
             f.kind,
             f.exponent_bits,
             f.width,
@@ -90,7 +90,7 @@ pub fn enter_sum(f: Format, c: Settings, u: u64, values: &[u8], answer: &mut [u8
             values,
             answer,
         ),
-        Named::Nothing => totals_sum(
+        None => totals_sum(
             f.kind,
             f.exponent_bits,
             f.width,
@@ -113,7 +113,7 @@ pub fn enter_dot(f: Format, c: Settings, left: &[u8], right: &[u8], answer: &mut
     ensures { Enters (dot_call (format_of f) (settings_of c) left.now right.now answer.old) result answer.new }
 {
     match f.named {
-        Named::Bias(bias) => totals_dot_biased(
+        Some(bias) => totals_dot_biased(
             f.kind,
             f.exponent_bits,
             f.width,
@@ -130,7 +130,7 @@ pub fn enter_dot(f: Format, c: Settings, left: &[u8], right: &[u8], answer: &mut
             right,
             answer,
         ),
-        Named::Nothing => totals_dot(
+        None => totals_dot(
             f.kind,
             f.exponent_bits,
             f.width,

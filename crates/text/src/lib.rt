@@ -12,7 +12,7 @@ ghost use Rattle.totals_spec.specs.Pence.{sum_pence};
 use crate::read::read_lines;
 use crate::write::{Text, answer_lines, refused_line};
 use format::env::Settings;
-use format::{Format, Named};
+use format::Format;
 use totals::pence::pence_of_sum;
 use totals::sum;
 
@@ -24,7 +24,7 @@ fn sum_text(values: &[u64]) -> Text
         kind: 0,
         exponent_bits: 11,
         width: 64,
-        named: Named::Nothing,
+        named: None,
     };
     let c = Settings {
         rounding: 0,

@@ -20,7 +20,7 @@ use crate::several::{Printed, Target, in_three};
 use crate::table::table;
 use crate::{dot_bytes, extended, sum_bytes};
 use format::env::Settings;
-use format::{Format, Named};
+use format::Format;
 use limbs::word::magnitude;
 use page::{PageError, write};
 use reduction::total::{Answer, Wide, refused};
@@ -69,14 +69,14 @@ fn format_with(kind: u64, exponent_bits: u64, width: u64, named: bool, bias: i64
             kind,
             exponent_bits,
             width,
-            named: Named::Bias(bias),
+            named: Some(bias),
         };
     }
     Format {
         kind,
         exponent_bits,
         width,
-        named: Named::Nothing,
+        named: None,
     }
 }
 

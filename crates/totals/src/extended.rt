@@ -13,7 +13,7 @@ use crate::refusal::{Refusal, first_refusal, list_refusal, pair_refusal};
 use binary::extended::extended;
 use binary::nan::default_nan;
 use format::env::Settings;
-use format::{Format, Named};
+use format::Format;
 use reduction::total::{Wide, special};
 use scan::extended::{any_unsupported, scan};
 
@@ -21,13 +21,10 @@ const EXPONENT_BITS: u64 = 15;
 
 const WIDTH: u64 = 80;
 
-fn unnamed(n: Named) -> bool
+fn unnamed(n: Option<i64>) -> bool
     ensures { result ≡ spec.unnamed (named_of n) }
 {
-    match n {
-        Named::Nothing => true,
-        Named::Bias(_) => false,
-    }
+    n.is_none()
 }
 
 // Kind 4 is offered in one format.
