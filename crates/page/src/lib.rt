@@ -163,12 +163,7 @@ fn all_stand(page: &[u8], n: usize, groups: usize) -> bool
     requires { (n ≤ 268435456) × (64 * groups < n + 64) × (8 * n + 12 * groups + 16 ≤ length page.now) }
     ensures { IsTrue result ↔ AllStand n page.now groups }
 {
-    for g in 0..groups {
-        if !stands(page, n, g) {
-            return false;
-        }
-    }
-    true
+    (0..groups).all(|g| stands(page, n, g))
 }
 
 // The groups of n values.
