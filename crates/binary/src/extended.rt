@@ -9,9 +9,9 @@ ghost use Rattle.format.specs.Fits.{Encodes};
 ghost use Rattle.values.specs.Tens.{ten_of};
 
 use crate::Read;
+use format::Format;
 use format::env::{Settings, flag};
 use format::unpacked::Unpacked;
-use format::Format;
 use values::Ten;
 
 // The sign lies above the 15 bits of the field.

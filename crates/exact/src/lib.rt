@@ -124,7 +124,7 @@ impl Unrounded {
         }
         let below = (lowest - self.position - 1) as usize;
         let one = pair::shr(self.low, self.high, below);
-        let rest = self.sticky || pair::any_below(self.low, self.high, below);
+        let rest = self.sticky | pair::any_below(self.low, self.high, below);
         Cut {
             kept: funnel(one.low, one.high, 1),
             dropped: Dropped::new(one.low % 2 == 1, rest),

@@ -14,8 +14,8 @@ ghost use Rattle.page.specs.Paged.{seen_of, both, AllStand, Summarized, Counts, 
 
 use arithmetic::{Item, item_of, looked_term};
 use binary::operand;
-use format::env::{Settings, flag};
 use format::Format;
+use format::env::{Settings, flag};
 use std::error::Error;
 use std::fmt;
 use values::{LIMIT, put_word, word_at};

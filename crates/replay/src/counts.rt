@@ -2,8 +2,8 @@
 // length. A caller of the archive hands over such lists (bindings/rust).
 ghost use Rattle.std.specs.Prelude.{◌≤◌};
 
-use format::env::Settings;
 use format::Format;
+use format::env::Settings;
 use totals::refusal::{Refusal, dot_refusal, sum_refusal};
 
 // binary64, or of a kind that there is not
@@ -20,13 +20,7 @@ fn double(kind: u64) -> Format {
 fn plain(rounding: u64) -> Settings {
     Settings {
         rounding,
-        tininess: 0,
-        nan_propagation: 0,
-        default_nan_negative: 0,
-        flush_to_zero: 0,
-        denormals_are_zero: 0,
-        saturate: 0,
-        precision: 0,
+        ..Settings::default()
     }
 }
 

@@ -2,8 +2,8 @@
 ghost use Rattle.std.specs.Prelude.{◌≡◌, ◌+◌, ◌*◌, ◌%◌, ◌^◌, ◌<◌, ◌≤◌, get_or};
 ghost use Rattle.replay.specs.Row.{word_at, is_dot, named_in, format_in, settings_in, signed_at, answer_in, pence_in};
 
-use format::env::Settings;
 use format::Format;
+use format::env::Settings;
 use hexadecimal::number;
 use reduction::total::Answer;
 use std::array;

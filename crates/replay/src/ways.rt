@@ -10,8 +10,8 @@ use crate::row::{
     answer_at, at_most, bytes_at, format_at, is_dot, returned_at, right_bytes, right_words,
     settings_at, summand_at, words_at,
 };
-use format::env::Settings;
 use format::Format;
+use format::env::Settings;
 use reduction::total::Answer;
 use totals::entry::{totals_dot, totals_dot_biased, totals_sum, totals_sum_biased};
 use totals::{dot, dot_bytes, sum, sum_bytes};

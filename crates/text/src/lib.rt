@@ -11,8 +11,8 @@ ghost use Rattle.totals_spec.specs.Pence.{sum_pence};
 
 use crate::read::read_lines;
 use crate::write::{Text, answer_lines, refused_line};
-use format::env::Settings;
 use format::Format;
+use format::env::Settings;
 use totals::pence::pence_of_sum;
 use totals::sum;
 

@@ -19,9 +19,8 @@ use crate::range::range_total;
 use crate::several::{Printed, Target, in_three};
 use crate::table::table;
 use crate::{dot_bytes, extended, sum_bytes};
-use format::env::Settings;
 use format::Format;
-use limbs::word::magnitude;
+use format::env::Settings;
 use page::{PageError, write};
 use reduction::total::{Answer, Wide, refused};
 use values::{put_word, word_at};
@@ -480,7 +479,7 @@ fn misnamed(bias_named: u64, bias: i64) -> bool
     ensures { result ≡ words.misnamed bias_named bias }
 {
     if bias_named == 0 {
-        return magnitude(bias) != 0;
+        return bias.unsigned_abs() != 0;
     }
     bias_named > 1
 }

@@ -12,8 +12,8 @@ use crate::lists::tens;
 use crate::refusal::{Refusal, first_refusal, list_refusal, pair_refusal};
 use binary::extended::extended;
 use binary::nan::default_nan;
-use format::env::Settings;
 use format::Format;
+use format::env::Settings;
 use reduction::total::{Wide, special};
 use scan::extended::{any_unsupported, scan};
 

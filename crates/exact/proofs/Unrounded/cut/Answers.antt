@@ -4,7 +4,6 @@ use Rattle.exact.specs.declared.Unrounded.{Unrounded}
 use Rattle.exact.specs.Joined.{significand_of}
 use Rattle.exact.proofs.Standing.{CutUp, cut_up, cut_down, two-word-digits, stands-kept, stands-dropped}
 use Rattle.exact.proofs.Unrounded.cut.Goals as goal
-use Rattle.exact.proofs.Unrounded.cut.Goals.{then-self, else-self}
 
 -- there the low word is the whole significand
 word : (v : Unrounded) (u : ℕ) → CutUp v.sticky (significand_of v) v.position u → v.low ≡ significand_of v
@@ -37,11 +36,7 @@ returns c =
     let one = c.shr-one.result in
     let few = cut_down m v.position (i + 1) u at c.requires.self_nonzero.1 in
     let first : one.low % 2 ≡ m / 2 ^ i % 2 = omega (arith, c.shr-one.ensures) in
-    let rest : c.if-self.rest ≡ (v.sticky || not (eqb (m % 2 ^ i) 0)) =
-    elim c.if-self.branch [
-      | then-self w ↦ rw (w.rest-is, w.if-self.true)
-      | else-self w ↦ rw (w.rest-is, w.if-self.false) w.any_below-rest.ensures
-    ] in
+    let rest : (v.sticky || c.any_below.result) ≡ (v.sticky || not (eqb (m % 2 ^ i) 0)) = ap (◌||◌ v.sticky) c.any_below.ensures in
     λ x st. (
       c.funnel.ensures ∙ two-word-digits m i one.low one.high c.shr-one.ensures few ∙ sym (stands-kept v.sticky m v.position x st (i + 1) u at),
       c.new.ensures ∙ rw (rest, first) (sym (stands-dropped v.sticky m v.position x st i u (omega (arith, at)))),
