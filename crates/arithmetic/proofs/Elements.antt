@@ -1,4 +1,5 @@
 -- An element as a term of the code: its significand, its small exponent, its position, and which of its kinds is no term.
+use Rattle.std.specs.Prelude.{◌≢◌}
 use mathlib.Core.Path.{◌≡◌, refl, sym, ap, ◌∙◌, subst}
 use mathlib.Core.Bool.{Bool, true, false, ◌&&◌, cond, true≢false}
 use Prim.Native.Nat.{ℕ, zero, suc, ◌+◌, ◌-◌, ◌*◌, ◌/◌, ◌^◌, ◌≤◌, ◌<◌, max}
@@ -19,6 +20,12 @@ use Rattle.totals_spec.proofs.Bits.{size_is}
 use Rattle.totals_spec.proofs.Good.{Decoded, decoded-operand}
 use Rattle.totals_spec.proofs.Spread.{extended-bounds}
 use Rattle.totals_spec.proofs.ExtendedTerms.{operand-decoded}
+use Rattle.format.specs.declared.layout.Layout.{Layout}
+use Rattle.format.specs.Layouts.{layout_of}
+use Rattle.format.proofs.Layouts.{layout_bounds}
+use Rattle.arithmetic.specs.declared.summand.Summand.{Summand}
+use Rattle.arithmetic.specs.declared.summand.Summand.TheVariants.{Value, Magnitude, Square}
+use Rattle.arithmetic.specs.Summands.{summand_in}
 use Rattle.arithmetic.specs.declared.Term.{Term}
 use Rattle.arithmetic.specs.declared.Item.TheVariants as item
 use Rattle.binary.specs.Joined.{is_plain}
@@ -46,7 +53,10 @@ field-small f b h = lt_of_lt_of_le (mod-lt (b / 2 ^ spec.fraction_bits f) (pow_p
 significand-pos : (f : spec.Format) (b : ℕ) → 0 < 2 ^ spec.fraction_bits f + dec.fraction_of f b
 significand-pos f b = omega (arith, pow_pos (spec.fraction_bits f))
 
-pub ruleset operands = (operand-bounded, extended-bounded)
+pub layout-bounded : (f : Layout) (c : env.Settings) (b : ℕ) (x : dec.Unpacked) → dec.operand (layout_of f) c b ≡ x → Bounded x
+layout-bounded f = operand-bounded (layout_of f) (layout_bounds f)
+
+pub ruleset operands = (layout-bounded, extended-bounded)
 
 -- as the code reads them
 pub field-shift : (f : spec.Format) (b x : ℕ) → FormatBounds f → x ≡ dec.field_of f b → x - 1 < 268435456
@@ -97,12 +107,12 @@ two-le : (n : ℕ) → suc (suc n) < 2 → ⊥
 two-le n h = omega arith
 
 -- a number's own term, where it is not squared
-pub single_of : (u : ℕ) (s b : Bool) (k m : ℕ) → u < 2 → k < 268435456 → 0 < m → b ≡ (is_value (env.summand_of u) && s)
-    → StandsFor (record { negative = b; low = m; high = 0; shift = k + 1024 }) (terms.item_of (env.summand_of u) (dec.finite s k m))
+pub single_of : (u : Summand) (s b : Bool) (k m : ℕ) → u ≢ Square → k < 268435456 → 0 < m → b ≡ (is_value (summand_in u) && s)
+    → StandsFor (record { negative = b; low = m; high = 0; shift = k + 1024 }) (terms.item_of (summand_in u) (dec.finite s k m))
 unfolding magnitude terms.single
-single_of zero s b k m h g z e = (ap (λ (n : ℕ). n * 2 ^ (k + 1024)) (zero-add m), e, omega arith, mul-pos z (pow_pos (k + 1024)))
-single_of (suc zero) s b k m h g z e = (ap (λ (n : ℕ). n * 2 ^ (k + 1024)) (zero-add m), e, omega arith, mul-pos z (pow_pos (k + 1024)))
-single_of (suc (suc n)) s b k m h g z e = absurd (two-le n h)
+single_of Value s b k m h g z e = (ap (λ (n : ℕ). n * 2 ^ (k + 1024)) (zero-add m), e, omega arith, mul-pos z (pow_pos (k + 1024)))
+single_of Magnitude s b k m h g z e = (ap (λ (n : ℕ). n * 2 ^ (k + 1024)) (zero-add m), e, omega arith, mul-pos z (pow_pos (k + 1024)))
+single_of Square s b k m h g z e = absurd (h refl)
 
 -- ---- an element that is plainly a number
 

@@ -2,23 +2,28 @@
 #![tactic(auto)]
 
 pub mod extended;
+pub mod summand;
 
-ghost use Rattle.totals_spec.specs.Bounds.{FormatBounds};
-ghost use Rattle.std.specs.Prelude.{◌≡◌, ◌&&◌, ◌+◌, ◌-◌, ◌*◌, ◌^◌, ◌<◌};
+ghost use Rattle.arithmetic.specs.declared.summand.Summand.TheVariants.{Square};
+ghost use Rattle.std.specs.Prelude.{◌≡◌, ◌≢◌, ◌&&◌, ◌+◌, ◌-◌, ◌*◌, ◌^◌, ◌<◌};
 ghost use Rattle.limbs.specs.Value.{bit_length};
 ghost use Rattle.totals_spec.specs.Format as spec;
-ghost use Rattle.totals_spec.specs.Settings as env;
 ghost use Rattle.totals_spec.specs.Terms as terms;
 ghost use Rattle.totals_spec.specs.Decode as dec;
 ghost use Rattle.totals_spec.specs.Totals as totals;
 ghost use Rattle.totals_spec.specs.Hundredfold.{hundred_of, hundred_item};
-ghost use Rattle.format.specs.Joined.{format_of, settings_of, unpacked_of};
+ghost use Rattle.format.specs.Layouts.{layout_of};
+ghost use Rattle.format.specs.Environments.{env_of};
+ghost use Rattle.format.specs.Joined.{unpacked_of};
+ghost use Rattle.arithmetic.specs.Summands.{summand_in};
 ghost use Rattle.arithmetic.specs.Joined.{item_of, StandsFor, Bounded, plain_number, plain_product, both_plain, plain_field, plain_fields, field_top, fields_top};
 
+use crate::summand::Summand;
 use binary::{field_of, fraction_of, is_plain, operand, sign_of};
-use format::env::Settings;
+use format::ROOM;
+use format::environment::Env;
+use format::layout::Layout;
 use format::unpacked::Unpacked;
-use format::{Format, ROOM, fraction_bits};
 use limbs::word;
 use limbs::word::{power, widening_mul};
 
@@ -77,46 +82,44 @@ pub fn product(negative: bool, k: u64, m: u64, j: u64, n: u64) -> Term
 }
 
 // The sign that counts: in magnitude and square sums everything is positive.
-fn summand_sign(u: u64, negative: bool) -> bool
-    ensures { result ≡ (totals.is_value (env.summand_of u) && negative) }
+fn summand_sign(u: Summand, negative: bool) -> bool
+    ensures { result ≡ (totals.is_value (summand_in u) && negative) }
 {
-    u == 0 && negative
+    u == Summand::Value && negative
 }
 
 // The term of a number, by the summand: 0 value, 1 magnitude, 2 and above square.
 #[tactic(auto, using(crate::proofs::Elements::single_of))]
-fn summand_term(u: u64, negative: bool, k: u64, m: u64) -> Term
+fn summand_term(u: Summand, negative: bool, k: u64, m: u64) -> Term
     requires { (k < 268435456) × (0 < m) }
-    ensures stands_for { StandsFor result (terms.item_of (env.summand_of u) (dec.finite negative k m)) }
-    ensures high_value { u < 2 → result.high ≡ 0 }
+    ensures stands_for { StandsFor result (terms.item_of (summand_in u) (dec.finite negative k m)) }
+    ensures high_value { u ≢ Square → result.high ≡ 0 }
 {
-    if u >= 2 {
-        product(false, k, m, k, m)
-    } else {
-        Term {
+    match u {
+        Summand::Square => product(false, k, m, k, m),
+        _ => Term {
             negative: summand_sign(u, negative),
             low: m,
             high: 0,
             shift: k + ROOM,
-        }
+        },
     }
 }
 
 // The significand of a normal number.
-fn plain_significand(f: Format, b: u64) -> u64
-    requires { FormatBounds (format_of f) }
-    ensures { result ≡ 2 ^ spec.fraction_bits (format_of f) + dec.fraction_of (format_of f) b }
+fn plain_significand(f: Layout, b: u64) -> u64
+    ensures { result ≡ 2 ^ spec.fraction_bits (layout_of f) + dec.fraction_of (layout_of f) b }
 {
-    power(fraction_bits(f)) + fraction_of(f, b)
+    power(f.shape.fraction_bits()) + fraction_of(f, b)
 }
 
 // The term of an operand. This and `operand_pair` are inlined into the loops over elements that take a closer look.
 #[inline(always)]
 #[tactic(auto, unfolding(crate::specs::Joined::magnitude))]
-fn operand_term(u: u64, v: Unpacked) -> Term
+fn operand_term(u: Summand, v: Unpacked) -> Term
     requires { Bounded (unpacked_of v) }
-    ensures stands_for { StandsFor result (terms.item_of (env.summand_of u) (unpacked_of v)) }
-    ensures high_value { u < 2 → result.high ≡ 0 }
+    ensures stands_for { StandsFor result (terms.item_of (summand_in u) (unpacked_of v)) }
+    ensures high_value { u ≢ Square → result.high ≡ 0 }
 {
     match v {
         Unpacked::Finite {
@@ -130,19 +133,18 @@ fn operand_term(u: u64, v: Unpacked) -> Term
 
 // The term of an element that takes a closer look.
 #[tactic(auto, unfolding(totals_spec::specs::Terms::item), using(crate::proofs::Elements::operands))]
-pub fn looked_term(f: Format, c: Settings, u: u64, b: u64) -> Term
-    requires { FormatBounds (format_of f) }
-    ensures stands_for { StandsFor result (terms.item (format_of f) (settings_of c) (env.summand_of u) b) }
-    ensures high_value { u < 2 → result.high ≡ 0 }
+pub fn looked_term(f: Layout, c: Env, u: Summand, b: u64) -> Term
+    ensures stands_for { StandsFor result (terms.item (layout_of f) (env_of c) (summand_in u) b) }
+    ensures high_value { u ≢ Square → result.high ≡ 0 }
 {
     operand_term(u, operand(f, c, b).value)
 }
 
 // The term of a normal number.
-pub fn plain_term(f: Format, u: u64, b: u64) -> Term
-    requires { FormatBounds (format_of f) × (0 < dec.field_of (format_of f) b) }
-    ensures stands_for { StandsFor result (terms.item_of (env.summand_of u) (plain_number (format_of f) b)) }
-    ensures high_value { u < 2 → result.high ≡ 0 }
+pub fn plain_term(f: Layout, u: Summand, b: u64) -> Term
+    requires { (0 < dec.field_of (layout_of f) b) }
+    ensures stands_for { StandsFor result (terms.item_of (summand_in u) (plain_number (layout_of f) b)) }
+    ensures high_value { u ≢ Square → result.high ≡ 0 }
 {
     summand_term(
         u,
@@ -154,9 +156,8 @@ pub fn plain_term(f: Format, u: u64, b: u64) -> Term
 
 // A hundred times an element that takes a closer look. Apart from the terms above, whose loops are not to test for it in each turn.
 #[tactic(auto, unfolding(totals_spec::specs::Hundredfold::hundred_item, crate::specs::Joined::magnitude), using(crate::proofs::Elements::operands))]
-pub fn looked_hundred(f: Format, c: Settings, b: u64) -> Term
-    requires { FormatBounds (format_of f) }
-    ensures { StandsFor result (hundred_item (format_of f) (settings_of c) b) }
+pub fn looked_hundred(f: Layout, c: Env, b: u64) -> Term
+    ensures { StandsFor result (hundred_item (layout_of f) (env_of c) b) }
 {
     match operand(f, c, b).value {
         Unpacked::Finite {
@@ -169,9 +170,9 @@ pub fn looked_hundred(f: Format, c: Settings, b: u64) -> Term
 }
 
 // A hundred times a normal number.
-pub fn plain_hundred(f: Format, b: u64) -> Term
-    requires { FormatBounds (format_of f) × (0 < dec.field_of (format_of f) b) }
-    ensures { StandsFor result (hundred_of (plain_number (format_of f) b)) }
+pub fn plain_hundred(f: Layout, b: u64) -> Term
+    requires { (0 < dec.field_of (layout_of f) b) }
+    ensures { StandsFor result (hundred_of (plain_number (layout_of f) b)) }
 {
     product(
         sign_of(f, b),
@@ -210,18 +211,16 @@ fn operand_pair(v: Unpacked, w: Unpacked) -> Term
 
 // The term of a pair that takes a closer look.
 #[tactic(auto, unfolding(totals_spec::specs::Terms::pair_item), using(crate::proofs::Elements::operands))]
-pub fn looked_pair(f: Format, c: Settings, x: u64, y: u64) -> Term
-    requires { FormatBounds (format_of f) }
-    ensures { StandsFor result (terms.pair_item (format_of f) (settings_of c) (x, y)) }
+pub fn looked_pair(f: Layout, c: Env, x: u64, y: u64) -> Term
+    ensures { StandsFor result (terms.pair_item (layout_of f) (env_of c) (x, y)) }
 {
     operand_pair(operand(f, c, x).value, operand(f, c, y).value)
 }
 
 // The term of two normal numbers.
-pub fn plain_product(f: Format, x: u64, y: u64) -> Term
-    requires format_bounds { FormatBounds (format_of f) }
-    requires x_nonzero { (0 < dec.field_of (format_of f) x) × (0 < dec.field_of (format_of f) y) }
-    ensures { StandsFor result (terms.term (plain_product (format_of f) x y)) }
+pub fn plain_product(f: Layout, x: u64, y: u64) -> Term
+    requires { (0 < dec.field_of (layout_of f) x) × (0 < dec.field_of (layout_of f) y) }
+    ensures { StandsFor result (terms.term (plain_product (layout_of f) x y)) }
 {
     let negative = sign_of(f, x) != sign_of(f, y);
     product(
@@ -234,9 +233,8 @@ pub fn plain_product(f: Format, x: u64, y: u64) -> Term
 }
 
 // Whether both of a pair are plainly normal numbers.
-pub fn both_plain(f: Format, x: u64, y: u64) -> bool
-    requires { FormatBounds (format_of f) }
-    ensures { result ≡ both_plain (format_of f) x y }
+pub fn both_plain(f: Layout, x: u64, y: u64) -> bool
+    ensures { result ≡ both_plain (layout_of f) x y }
 {
     is_plain(f, x) && is_plain(f, y)
 }
@@ -258,17 +256,15 @@ fn top_of_product(k: u64, m: u64, j: u64, n: u64) -> u64
 }
 
 // The exponent field of an element that is plainly a normal number, and 0 for one that takes a closer look.
-pub fn plain_field(f: Format, b: u64) -> u64
-    requires { FormatBounds (format_of f) }
-    ensures { result ≡ plain_field (format_of f) b }
+pub fn plain_field(f: Layout, b: u64) -> u64
+    ensures { result ≡ plain_field (layout_of f) b }
 {
     if is_plain(f, b) { field_of(f, b) } else { 0 }
 }
 
 // The same of a pair: the sum of the two fields.
-pub fn plain_fields(f: Format, x: u64, y: u64) -> u64
-    requires { FormatBounds (format_of f) }
-    ensures { result ≡ plain_fields (format_of f) x y }
+pub fn plain_fields(f: Layout, x: u64, y: u64) -> u64
+    ensures { result ≡ plain_fields (layout_of f) x y }
 {
     if both_plain(f, x, y) {
         field_of(f, x) + field_of(f, y)
@@ -278,17 +274,16 @@ pub fn plain_fields(f: Format, x: u64, y: u64) -> u64
 }
 
 // The bit length of every normal number's significand, that of the least one.
-fn normal_length(f: Format) -> u64
-    requires { FormatBounds (format_of f) }
-    ensures { result ≡ spec.digits (format_of f) }
+fn normal_length(f: Layout) -> u64
+    ensures { result ≡ spec.digits (layout_of f) }
 {
-    word::bit_length(power(fraction_bits(f))) as u64
+    word::bit_length(power(f.shape.fraction_bits())) as u64
 }
 
 // The position that counts for T of plainly normal pairs, from the greatest sum of fields; 0 where there are none.
-pub fn plain_pair_top(f: Format, fields: u64) -> u64
-    requires { FormatBounds (format_of f) × (fields < 536870912) }
-    ensures { result ≡ fields_top (format_of f) fields }
+pub fn plain_pair_top(f: Layout, fields: u64) -> u64
+    requires { (fields < 536870912) }
+    ensures { result ≡ fields_top (layout_of f) fields }
 {
     if fields == 0 {
         0
@@ -298,24 +293,22 @@ pub fn plain_pair_top(f: Format, fields: u64) -> u64
 }
 
 // The same of elements, from the greatest field, by the summand: a square is a pair of an element with itself.
-pub fn plain_top(f: Format, u: u64, field: u64) -> u64
-    requires { FormatBounds (format_of f) × (field < 268435456) }
-    ensures { result ≡ field_top (format_of f) (env.summand_of u) field }
+pub fn plain_top(f: Layout, u: Summand, field: u64) -> u64
+    requires { (field < 268435456) }
+    ensures { result ≡ field_top (layout_of f) (summand_in u) field }
 {
-    if u >= 2 {
-        plain_pair_top(f, field + field)
-    } else if field == 0 {
-        0
-    } else {
-        field + normal_length(f) + FIELD_TOP
+    match u {
+        Summand::Square => plain_pair_top(f, field + field),
+        Summand::Value | Summand::Magnitude if field == 0 => 0,
+        Summand::Value | Summand::Magnitude => field + normal_length(f) + FIELD_TOP,
     }
 }
 
 // What an operand is in a sum, by the summand.
 #[tactic(auto, unfolding(totals_spec::specs::Terms::product, totals_spec::specs::Terms::single))]
-pub fn item_of(u: u64, v: Unpacked) -> Item
+pub fn item_of(u: Summand, v: Unpacked) -> Item
     requires { Bounded (unpacked_of v) }
-    ensures { result ≡ item_of (terms.item_of (env.summand_of u) (unpacked_of v)) }
+    ensures { result ≡ item_of (terms.item_of (summand_in u) (unpacked_of v)) }
 {
     match v {
         Unpacked::Zero(negative) => Item::Zero(summand_sign(u, negative)),
@@ -323,10 +316,9 @@ pub fn item_of(u: u64, v: Unpacked) -> Item
             shift,
             significand,
             ..
-        } => Item::Top(if u < 2 {
-            top_of(shift, significand)
-        } else {
-            top_of_product(shift, significand, shift, significand)
+        } => Item::Top(match u {
+            Summand::Value | Summand::Magnitude => top_of(shift, significand),
+            Summand::Square => top_of_product(shift, significand, shift, significand),
         }),
         Unpacked::Infinity(negative) => Item::Infinite(summand_sign(u, negative)),
         Unpacked::Nan { .. } => Item::Nan,

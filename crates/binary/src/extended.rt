@@ -4,13 +4,17 @@ ghost use Rattle.totals_spec.specs.Basics.{flag};
 ghost use Rattle.totals_spec.specs.Decode as dec;
 ghost use Rattle.totals_spec.specs.Encode as enc;
 ghost use Rattle.totals_spec.specs.Extended as spec;
-ghost use Rattle.format.specs.Joined.{format_of, settings_of, unpacked_of};
+ghost use Rattle.format.specs.Shapes.{shape_of};
+ghost use Rattle.format.specs.Environments.{env_of};
+ghost use Rattle.format.specs.Joined.{unpacked_of};
 ghost use Rattle.format.specs.Fits.{Encodes};
 ghost use Rattle.values.specs.Tens.{ten_of};
 
 use crate::Read;
-use format::Format;
-use format::env::{Settings, flag};
+use format::env::flag;
+use format::environment::Env;
+use format::kind::Kind;
+use format::shape::Shape;
 use format::unpacked::Unpacked;
 use values::Ten;
 
@@ -26,14 +30,14 @@ const QUIET: u64 = 4611686018427387904;
 
 // The format whose numbers these are: Ieee with 64 digits.
 #[tactic(auto, unfolding(totals_spec::specs::Extended::extended))]
-pub fn extended() -> Format
-    ensures { format_of result ≡ spec.extended }
+pub fn extended() -> Shape
+    ensures { shape_of result ≡ spec.extended }
 {
-    Format {
-        kind: 0,
+    Shape {
+        kind: Kind::Ieee,
         exponent_bits: 15,
         width: 79,
-        named: None,
+        bias: None,
     }
 }
 
@@ -123,12 +127,12 @@ fn is_subnormal(b: Ten) -> bool
 
 // An operand: the decoded number, or under denormals-are-zero a signed zero in place of a subnormal one.
 #[tactic(auto, unfolding(totals_spec::specs::Extended::extended_operand))]
-pub fn operand(c: Settings, b: Ten) -> Read
+pub fn operand(c: Env, b: Ten) -> Read
     requires { b.head < 65536 }
-    ensures { (unpacked_of result.value ≡ spec.extended_operand (settings_of c) (ten_of b)) × (result.subnormal ≡ spec.subnormal_extended (ten_of b)) }
+    ensures { (unpacked_of result.value ≡ spec.extended_operand (env_of c) (ten_of b)) × (result.subnormal ≡ spec.subnormal_extended (ten_of b)) }
 {
     let subnormal = is_subnormal(b);
-    let value = if subnormal && c.denormals_are_zero != 0 {
+    let value = if subnormal && c.denormals_are_zero {
         Unpacked::Zero(sign_of(b))
     } else {
         decode(b)

@@ -3,10 +3,13 @@
 ghost use Rattle.std.specs.Prelude.{◌≡◌};
 ghost use Rattle.totals_spec.specs.Settings as env;
 ghost use Rattle.totals_spec.specs.Nan as nans;
-ghost use Rattle.format.specs.Joined.{settings_of, unpacked_of};
+ghost use Rattle.format.specs.Modes.{propagation_number};
+ghost use Rattle.format.specs.Environments.{env_of};
+ghost use Rattle.format.specs.Joined.{unpacked_of};
 ghost use Rattle.binary.specs.Joined.{nan_of, selected_of};
 
-use format::env::Settings;
+use format::environment::Env;
+use format::modes::NanPropagation;
 use format::unpacked::Unpacked;
 
 // A NaN. The one chosen so far is an `Option` of it.
@@ -18,11 +21,11 @@ pub struct Nan {
 }
 
 #[tactic(auto, unfolding(totals_spec::specs::Nan::default_nan_of))]
-pub fn default_nan(c: Settings) -> Unpacked
-    ensures { unpacked_of result ≡ nans.default_nan_of (settings_of c) }
+pub fn default_nan(c: Env) -> Unpacked
+    ensures { unpacked_of result ≡ nans.default_nan_of (env_of c) }
 {
     Unpacked::Nan {
-        negative: c.default_nan_negative != 0,
+        negative: c.default_nan_negative,
         signaling: false,
         payload: 0,
     }
@@ -36,20 +39,20 @@ fn larger(a: Nan, b: Nan) -> bool
 }
 
 // Whether the earlier of two NaNs stays.
-fn stays(rule: u64, a: Nan, b: Nan) -> bool
-    ensures { result ≡ nans.stays_nan (env.propagation_of rule) a.negative a.signaling a.payload b.negative b.signaling b.payload }
+fn stays(rule: NanPropagation, a: Nan, b: Nan) -> bool
+    ensures { result ≡ nans.stays_nan (env.propagation_of (propagation_number rule)) a.negative a.signaling a.payload b.negative b.signaling b.payload }
 {
     match rule {
-        0 => a.signaling || !b.signaling,
-        2 if a.signaling == b.signaling => larger(a, b),
-        2 => b.signaling,
-        _ => true,
+        NanPropagation::SignalingFirst => a.signaling || !b.signaling,
+        NanPropagation::LargerSignificand if a.signaling == b.signaling => larger(a, b),
+        NanPropagation::LargerSignificand => b.signaling,
+        NanPropagation::FirstOperand | NanPropagation::DefaultNan => true,
     }
 }
 
 // The choice among the NaNs so far and one more.
-pub fn select(rule: u64, kept: Option<Nan>, next: Option<Nan>) -> Option<Nan>
-    ensures { nan_of result ≡ nans.choose (env.propagation_of rule) (nan_of kept) (nan_of next) }
+pub fn select(rule: NanPropagation, kept: Option<Nan>, next: Option<Nan>) -> Option<Nan>
+    ensures { nan_of result ≡ nans.choose (env.propagation_of (propagation_number rule)) (nan_of kept) (nan_of next) }
 {
     match (kept, next) {
         (Some(a), Some(b)) => Some(if stays(rule, a, b) { a } else { b }),
@@ -60,18 +63,16 @@ pub fn select(rule: u64, kept: Option<Nan>, next: Option<Nan>) -> Option<Nan>
 
 // What the choice gives in the end, made quiet.
 #[tactic(auto, unfolding(crate::specs::Joined::selected_of))]
-pub fn selected(c: Settings, n: Option<Nan>) -> Unpacked
-    ensures { unpacked_of result ≡ selected_of (settings_of c) (nan_of n) }
+pub fn selected(c: Env, n: Option<Nan>) -> Unpacked
+    ensures { unpacked_of result ≡ selected_of (env_of c) (nan_of n) }
 {
-    if c.nan_propagation >= 3 {
-        return default_nan(c);
-    }
-    match n {
-        Some(n) => Unpacked::Nan {
+    match (c.nan_propagation, n) {
+        (NanPropagation::DefaultNan, _) => default_nan(c),
+        (_, Some(n)) => Unpacked::Nan {
             negative: n.negative,
             signaling: false,
             payload: n.payload,
         },
-        None => Unpacked::Zero(false),
+        (_, None) => Unpacked::Zero(false),
     }
 }

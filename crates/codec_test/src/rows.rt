@@ -1,8 +1,8 @@
 // The rows of the vectors: each is read, worked out and compared, and the number of answers that agree is returned.
 ghost use Rattle.std.specs.Prelude.{◌≡◌, true, ◌^◌, ◌<◌, ◌≤◌};
 ghost use Rattle.totals_spec.specs.Format as spec;
-ghost use Rattle.totals_spec.specs.Bounds.{FormatBounds, RangeBounds};
-ghost use Rattle.format.specs.Joined.{format_of};
+ghost use Rattle.format.specs.Shapes.{shape_of};
+ghost use Rattle.format.specs.Layouts.{layout_of};
 ghost use Rattle.format.specs.Fits.{Encodes};
 ghost use Rattle.binary.specs.Joined.{nan_of};
 ghost use Rattle.exact.specs.Joined.{significand_of};
@@ -10,9 +10,13 @@ ghost use Rattle.exact.specs.Joined.{significand_of};
 use binary::nan::{Nan, select, selected};
 use binary::{decode, encode, is_plain, operand};
 use exact::{Unrounded, narrowed, round};
-use format::env::{Settings, flag, valid_settings, zero_sum_is_negative, zero_sum_sign};
+use format::Format;
+use format::env::{Settings, flag};
+use format::environment::Env;
+use format::layout::Layout;
+use format::modes::{NanPropagation, Rounding, Tininess};
+use format::shape::Shape;
 use format::unpacked::Unpacked;
-use format::{Format, bias, depth, digits, exponent_range, grid, origin, valid_format};
 use hexadecimal::number;
 
 fn agrees(a: u64, b: u64) -> u64
@@ -69,36 +73,35 @@ fn number_of(v: Unpacked) -> u64 {
     }
 }
 
-// Settings: mode, tininess, flush and saturate as the digits of j; denormals-are-zero, NaN rule and sign, precision.
-fn settings(j: u64, daz: u64, rule: u64, negative: u64, precision: u64) -> Settings {
-    Settings {
-        rounding: j % 8,
-        tininess: j / 8 % 2,
-        nan_propagation: rule,
-        default_nan_negative: negative,
-        flush_to_zero: j / 16 % 2,
-        denormals_are_zero: daz,
-        saturate: j / 32 % 2,
-        precision,
+// Every setting is 0, as in totals_spec.
+fn no_settings() -> Env {
+    Env {
+        rounding: Rounding::TiesToEven,
+        tininess: Tininess::BeforeRounding,
+        nan_propagation: NanPropagation::SignalingFirst,
+        default_nan_negative: false,
+        flush_to_zero: false,
+        denormals_are_zero: false,
+        saturate: false,
+        precision: None,
     }
 }
 
 // What is decoded, encoded again.
-fn again(f: Format, b: u64) -> u64
-    requires { FormatBounds (format_of f) }
-{
+fn again(f: Layout, b: u64) -> u64 {
     encode(f, decode(f, b))
 }
 
-fn decodings(f: Format, s: &[u8]) -> u64
-    requires { FormatBounds (format_of f) }
+fn decodings(f: Layout, s: &[u8]) -> u64
     ensures { result ≤ 5 }
 {
     let b = number(s, 4, 2);
     let e = again(f, b);
     let v = decode(f, b);
     let plain = is_plain(f, b);
-    let o = operand(f, settings(0, 1, 0, 0, 0), b);
+    let mut c = no_settings();
+    c.denormals_are_zero = true;
+    let o = operand(f, c, b);
     let w = o.value;
     let mut agreed = agrees(tag(v, o.subnormal, plain), number(s, 7, 2));
     agreed += agrees(shift_of(v), number(s, 9, 2));
@@ -111,14 +114,12 @@ fn decodings(f: Format, s: &[u8]) -> u64
 pub fn decode_row(s: &[u8]) -> u64
     ensures { result ≤ 5 }
 {
-    let f = format_at(s);
-    if valid_format(f) { decodings(f, s) } else { 0 }
+    Layout::new(format_at(s)).map_or(0, |f| decodings(f, s))
 }
 
 // The NaN that an encoding is, if it is one.
-fn nan_at(f: Format, b: u64) -> Option<Nan>
-    requires { FormatBounds (format_of f) }
-    ensures { Encodes (format_of f) (nan_of result) }
+fn nan_at(f: Layout, b: u64) -> Option<Nan>
+    ensures { Encodes (layout_of f) (nan_of result) }
 {
     match decode(f, b) {
         Unpacked::Nan {
@@ -134,26 +135,27 @@ fn nan_at(f: Format, b: u64) -> Option<Nan>
     }
 }
 
-fn chosen(f: Format, rule: u64, negative: u64, a: Option<Nan>, b: Option<Nan>) -> u64
-    requires { FormatBounds (format_of f) × Encodes (format_of f) (nan_of a) × Encodes (format_of f) (nan_of b) }
+fn chosen(f: Layout, c: Env, a: Option<Nan>, b: Option<Nan>) -> u64
+    requires { Encodes (layout_of f) (nan_of a) × Encodes (layout_of f) (nan_of b) }
 {
-    let first = select(rule, None, a);
-    let n = select(rule, first, b);
-    encode(f, selected(settings(0, 0, rule, negative, 0), n))
+    let first = select(c.nan_propagation, None, a);
+    let n = select(c.nan_propagation, first, b);
+    encode(f, selected(c, n))
 }
 
-fn choices(f: Format, s: &[u8]) -> u64
-    requires { FormatBounds (format_of f) }
+fn choices(f: Layout, s: &[u8]) -> u64
     ensures { result ≤ 8 }
 {
     let a = nan_at(f, number(s, 4, 2));
     let b = nan_at(f, number(s, 7, 2));
     let mut agreed = 0;
     for j in 0..8u64 {
-        agreed += agrees(
-            chosen(f, j % 4, j / 4, a, b),
-            number(s, 10 + 2 * (j as usize), 2),
-        );
+        if let Ok(rule) = NanPropagation::try_from(j % 4) {
+            let mut c = no_settings();
+            c.nan_propagation = rule;
+            c.default_nan_negative = j / 4 == 1;
+            agreed += agrees(chosen(f, c, a, b), number(s, 10 + 2 * (j as usize), 2));
+        }
     }
     agreed
 }
@@ -161,8 +163,7 @@ fn choices(f: Format, s: &[u8]) -> u64
 pub fn nan_row(s: &[u8]) -> u64
     ensures { result ≤ 8 }
 {
-    let f = format_at(s);
-    if valid_format(f) { choices(f, s) } else { 0 }
+    Layout::new(format_at(s)).map_or(0, |f| choices(f, s))
 }
 
 // A value to round: two words at a word of a window, which is narrowed.
@@ -177,44 +178,46 @@ fn value_at(s: &[u8], negative: bool) -> Unrounded {
 }
 
 // Whether a value with a sticky bit has a digit more than the format keeps.
-fn is_long(f: Format, v: Unrounded) -> bool
-    requires { FormatBounds (format_of f) }
-    ensures { result ≡ true → v.sticky ≡ true → 2 ^ spec.digits (format_of f) ≤ significand_of v }
+fn is_long(f: Shape, v: Unrounded) -> bool
+    ensures { result ≡ true → v.sticky ≡ true → 2 ^ spec.digits (shape_of f) ≤ significand_of v }
 {
-    !v.sticky || v.length() > digits(f)
+    !v.sticky || v.length() > f.digits()
 }
 
 // The result and the flags of a rounding, of what can be rounded.
-fn rounded(f: Format, c: Settings, g: u64, v: Unrounded) -> Option<u64>
-    requires { FormatBounds (format_of f) × (g < 65536) }
+fn rounded(f: Layout, settings: Settings, g: u64, v: Unrounded) -> Option<u64>
+    requires { g < 65536 }
 {
-    if valid_settings(f, c)
-        && 64 <= v.position
-        && v.position <= 65535
-        && v.length() != 0
-        && is_long(f, v)
-    {
-        let r = round(f, c, g, v);
+    let c = Env::new(f.shape, settings)?;
+    if (64..=65535).contains(&v.position) && !v.is_nothing() && is_long(f.shape, v) {
+        let r = round(f.shape, c, g, v);
         Some(encode(f, r.value) % 256 * 256 + r.flags)
     } else {
         None
     }
 }
 
-// The vectors write 65,536 for what cannot be rounded.
-fn roundings(f: Format, s: &[u8]) -> u64
-    requires { FormatBounds (format_of f) }
+// The vectors write 65,536 for what cannot be rounded. Mode, tininess, flush and saturate are the digits of j, and above them the sign.
+fn roundings(f: Layout, s: &[u8]) -> u64
     ensures { result ≤ 128 }
 {
     let g = number(s, 7, 4) % 65536;
     let plus = value_at(s, false);
     let minus = value_at(s, true);
+    let precision = number(s, 3, 1);
     let mut agreed = 0;
     for j in 0..128u64 {
-        let c = settings(j, 0, 0, 0, number(s, 3, 1));
+        let settings = Settings {
+            rounding: j % 8,
+            tininess: j / 8 % 2,
+            flush_to_zero: j / 16 % 2,
+            saturate: j / 32 % 2,
+            precision,
+            ..Settings::default()
+        };
         let v = if j < 64 { plus } else { minus };
         agreed += agrees(
-            rounded(f, c, g, v).unwrap_or(65536),
+            rounded(f, settings, g, v).unwrap_or(65536),
             number(s, 51 + 4 * (j as usize), 4),
         );
     }
@@ -224,40 +227,33 @@ fn roundings(f: Format, s: &[u8]) -> u64
 pub fn round_row(s: &[u8]) -> u64
     ensures { result ≤ 128 }
 {
-    let f = format_at(s);
-    if valid_format(f) { roundings(f, s) } else { 0 }
+    Layout::new(format_at(s)).map_or(0, |f| roundings(f, s))
 }
 
-fn widths(f: Format, s: &[u8]) -> u64
-    requires { RangeBounds (format_of f) }
+fn widths(f: Shape, s: &[u8]) -> u64
     ensures { result ≤ 7 }
 {
-    let mut agreed = agrees(bias(f), number(s, 8, 8));
-    agreed += agrees(exponent_range(f), number(s, 17, 8));
-    agreed += agrees(depth(f), number(s, 26, 8));
-    agreed += agrees(origin(f, false), number(s, 35, 8));
-    agreed += agrees(origin(f, true), number(s, 44, 8));
-    agreed += agrees(grid(f, false), number(s, 53, 8));
-    agreed += agrees(grid(f, true), number(s, 62, 8));
+    let mut agreed = agrees(f.bias_above(), number(s, 8, 8));
+    agreed += agrees(f.exponent_range(), number(s, 17, 8));
+    agreed += agrees(f.depth(), number(s, 26, 8));
+    agreed += agrees(f.origin(false), number(s, 35, 8));
+    agreed += agrees(f.origin(true), number(s, 44, 8));
+    agreed += agrees(f.grid(false), number(s, 53, 8));
+    agreed += agrees(f.grid(true), number(s, 62, 8));
     agreed
 }
 
 pub fn format_row(s: &[u8]) -> u64
     ensures { result ≤ 7 }
 {
-    let f = long_format_at(s);
-    if valid_format(f) { widths(f, s) } else { 0 }
+    Layout::new(long_format_at(s)).map_or(0, |f| widths(f.shape, s))
 }
 
 // Whether a format and the settings are offered: 1 for the format, 2 for both.
 fn offered(f: Format, c: Settings) -> u64
     ensures { result ≤ 3 }
 {
-    if valid_format(f) {
-        1 + flag(2, valid_settings(f, c))
-    } else {
-        0
-    }
+    Layout::new(f).map_or(0, |f| 1 + flag(2, Env::new(f.shape, c).is_some()))
 }
 
 pub fn settings_row(s: &[u8]) -> u64
@@ -274,11 +270,14 @@ pub fn settings_row(s: &[u8]) -> u64
         saturate: number(s, 14, 1),
         precision: number(s, 16, 2),
     };
+    // The sign of a zero is told by the mode, be the other settings in their ranges or not. A number above the last is to odd, as in totals_spec.
+    let mut by_mode = no_settings();
+    by_mode.rounding = Rounding::try_from(c.rounding).unwrap_or(Rounding::ToOdd);
     let zeros = number(s, 19, 1);
     let all = number(s, 21, 1);
-    let sign = zero_sum_sign(c, zeros % 2 == 1, zeros / 2 % 2 == 1);
+    let sign = by_mode.zero_sum_sign(zeros % 2 == 1, zeros / 2 % 2 == 1);
     let mut agreed = 2 * agrees(offered(f, c), all % 4);
     agreed += agrees(flag(1, sign), all / 4 % 2);
-    agreed += agrees(flag(1, zero_sum_is_negative(c)), all / 8 % 2);
+    agreed += agrees(flag(1, by_mode.zero_sum_is_negative()), all / 8 % 2);
     agreed
 }

@@ -1,4 +1,5 @@
 -- Overflow: numbers above the largest, the largest number, and what an overflow gives.
+use mathlib.Core.Logic.{◌⊎◌, inl, inr}
 use mathlib.Core.Path.{◌≡◌, refl, sym, ap, ap₂, ◌∙◌, subst}
 use mathlib.Core.Bool.{Bool, true, false, not, ◌&&◌, cond, and-false, true≢false}
 use Prim.Native.Nat.{ℕ, zero, suc, ◌+◌, ◌-◌, ◌*◌, ◌^◌, ◌≤◌, ◌<◌}
@@ -13,6 +14,9 @@ use Rattle.totals_spec.specs.Settings.{Settings, rounding_of}
 use Rattle.totals_spec.specs.Decode.{Unpacked, finite, infinity, nan}
 use Rattle.totals_spec.specs.Round.{is_no_inf, overflows, overflow, Rounded, largest, to_infinity, beyond}
 use Rattle.totals_spec.proofs.Powers.{pow-next, pow-join, eqb-scaled, scaled-lt, digits_lt, digits-ge}
+use Rattle.format.specs.declared.kind.Kind.{Kind}
+use Rattle.format.specs.declared.kind.Kind.TheVariants.{NoInf, Fnuz}
+use Rattle.format.specs.Kinds.{number_of}
 use Rattle.exact.proofs.Rules.{set_on}
 
 -- ---- the pattern of all ones at emax
@@ -109,7 +113,7 @@ pub largest-plain : (f : Format) (q : ℕ) (s : Bool) → (is_no_inf (kind_of f.
 unfolding largest
 largest-plain f q s h = rw h
 
-pub largest-noinf : (f : Format) (q : ℕ) (s : Bool) → f.kind ≡ 1 → q ≡ digits f → largest f q s ≡ finite s (exponent_range f) (2 ^ digits f - 2)
+pub largest-noinf : (f : Format) (q : ℕ) (s : Bool) → is_no_inf (kind_of f.kind) ≡ true → q ≡ digits f → largest f q s ≡ finite s (exponent_range f) (2 ^ digits f - 2)
 unfolding largest
 largest-noinf f q s k h = rw (k, eq-eqb q (digits f) h)
 
@@ -159,12 +163,10 @@ module _ (f : Format) (c : Settings) (q : ℕ) (s : Bool) where
     overflow-only v e k =
         sym (overflow-beyond ∙ ap (λ (n : ℕ). beyond (kind_of n) (largest f q s) s) k ∙ ap (λ (w : Unpacked). made w 20) (sym e))
 
-    pub overflow-nan : (f.kind ≡ 0 → ⊥) → (f.kind ≡ 3 → ⊥) → f.kind ≤ 3 → made (nan s false 0) 20 ≡ overflow f c q s
-    overflow-nan a b k = go f.kind a b k ∙ sym overflow-beyond
-      where
-        go : (k : ℕ) → (k ≡ 0 → ⊥) → (k ≡ 3 → ⊥) → k ≤ 3 → made (nan s false 0) 20 ≡ beyond (kind_of k) (largest f q s) s
-        go zero a b h = absurd (a refl)
-        go (suc zero) a b h = refl
-        go (suc (suc zero)) a b h = refl
-        go (suc (suc (suc zero))) a b h = absurd (b refl)
-        go (suc (suc (suc (suc k)))) a b h = absurd (omega (arith, h))
+    pub overflow-nan : beyond (kind_of f.kind) (largest f q s) s ≡ made (nan s false 0) 20 → made (nan s false 0) 20 ≡ overflow f c q s
+    overflow-nan h = sym (overflow-beyond ∙ h)
+
+-- the kinds that have a NaN and no infinity
+pub nan-kind : (v : Unpacked) (s : Bool) (k : Kind) → (k ≡ NoInf) ⊎ (k ≡ Fnuz) → beyond (kind_of (number_of k)) v s ≡ made (nan s false 0) 20
+nan-kind v s k (inl e) = rw e refl
+nan-kind v s k (inr e) = rw e refl

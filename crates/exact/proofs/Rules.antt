@@ -10,12 +10,6 @@ use Rattle.totals_spec.specs.Round.{is_no_inf}
 use Rattle.exact.specs.Joined.{underflow_of}
 use Rattle.exact.specs.declared.rounding.Underflow.TheVariants.{Flushed, Kept}
 
-pub noinf-other : (k : ℕ) → (k ≡ 1 → ⊥) → is_no_inf (kind_of k) ≡ false
-noinf-other zero h = refl
-noinf-other (suc zero) h = absurd (h refl)
-noinf-other (suc (suc zero)) h = refl
-noinf-other (suc (suc (suc k))) h = refl
-
 pub set_on : (n : ℕ) → (n ≡ 0 → ⊥) → is_set n ≡ true
 set_on zero h = absurd (h refl)
 set_on (suc n) h = refl

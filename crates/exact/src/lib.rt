@@ -7,18 +7,23 @@ pub mod rounding;
 ghost use Rattle.std.specs.Prelude.{◌≡◌, true, cond, ℕ, ◌+◌, ◌*◌, ◌/◌, ◌^◌, ◌<◌, ◌≤◌, leb, eqb};
 ghost use Rattle.limbs.specs.Value.{bit_length};
 ghost use Rattle.totals_spec.specs.Basics as basics;
-ghost use Rattle.totals_spec.specs.Bounds.{RangeBounds};
 ghost use Rattle.totals_spec.specs.Format as spec;
 ghost use Rattle.totals_spec.specs.Settings as env;
 ghost use Rattle.totals_spec.specs.Round as round;
-ghost use Rattle.format.specs.Joined.{format_of, settings_of, unpacked_of};
+ghost use Rattle.format.specs.Modes.{rounding_number, tininess_number};
+ghost use Rattle.format.specs.Shapes.{shape_of};
+ghost use Rattle.format.specs.Environments.{env_of};
+ghost use Rattle.format.specs.Joined.{unpacked_of};
 ghost use Rattle.format.specs.Fits.{Encodes};
 ghost use Rattle.exact.specs.Joined.{dropped_of, small_of, rounded_of, significand_of, Stands, end_of, Narrows, Measured, RoundedTo, Rounds, Begins, RoundedOnce};
 
 use crate::rounding::{Dropped, Underflow, overflows_to_infinity, rounds_up};
-use format::env::{INEXACT, OVERFLOW, ROUNDED_UP, Settings, flag, precision_within};
+use format::env::{INEXACT, OVERFLOW, ROUNDED_UP, flag};
+use format::environment::Env;
+use format::kind::Kind;
+use format::modes::{Rounding, Tininess};
+use format::shape::Shape;
 use format::unpacked::Unpacked;
-use format::{Format, digits, emax, emin, exponent_range};
 use limbs::pair;
 use limbs::word::{funnel, ones, power, scaled};
 
@@ -134,9 +139,9 @@ impl Unrounded {
 
 // The first q digits of a value whose highest bit lies just below `end`, rounded as if the exponent had no limit. Where they round up to
 // 2^q, they are one half of it, one position higher.
-fn first_digits(rounding: u64, v: Unrounded, end: u64, q: u64) -> Digits
+fn first_digits(rounding: Rounding, v: Unrounded, end: u64, q: u64) -> Digits
     requires { Measured v end q }
-    ensures { RoundedTo (env.rounding_of rounding) v end q result }
+    ensures { RoundedTo (env.rounding_of (rounding_number rounding)) v end q result }
 {
     let lowest = end - q;
     let first = v.cut(lowest);
@@ -168,30 +173,34 @@ fn first_digits(rounding: u64, v: Unrounded, end: u64, q: u64) -> Digits
 }
 
 // Whether q digits, kept * 2^lowest, are above the largest finite number. In NoInf the largest pattern of all is the NaN.
-fn overflows(f: Format, q: u64, g: u64, kept: u64, lowest: u64) -> bool
-    requires range_bounds { RangeBounds (format_of f) × (g < 2 ^ 62) × (lowest < 2 ^ 63) }
-    requires le_q { (1 ≤ q) × (q ≤ spec.digits (format_of f)) × (bit_length kept ≡ q) }
-    ensures { result ≡ round.overflows (format_of f) q g (kept * 2 ^ lowest) }
+fn overflows(f: Shape, q: u64, g: u64, kept: u64, lowest: u64) -> bool
+    requires range_bounds { (g < 2 ^ 62) × (lowest < 2 ^ 63) }
+    requires le_q { (1 ≤ q) × (q ≤ spec.digits (shape_of f)) × (bit_length kept ≡ q) }
+    ensures { result ≡ round.overflows (shape_of f) q g (kept * 2 ^ lowest) }
 {
     let top = lowest + (q - 1);
-    let most = emax(f, g);
+    let most = f.emax(g);
     if top != most {
         return top > most;
     }
-    f.kind == 1 && q == digits(f) && kept == ones(q)
+    f.kind.is_no_inf() && q == f.digits() && kept == ones(q)
 }
 
 // The largest finite number of q digits.
-fn largest(f: Format, q: u64, negative: bool) -> Unpacked
-    requires { RangeBounds (format_of f) × (1 ≤ q) × (q ≤ spec.digits (format_of f)) }
-    ensures { (unpacked_of result ≡ round.largest (format_of f) q negative) × Encodes (format_of f) (unpacked_of result) }
+fn largest(f: Shape, q: u64, negative: bool) -> Unpacked
+    requires { (1 ≤ q) × (q ≤ spec.digits (shape_of f)) }
+    ensures { (unpacked_of result ≡ round.largest (shape_of f) q negative) × Encodes (shape_of f) (unpacked_of result) }
 {
-    let p = digits(f);
+    let p = f.digits();
     let all = scaled(ones(q), p - q);
     Unpacked::Finite {
         negative,
-        shift: exponent_range(f),
-        significand: if f.kind == 1 && q == p { all - 1 } else { all },
+        shift: f.exponent_range(),
+        significand: if f.kind.is_no_inf() && q == p {
+            all - 1
+        } else {
+            all
+        },
     }
 }
 
@@ -201,24 +210,24 @@ const OVERFLOWED_UP: u64 = OVERFLOWED + ROUNDED_UP;
 
 // What an overflow gives: an infinity or, in a kind without one, the NaN; the largest number where the mode or `saturate` says so, and in a
 // kind that has neither. Only the infinity is above the exact value.
-fn overflow(f: Format, c: Settings, q: u64, negative: bool) -> Rounded
-    requires { RangeBounds (format_of f) × (1 ≤ q) × (q ≤ spec.digits (format_of f)) }
-    ensures { (rounded_of result ≡ round.overflow (format_of f) (settings_of c) q negative) × Encodes (format_of f) (unpacked_of result.value) × (result.flags < 128) }
+fn overflow(f: Shape, c: Env, q: u64, negative: bool) -> Rounded
+    requires { (1 ≤ q) × (q ≤ spec.digits (shape_of f)) }
+    ensures { (rounded_of result ≡ round.overflow (shape_of f) (env_of c) q negative) × Encodes (shape_of f) (unpacked_of result.value) × (result.flags < 128) }
 {
     let most = Rounded {
         value: largest(f, q, negative),
         flags: OVERFLOWED,
     };
-    if c.saturate != 0 || !overflows_to_infinity(c.rounding, negative) {
+    if c.saturate || !overflows_to_infinity(c.rounding, negative) {
         return most;
     }
     match f.kind {
-        0 => Rounded {
+        Kind::Ieee => Rounded {
             value: Unpacked::Infinity(negative),
             flags: OVERFLOWED_UP,
         },
-        3 => most,
-        _ => Rounded {
+        Kind::Finite => most,
+        Kind::NoInf | Kind::Fnuz => Rounded {
             value: Unpacked::Nan {
                 negative,
                 signaling: false,
@@ -230,11 +239,11 @@ fn overflow(f: Format, c: Settings, q: u64, negative: bool) -> Rounded
 }
 
 // A magnitude of at least 2^emin: its first q digits.
-fn round_normal(f: Format, c: Settings, g: u64, v: Unrounded, q: u64, d: Digits) -> Rounded
-    requires { Begins (format_of f) (settings_of c) g v q d × (spec.emin_at (format_of f) g < end_of v) }
-    ensures { RoundedOnce (format_of f) (settings_of c) g v result }
+fn round_normal(f: Shape, c: Env, g: u64, v: Unrounded, q: u64, d: Digits) -> Rounded
+    requires { Begins (shape_of f) (env_of c) g v q d × (spec.emin_at (shape_of f) g < end_of v) }
+    ensures { RoundedOnce (shape_of f) (env_of c) g v result }
 {
-    let p = digits(f);
+    let p = f.digits();
     if overflows(f, q, g, d.kept, d.lowest) {
         return overflow(f, c, q, v.negative);
     }
@@ -249,10 +258,10 @@ fn round_normal(f: Format, c: Settings, g: u64, v: Unrounded, q: u64, d: Digits)
 }
 
 // Whether a magnitude below 2^emin is tiny: before rounding it is; after rounding, while its rounded digits, up to `end`, stay below emin.
-fn is_tiny(tininess: u64, end: u64, least: u64) -> bool
-    ensures { result ≡ cond (basics.is_set tininess) (leb end least) true }
+fn is_tiny(tininess: Tininess, end: u64, least: u64) -> bool
+    ensures { result ≡ cond (basics.is_set (tininess_number tininess)) (leb end least) true }
 {
-    tininess == 0 || end <= least
+    tininess == Tininess::BeforeRounding || end <= least
 }
 
 // Digits on the subnormal grid.
@@ -273,13 +282,13 @@ fn small_number(negative: bool, kept: u64, n: u64) -> Unpacked
 
 // A magnitude below 2^emin: the digits down to the subnormal grid. They are cut from the value itself; the first q digits decide only
 // whether it is tiny.
-fn round_small(f: Format, c: Settings, g: u64, v: Unrounded, q: u64, unlimited: Digits) -> Rounded
-    requires { Begins (format_of f) (settings_of c) g v q unlimited × (end_of v ≤ spec.emin_at (format_of f) g) }
-    ensures { RoundedOnce (format_of f) (settings_of c) g v result }
+fn round_small(f: Shape, c: Env, g: u64, v: Unrounded, q: u64, unlimited: Digits) -> Rounded
+    requires { Begins (shape_of f) (env_of c) g v q unlimited × (end_of v ≤ spec.emin_at (shape_of f) g) }
+    ensures { RoundedOnce (shape_of f) (env_of c) g v result }
 {
     let negative = v.negative;
-    let p = digits(f);
-    let tiny = is_tiny(c.tininess, unlimited.lowest + q, emin(f, g));
+    let p = f.digits();
+    let tiny = is_tiny(c.tininess, unlimited.lowest + q, f.emin(g));
     let first = v.cut(g + (p - q));
     let d = first.dropped;
     let up = rounds_up(c.rounding, negative, first.kept, d);
@@ -300,14 +309,14 @@ fn round_small(f: Format, c: Settings, g: u64, v: Unrounded, q: u64, unlimited: 
 }
 
 // One rounding of a non-zero magnitude, where g is the position of the format's least non-zero number.
-pub fn round(f: Format, c: Settings, g: u64, v: Unrounded) -> Rounded
-    requires { Rounds (format_of f) (settings_of c) g v }
-    ensures { RoundedOnce (format_of f) (settings_of c) g v result }
+pub fn round(f: Shape, c: Env, g: u64, v: Unrounded) -> Rounded
+    requires { Rounds (shape_of f) (env_of c) g v }
+    ensures { RoundedOnce (shape_of f) (env_of c) g v result }
 {
     let end = v.position + v.length();
-    let q = precision_within(f, c);
+    let q = c.digits(f);
     let d = first_digits(c.rounding, v, end, q);
-    if end > emin(f, g) {
+    if end > f.emin(g) {
         round_normal(f, c, g, v, q, d)
     } else {
         round_small(f, c, g, v, q, d)

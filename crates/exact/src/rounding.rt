@@ -1,11 +1,12 @@
 // The rounding rules: the dropped part against half a unit, which way each direction goes, and the flags of a result that may be tiny.
 ghost use Rattle.std.specs.Prelude.{◌≡◌};
-ghost use Rattle.totals_spec.specs.Basics as basics;
 ghost use Rattle.totals_spec.specs.Settings as env;
 ghost use Rattle.totals_spec.specs.Round as spec;
+ghost use Rattle.format.specs.Modes.{rounding_number};
 ghost use Rattle.exact.specs.Joined.{dropped_of, dropped_by, nearest_up, underflow_of};
 
 use format::env::{INEXACT, TINY, UNDERFLOW};
+use format::modes::Rounding;
 
 // The dropped part of a magnitude, against half a unit of the last kept digit.
 #[derive(Clone, Copy)]
@@ -48,34 +49,33 @@ fn nearest(d: Dropped, tie: bool) -> bool
 }
 
 // Whether a rounding adds one unit to the kept digits.
-pub fn rounds_up(rounding: u64, negative: bool, kept: u64, d: Dropped) -> bool
-    ensures { result ≡ spec.rounds_up (env.rounding_of rounding) negative kept (dropped_of d) }
+pub fn rounds_up(rounding: Rounding, negative: bool, kept: u64, d: Dropped) -> bool
+    ensures { result ≡ spec.rounds_up (env.rounding_of (rounding_number rounding)) negative kept (dropped_of d) }
 {
     match rounding {
-        0 => nearest(d, kept % 2 == 1),
-        1 => nearest(d, true),
-        2 => nearest(d, false),
-        3 => d.is_inexact() && !negative,
-        4 => d.is_inexact() && negative,
-        5 => false,
-        6 => d.is_inexact(),
-        _ => d.is_inexact() && kept % 2 == 0,
+        Rounding::TiesToEven => nearest(d, kept % 2 == 1),
+        Rounding::TiesToAway => nearest(d, true),
+        Rounding::TiesTowardZero => nearest(d, false),
+        Rounding::TowardPositive => d.is_inexact() && !negative,
+        Rounding::TowardNegative => d.is_inexact() && negative,
+        Rounding::TowardZero => false,
+        Rounding::AwayFromZero => d.is_inexact(),
+        Rounding::ToOdd => d.is_inexact() && kept % 2 == 0,
     }
 }
 
 // Whether an overflow gives an infinity, and not the largest finite number.
-pub fn overflows_to_infinity(rounding: u64, negative: bool) -> bool
-    ensures { result ≡ spec.to_infinity (env.rounding_of rounding) negative }
+pub fn overflows_to_infinity(rounding: Rounding, negative: bool) -> bool
+    ensures { result ≡ spec.to_infinity (env.rounding_of (rounding_number rounding)) negative }
 {
     match rounding {
-        0 => true,
-        1 => true,
-        2 => true,
-        3 => !negative,
-        4 => negative,
-        5 => false,
-        6 => true,
-        _ => false,
+        Rounding::TiesToEven
+        | Rounding::TiesToAway
+        | Rounding::TiesTowardZero
+        | Rounding::AwayFromZero => true,
+        Rounding::TowardPositive => !negative,
+        Rounding::TowardNegative => negative,
+        Rounding::TowardZero | Rounding::ToOdd => false,
     }
 }
 
@@ -89,10 +89,10 @@ pub enum Underflow {
 }
 
 impl Underflow {
-    pub fn new(tiny: bool, inexact: bool, flush_to_zero: u64) -> Self
-        ensures { result ≡ underflow_of tiny inexact (basics.is_set flush_to_zero) }
+    pub fn new(tiny: bool, inexact: bool, flush_to_zero: bool) -> Self
+        ensures { result ≡ underflow_of tiny inexact (flush_to_zero) }
     {
-        if tiny && flush_to_zero != 0 {
+        if tiny && flush_to_zero {
             return Underflow::Flushed(TINY_INEXACT);
         }
         Underflow::Kept(match (tiny, inexact) {

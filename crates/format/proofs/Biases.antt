@@ -11,12 +11,8 @@ use mir.Syntax.{w64}
 use mir.Val.{to_z, of_z}
 use borrow.Author.Tests.{ltb-true}
 use Rattle.limbs.proofs.Signs.{read, test_read}
-use Rattle.std.specs.Prelude.{Some, None}
-use Rattle.std.specs.Prelude as core
-use Rattle.totals_spec.specs.Bounds.{Offered, RangeBounds}
-use Rattle.totals_spec.specs.Format.{offered, bias_part, lift_part, bias_of, kind_of, bias, lift}
-use Rattle.format.specs.declared.Format.{Format}
-use Rattle.format.specs.Joined.{named_of, format_of}
+use Rattle.totals_spec.specs.Bounds.{Offered}
+use Rattle.totals_spec.specs.Format.{offered, bias_part, lift_part}
 
 -- ---- by its sign
 
@@ -61,35 +57,3 @@ module _ (z : ℤ) (small : mag z < 2 ^ 63) where
 
   pub no-lift : lt_z (to_z w64 (of_z w64 z)) (pos 0) ≡ false → 0 ≡ lift_part (some z)
   no-lift h = sym (lift-above z (test_read z small h))
-
--- ---- of a format that the arithmetic can work with, by the bias that it names
-
-module _ (f : Format) where
-  pub unnamed_lift : f.named ≡ None → 0 ≡ lift (format_of f)
-  unfolding lift
-  unnamed_lift h = rw h refl
-
-  pub unnamed_bias : (r : ℕ) → r ≡ bias_of (kind_of f.kind) f.exponent_bits → f.named ≡ None → r ≡ bias (format_of f)
-  unfolding bias
-  unnamed_bias r is h = rw h is
-
-  module _ (range : RangeBounds (format_of f)) (b : ℤ) (small : mag b < 2 ^ 63) (h : f.named ≡ Some b) where
-    near_named : Offered (named_of (Some b))
-    near_named = subst (λ (x : core.Option ℤ). Offered (named_of x)) h range.named-le
-
-    pub lift_of_others : lt_z (to_z w64 (of_z w64 b)) (pos 0) ≡ false → 0 ≡ lift (format_of f)
-    unfolding lift
-    lift_of_others t = rw h (no-lift b small t)
-
-    pub bias_of_others : lt_z (to_z w64 (of_z w64 b)) (pos 0) ≡ true → 0 ≡ bias (format_of f)
-    unfolding bias
-    bias_of_others t = rw h (no-bias b small _ t)
-
-    module _ (r : ℕ) (is : r ≡ nat_abs (to_z w64 (of_z w64 b))) where
-      pub lift_of_negative : lt_z (to_z w64 (of_z w64 b)) (pos 0) ≡ true → (r ≡ lift (format_of f)) × (r ≤ 268435456)
-      unfolding lift
-      lift_of_negative t = rw h (lift-named b small r is t near_named)
-
-      pub bias_of_positive : lt_z (to_z w64 (of_z w64 b)) (pos 0) ≡ false → (r ≡ bias (format_of f)) × (r ≤ 268435456)
-      unfolding bias
-      bias_of_positive t = rw h (bias-named b small r is _ t near_named)

@@ -1,21 +1,15 @@
 -- The code's structs and enums as the records and data of totals_spec.
-use Rattle.std.proofs.Math.Option as math
-use Rattle.std.specs.Prelude.{ℤ, Option, Some, None}
 use Rattle.totals_spec.specs.Format as spec
 use Rattle.totals_spec.specs.Settings as env
 use Rattle.totals_spec.specs.Decode as dec
 use Rattle.format.specs.declared.Format.{Format}
 use Rattle.format.specs.declared.env.Settings.{Settings}
+use Rattle.format.specs.Kinds.{bias_in}
 use Rattle.format.specs.declared.unpacked.Unpacked.{Unpacked}
 use Rattle.format.specs.declared.unpacked.Unpacked.TheVariants.{Zero, Finite, Infinity, Nan}
 
--- the bias that a format names, if it does
-abbrev pub named_of : Option ℤ → math.Option ℤ
-named_of None = math.none
-named_of (Some b) = math.some b
-
 abbrev pub format_of : Format → spec.Format
-format_of f = record { kind = f.kind; E = f.exponent_bits; W = f.width; named = named_of f.named }
+format_of f = record { kind = f.kind; E = f.exponent_bits; W = f.width; named = bias_in f.named }
 
 abbrev pub settings_of : Settings → env.Settings
 settings_of c = record {

@@ -1,4 +1,4 @@
--- Numbers of pages: binary64's bounds, a test on a difference, and the lowest set bit of a value.
+-- Numbers of pages: a test on a difference, and the lowest set bit of a value.
 use mathlib.Core.Path.{◌≡◌, refl, sym, ap, ◌∙◌}
 use mathlib.Core.Logic.{◌≢◌}
 use mathlib.Core.Bool.{Bool, true, false}
@@ -12,18 +12,11 @@ use lib.Ieee.{size}
 use lib.Ieee.Digits.{size-lt}
 use borrow.Author.Tests.{lt-ltb, le-ltb, ltb-true, ltb-false}
 use Rattle.totals_spec.specs.Basics.{least}
-use Rattle.totals_spec.specs.Bounds.{FormatBounds}
-use Rattle.totals_spec.specs.Format.{binary64, valid_format}
 use Rattle.totals_spec.specs.Limit.{low_bit, low_of}
 use Rattle.totals_spec.specs.Terms.{Item, nan_item, invalid_item, infinite, zero_item, term, terms}
 use Rattle.totals_spec.proofs.Bits.{zeros-same, low-raised}
-use Rattle.totals_spec.proofs.Valid.{format-bounds}
 use Rattle.arithmetic.specs.declared.Term as code
 use Rattle.arithmetic.specs.Joined.{magnitude, StandsFor}
-
-pub bounds64 : FormatBounds binary64
-unfolding binary64 valid_format
-bounds64 = format-bounds binary64 tt
 
 -- two tests that find the same
 pub same_test : (a b c d : ℕ) → (a < b → c < d) → (b ≤ a → d ≤ c) → ltb a b ≡ ltb c d

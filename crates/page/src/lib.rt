@@ -10,12 +10,18 @@ ghost use Rattle.totals_spec.specs.Format as formats;
 ghost use Rattle.totals_spec.specs.Pages as spec;
 ghost use Rattle.totals_spec.proofs.PageParts.{Stands};
 ghost use Rattle.format.specs.Joined.{format_of};
+ghost use Rattle.format.specs.Layouts.{layout_of};
 ghost use Rattle.page.specs.Paged.{seen_of, both, AllStand, Summarized, Counts, ShortSizes, LongSizes, Trails, Opens, Fills, laid_over, code_of};
 
+use arithmetic::summand::Summand;
 use arithmetic::{Item, item_of, looked_term};
 use binary::operand;
 use format::Format;
-use format::env::{Settings, flag};
+use format::env::flag;
+use format::environment::Env;
+use format::kind::Kind;
+use format::layout::Layout;
+use format::shape::Shape;
 use std::error::Error;
 use std::fmt;
 use values::{LIMIT, put_word, word_at};
@@ -36,7 +42,8 @@ const LONG_ENDING: u64 = 3622952673935884352;
 
 const HALF: u64 = 4294967296;
 
-// The format of a page's values.
+// The format of a page's values, in the numbers of a caller.
+#[tactic(auto, unfolding(totals_spec::specs::Format::binary64))]
 pub fn binary64() -> Format
     ensures { format_of result ≡ formats.binary64 }
 {
@@ -48,11 +55,27 @@ pub fn binary64() -> Format
     }
 }
 
+// The same, as the page's own values are read.
+#[tactic(auto, unfolding(totals_spec::specs::Format::binary64))]
+fn layout() -> Layout
+    ensures { layout_of result ≡ formats.binary64 }
+{
+    Layout {
+        shape: Shape {
+            kind: Kind::Ieee,
+            exponent_bits: 11,
+            width: 64,
+            bias: None,
+        },
+    }
+}
+
 // The lower of a position and the lowest set bit of a value.
 fn lower(x: u64, low: u64) -> u64
     ensures { result ≡ least low low_of (terms (spec.page_items (x ∷ []))) }
 {
-    let t = looked_term(binary64(), Settings::default(), 0, x);
+    let c = Env::default();
+    let t = looked_term(layout(), c, Summand::Value, x);
     if t.low == 0 {
         return low;
     }
@@ -89,10 +112,12 @@ struct Seen {
 
 impl Seen {
     // One value more.
+    #[tactic(auto, using(arithmetic::proofs::Elements::operands))]
     fn note(&mut self, x: u64)
         ensures { self.new ≡ both self.old (seen_of (x ∷ [])) }
     {
-        match item_of(0, operand(binary64(), Settings::default(), x).value) {
+        let c = Env::default();
+        match item_of(Summand::Value, operand(layout(), c, x).value) {
             Item::Nan => self.nan = true,
             Item::Invalid => {}
             Item::Infinite(_) => self.infinite = true,

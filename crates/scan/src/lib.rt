@@ -6,16 +6,32 @@ pub mod walk;
 
 ghost use Rattle.std.specs.Prelude.{◌≡◌, true, false, ◌||◌};
 ghost use Rattle.totals_spec.specs.Settings as env;
-ghost use Rattle.totals_spec.specs.Bounds.{FormatBounds};
-ghost use Rattle.format.specs.Joined.{format_of, settings_of, unpacked_of};
+ghost use Rattle.format.specs.Layouts.{layout_of};
+ghost use Rattle.format.specs.Modes.{propagation_number};
+ghost use Rattle.format.specs.Environments.{env_of};
+ghost use Rattle.format.specs.Joined.{unpacked_of};
+ghost use Rattle.arithmetic.specs.Summands.{summand_in};
 ghost use Rattle.scan.specs.Joined.{with_top, with_item, Offered, Reads, Fresh, Takes, TakesPair, nan_decides, Decides, terms_in, leaves_terms};
 
+use arithmetic::summand::Summand;
 use arithmetic::{Item, item_of, pair_of};
 use binary::nan::{Nan, default_nan, select, selected};
 use binary::{Read, operand};
-use format::Format;
-use format::env::{Settings, zero_sum_sign};
+use format::environment::Env;
+use format::layout::Layout;
+use format::modes::NanPropagation;
 use format::unpacked::Unpacked;
+
+// The summand of one list with this number: 2 and all above are squares, as totals_spec's `summand_of` has them. The pairs of two (3) ask for none.
+pub fn summand_of(number: u64) -> Summand
+    ensures { summand_in result ≡ env.summand_of number }
+{
+    match number {
+        0 => Summand::Value,
+        1 => Summand::Magnitude,
+        _ => Summand::Square,
+    }
+}
 
 #[derive(Clone, Copy, Default)]
 pub struct Scan {
@@ -53,8 +69,8 @@ impl Scan {
 // The four updates, which change a scan that is lent, in place: each stores the fields that it changes, and no other.
 impl Scan {
     // A NaN: the choice among NaNs goes on.
-    fn nan(&mut self, rule: u64, n: Nan)
-        ensures { Offered rule n self.old self.new }
+    fn nan(&mut self, rule: NanPropagation, n: Nan)
+        ensures { Offered (propagation_number rule) n self.old self.new }
     {
         self.nan = select(rule, self.nan, Some(n));
         self.signaling |= n.signaling;
@@ -95,8 +111,8 @@ impl Scan {
 // One operand, and one element or pair.
 impl Scan {
     // An operand that was read: flag 128, and the choice among NaNs.
-    fn read(&mut self, rule: u64, o: Read)
-        ensures { Reads rule o.subnormal (unpacked_of o.value) self.old self.new }
+    fn read(&mut self, rule: NanPropagation, o: Read)
+        ensures { Reads (propagation_number rule) o.subnormal (unpacked_of o.value) self.old self.new }
     {
         self.subnormal |= o.subnormal;
         if let Unpacked::Nan {
@@ -131,9 +147,8 @@ impl Scan {
 
     // One more element of a list.
     #[tactic(auto, using(arithmetic::proofs::Elements::operands))]
-    pub fn take(&mut self, f: Format, c: Settings, u: u64, b: u64)
-        requires { FormatBounds (format_of f) }
-        ensures { Takes (format_of f) (settings_of c) (env.summand_of u) b self.old self.new }
+    pub fn take(&mut self, f: Layout, c: Env, u: Summand, b: u64)
+        ensures { Takes (layout_of f) (env_of c) (summand_in u) b self.old self.new }
     {
         let o = operand(f, c, b);
         self.read(c.nan_propagation, o);
@@ -142,9 +157,8 @@ impl Scan {
 
     // One more pair of a dot.
     #[tactic(auto, using(arithmetic::proofs::Elements::operands))]
-    pub fn take_pair(&mut self, f: Format, c: Settings, x: u64, y: u64)
-        requires { FormatBounds (format_of f) }
-        ensures { TakesPair (format_of f) (settings_of c) (x, y) self.old self.new }
+    pub fn take_pair(&mut self, f: Layout, c: Env, x: u64, y: u64)
+        ensures { TakesPair (layout_of f) (env_of c) (x, y) self.old self.new }
     {
         let a = operand(f, c, x);
         let b = operand(f, c, y);
@@ -162,8 +176,8 @@ fn nan_decides(infinity_first: bool, s: Scan) -> bool
 }
 
 // What a scan decides: a NaN, an invalid product, infinities, or zeros alone. Where it decides nothing there are terms, and all is finite.
-pub fn decided(c: Settings, infinity_first: bool, s: Scan) -> Option<Given>
-    ensures { Decides result (settings_of c) infinity_first s × (leaves_terms result ≡ terms_in s) }
+pub fn decided(c: Env, infinity_first: bool, s: Scan) -> Option<Given>
+    ensures { Decides result (env_of c) infinity_first s × (leaves_terms result ≡ terms_in s) }
 {
     if nan_decides(infinity_first, s) {
         Some(Given {
@@ -191,7 +205,7 @@ pub fn decided(c: Settings, infinity_first: bool, s: Scan) -> Option<Given>
             invalid: false,
         })
     } else if s.top == 0 {
-        let negative = zero_sum_sign(c, s.positive_zero, s.negative_zero);
+        let negative = c.zero_sum_sign(s.positive_zero, s.negative_zero);
         Some(Given {
             value: Unpacked::Zero(negative),
             invalid: false,

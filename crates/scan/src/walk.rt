@@ -1,24 +1,27 @@
 // The scan of a walk. Of plainly normal elements only the greatest exponent field counts: it is kept apart from the scan, and gives a position at the end.
-ghost use Rattle.totals_spec.specs.Settings as env;
 ghost use Rattle.totals_spec.specs.Totals as totals;
-ghost use Rattle.totals_spec.specs.Bounds.{FormatBounds};
-ghost use Rattle.format.specs.Joined.{format_of, settings_of};
+ghost use Rattle.format.specs.Shapes.{shape_of};
+ghost use Rattle.format.specs.Layouts.{layout_of};
+ghost use Rattle.format.specs.Environments.{env_of};
+ghost use Rattle.arithmetic.specs.Summands.{summand_in};
 ghost use Rattle.values.specs.Sources.{Within, Straight, elements};
 ghost use Rattle.values.specs.Walks.{wide, Known, TensThere, Orderly};
 ghost use Rattle.scan.specs.Joined.{Scanned, ScannedPairs};
 ghost use Rattle.scan.specs.Walked.{ScannedWalk};
 
-use crate::Scan;
 use crate::extended::scan as scan_tens;
+use crate::{Scan, summand_of};
+use arithmetic::summand::Summand;
 use arithmetic::{plain_field, plain_fields, plain_pair_top, plain_top};
-use format::Format;
-use format::env::Settings;
+use format::environment::Env;
+use format::layout::Layout;
+use format::shape::Shape;
 use values::{Source, Walk, element};
 
 // The elements of one list.
-fn scan_list(f: Format, c: Settings, u: u64, source: Source, words: &[u64], bytes: &[u8]) -> Scan
-    requires { FormatBounds (format_of f) × Within source words.now bytes.now }
-    ensures { Scanned (format_of f) (settings_of c) (env.summand_of u) (elements source words.now bytes.now) result }
+fn scan_list(f: Layout, c: Env, u: Summand, source: Source, words: &[u64], bytes: &[u8]) -> Scan
+    requires { Within source words.now bytes.now }
+    ensures { Scanned (layout_of f) (env_of c) (summand_in u) (elements source words.now bytes.now) result }
 {
     let mut s = Scan::new();
     let mut greatest: u64 = 0;
@@ -39,16 +42,16 @@ fn scan_list(f: Format, c: Settings, u: u64, source: Source, words: &[u64], byte
 
 // The pairs of two.
 fn scan_pairs(
-    f: Format,
-    c: Settings,
+    f: Layout,
+    c: Env,
     source: Source,
     left_words: &[u64],
     left_bytes: &[u8],
     right_words: &[u64],
     right_bytes: &[u8],
 ) -> Scan
-    requires { FormatBounds (format_of f) × Within source left_words.now left_bytes.now × Within source right_words.now right_bytes.now × Straight source }
-    ensures { ScannedPairs (format_of f) (settings_of c) (totals.pairs (elements source left_words.now left_bytes.now) (elements source right_words.now right_bytes.now)) result }
+    requires { Within source left_words.now left_bytes.now × Within source right_words.now right_bytes.now × Straight source }
+    ensures { ScannedPairs (layout_of f) (env_of c) (totals.pairs (elements source left_words.now left_bytes.now) (elements source right_words.now right_bytes.now)) result }
 {
     let mut s = Scan::new();
     let mut greatest: u64 = 0;
@@ -68,25 +71,26 @@ fn scan_pairs(
 
 // The right slices are read for pairs alone. A format wider than a word is that of kind 4.
 pub fn scan(
-    f: Format,
-    c: Settings,
+    f: Shape,
+    c: Env,
     k: Walk,
     left_words: &[u64],
     left_bytes: &[u8],
     right_words: &[u64],
     right_bytes: &[u8],
 ) -> Scan
-    requires known { Known (wide (format_of f)) (format_of f) × TensThere (wide (format_of f)) k.source left_bytes.now right_bytes.now }
+    requires known { Known (wide (shape_of f)) (shape_of f) × TensThere (wide (shape_of f)) k.source left_bytes.now right_bytes.now }
     requires within { Within k.source left_words.now left_bytes.now × Within k.source right_words.now right_bytes.now × Orderly k }
-    ensures { ScannedWalk (format_of f) (settings_of c) k left_words.now left_bytes.now right_words.now right_bytes.now result }
+    ensures { ScannedWalk (shape_of f) (env_of c) k left_words.now left_bytes.now right_words.now right_bytes.now result }
 {
     let source = k.source;
     if f.width > 64 {
         return scan_tens(c, k.summand, source.count, left_bytes, right_bytes);
     }
+    let layout = Layout { shape: f };
     if k.summand == 3 {
         return scan_pairs(
-            f,
+            layout,
             c,
             source,
             left_words,
@@ -95,5 +99,12 @@ pub fn scan(
             right_bytes,
         );
     }
-    scan_list(f, c, k.summand, source, left_words, left_bytes)
+    scan_list(
+        layout,
+        c,
+        summand_of(k.summand),
+        source,
+        left_words,
+        left_bytes,
+    )
 }

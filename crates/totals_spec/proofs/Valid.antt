@@ -20,7 +20,7 @@ and_right true true t = tt
 and_right mathlib.Core.Bool.false b t = elim t [ ]
 and_right true mathlib.Core.Bool.false t = elim t [ ]
 
-offered-le : (n : Option ℤ) → T (offered n) → Offered n
+pub offered-le : (n : Option ℤ) → T (offered n) → Offered n
 offered-le none t = tt
 offered-le (some b) t = leb→le (nat_abs b) 268435456 t
 

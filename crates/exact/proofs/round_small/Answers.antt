@@ -1,7 +1,8 @@
 -- The digits on the subnormal grid, and a zero where they are flushed.
 use Rattle.std.proofs.Common.{◌≡◌, ◌+◌, ◌&&◌, sym, ◌∙◌, arith}
-use Rattle.totals_spec.specs.Basics.{flag, is_set}
+use Rattle.totals_spec.specs.Basics.{flag}
 use Rattle.totals_spec.specs.Round.{inexact}
+use Rattle.format.proofs.Environments.{set_is}
 use Rattle.exact.specs.Joined.{dropped_of}
 use Rattle.exact.proofs.Rules.{is-flushed, is-kept}
 use Rattle.exact.proofs.Plan.{small-sticky, small-sum, small-fits, small-encodes, flushed, unflushed}
@@ -29,8 +30,8 @@ returns-in-Flushed c =
     let b = c.requires.0 in
     let cut = rw c.digits-p.ensures at c.cut-first.ensures in
     let tiny = rw c.emin.ensures at c.is_tiny-tiny.ensures in
-    let k = is-flushed c.is_tiny-tiny.result c.is_inexact.result (is_set c.args.c.flush_to_zero) _ (sym c.new.ensures ∙ c.in-Flushed.is) in
-    let same = flushed b.ends b.keeps c.requires.1 cut c.rounds_up-up.ensures b.first tiny k.0 in
+    let k = is-flushed c.is_tiny-tiny.result c.is_inexact.result c.args.c.flush_to_zero _ (sym c.new.ensures ∙ c.in-Flushed.is) in
+    let same = flushed b.ends b.keeps c.requires.1 cut c.rounds_up-up.ensures b.first tiny (rw (set_is c.args.c.flush_to_zero) k.0) in
     record { equal = λ x st. rw k.1 (same x st); encodes = tt; flags = omega (arith, k.1) }
 
 pub returns-in-Kept : goal.returns-in-Kept
@@ -38,8 +39,8 @@ returns-in-Kept c =
     let b = c.requires.0 in
     let cut = rw c.digits-p.ensures at c.cut-first.ensures in
     let tiny = rw c.emin.ensures at c.is_tiny-tiny.ensures in
-    let k = is-kept c.is_tiny-tiny.result c.is_inexact.result (is_set c.args.c.flush_to_zero) _ (sym c.new.ensures ∙ c.in-Kept.is) in
-    let same = unflushed b.ends b.keeps c.requires.1 cut c.rounds_up-up.ensures b.first tiny k.off in
+    let k = is-kept c.is_tiny-tiny.result c.is_inexact.result c.args.c.flush_to_zero _ (sym c.new.ensures ∙ c.in-Kept.is) in
+    let same = unflushed b.ends b.keeps c.requires.1 cut c.rounds_up-up.ensures b.first tiny (rw (set_is c.args.c.flush_to_zero) k.off) in
     let can = small-encodes b.ends b.keeps c.requires.1 cut c.rounds_up-up.ensures in
     let number = c.small_number.ensures in
     let up = c.flag.ensures.0 in

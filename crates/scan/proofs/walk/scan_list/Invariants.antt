@@ -1,7 +1,8 @@
 -- The scan, raised to the position of the field kept apart, is that of the first elements, and the next one stands at the place that is kept beside.
 use Rattle.std.proofs.Common.{◌≡◌, ◌+◌, ◌*◌, ◌<◌, take}
-use Rattle.totals_spec.specs.Settings.{summand_of}
-use Rattle.format.specs.Joined.{format_of, settings_of}
+use Rattle.arithmetic.specs.Summands.{summand_in}
+use Rattle.format.specs.Layouts.{layout_of}
+use Rattle.format.specs.Environments.{env_of}
 use Rattle.arithmetic.specs.Joined.{field_top}
 use Rattle.values.specs.Sources.{elements}
 use Rattle.scan.specs.Joined.{with_top, Scanned}
@@ -11,7 +12,7 @@ abbrev pub invariant-loop-i : goal.invariant-loop-i
 invariant-loop-i l = record {
   small : l.greatest < 268435456;
   so_far :
-      Scanned (format_of l.f) (settings_of l.c) (summand_of l.u) (take l._i (elements l.source l.words l.bytes))
-      (with_top (field_top (format_of l.f) (summand_of l.u) l.greatest) l.s);
+      Scanned (layout_of l.f) (env_of l.c) (summand_in l.u) (take l._i (elements l.source l.words l.bytes))
+      (with_top (field_top (layout_of l.f) (summand_in l.u) l.greatest) l.s);
   next : l.place ≡ l.source.start + l._i * l.source.step;
 }
