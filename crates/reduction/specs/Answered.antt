@@ -2,7 +2,7 @@
 use Rattle.std.specs.Prelude.{◌≡◌, Bool, true, false, not, ◌&&◌, List, ℕ, ◌+◌, ◌^◌, ◌≤◌, ◌<◌, leb, eqb, ℤ}
 use Rattle.std.proofs.Math.IntN.{sub_ℕ}
 use Rattle.totals_spec.specs.Basics.{Signed, flag, any}
-use Rattle.totals_spec.specs.Bounds.{RangeBounds, FormatBounds, SettingsBounds}
+use Rattle.totals_spec.specs.Bounds.{SettingsBounds}
 use Rattle.totals_spec.specs.Format as spec
 use Rattle.totals_spec.specs.Settings as env
 use Rattle.totals_spec.specs.Totals as totals
@@ -67,7 +67,6 @@ pub record CanRound (f : spec.Format) (c : env.Settings) (g up : ℕ) (v : Unrou
   pub decided : ℕ
   pub sum : Signed
   pub left : LeftOf decided sum v
-  pub format : RangeBounds f
   pub settings : SettingsBounds f c
   pub enough : spec.digits f ≤ decided
   pub grid : g < 2 ^ 62
@@ -83,8 +82,6 @@ pub record RoundedSum (f : spec.Format) (c : env.Settings) (g : ℕ) (x : Signed
 pub record Into (f t : spec.Format) (c : env.Settings) (v : Unrounded) : Type 0 where
   pub sum : Signed
   pub left : LeftOf (spec.digits f) sum v
-  pub list : RangeBounds f
-  pub format : FormatBounds t
   pub settings : SettingsBounds t c
   pub digits_le : spec.digits t ≤ spec.digits f
 

@@ -1,21 +1,23 @@
 // What a pass starts and ends with, and the terms that it adds up.
-ghost use Rattle.std.specs.Prelude.{◌≡◌, ◌<◌, IfSome};
+ghost use Rattle.std.specs.Prelude.{◌≡◌, ◌≢◌, IfSome};
 ghost use Rattle.limbs.specs.Value.{value, minus};
-ghost use Rattle.totals_spec.specs.Settings as env;
 ghost use Rattle.totals_spec.specs.Terms as terms;
 ghost use Rattle.totals_spec.specs.Hundredfold.{hundred_item};
-ghost use Rattle.totals_spec.specs.Bounds.{FormatBounds};
-ghost use Rattle.format.specs.Joined.{format_of, settings_of};
+ghost use Rattle.format.specs.Layouts.{layout_of};
+ghost use Rattle.format.specs.Environments.{env_of};
+ghost use Rattle.arithmetic.specs.Summands.{summand_in};
+ghost use Rattle.arithmetic.specs.declared.summand.Summand.TheVariants.{Square};
 ghost use Rattle.reduction.specs.Held.{middle};
 ghost use Rattle.reduction.specs.Listed.{Gives};
 
+use arithmetic::summand::Summand;
 use arithmetic::{
     Term, both_plain, looked_hundred, looked_pair, looked_term, plain_hundred, plain_product,
     plain_term,
 };
 use binary::{is_blank, is_plain};
-use format::Format;
-use format::env::Settings;
+use format::environment::Env;
+use format::layout::Layout;
 use limbs_window::sub;
 use window::Pass;
 
@@ -37,10 +39,9 @@ pub fn finished(total: [u64; 12], lost: u64) -> Pass
 // The term of an element of a list, where it has one. That of a value or a magnitude has one word. A zero, as of a missing month, is told at once. Inlined by
 // name: both passes over elements ask for it, and a call for each element takes three times the time.
 #[inline(always)]
-pub fn element_term(f: Format, c: Settings, u: u64, b: u64) -> Option<Term>
-    requires { FormatBounds (format_of f) }
-    ensures gives { Gives result (terms.item (format_of f) (settings_of c) (env.summand_of u) b) }
-    ensures high_value { IfSome result (λ t. u < 2 → t.high ≡ 0) }
+pub fn element_term(f: Layout, c: Env, u: Summand, b: u64) -> Option<Term>
+    ensures gives { Gives result (terms.item (layout_of f) (env_of c) (summand_in u) b) }
+    ensures high_value { IfSome result (λ t. u ≢ Square → t.high ≡ 0) }
 {
     if is_plain(f, b) {
         return Some(plain_term(f, u, b));
@@ -52,9 +53,8 @@ pub fn element_term(f: Format, c: Settings, u: u64, b: u64) -> Option<Term>
 }
 
 // A hundred times an element of a list.
-pub fn hundred_term(f: Format, c: Settings, a: u64) -> Option<Term>
-    requires { FormatBounds (format_of f) }
-    ensures { Gives result (hundred_item (format_of f) (settings_of c) a) }
+pub fn hundred_term(f: Layout, c: Env, a: u64) -> Option<Term>
+    ensures { Gives result (hundred_item (layout_of f) (env_of c) a) }
 {
     if is_plain(f, a) {
         return Some(plain_hundred(f, a));
@@ -66,9 +66,8 @@ pub fn hundred_term(f: Format, c: Settings, a: u64) -> Option<Term>
 }
 
 // The term of a pair of a dot. Pairs with a zero are common enough to be told at once.
-pub fn pair_term(f: Format, c: Settings, x: u64, y: u64) -> Option<Term>
-    requires { FormatBounds (format_of f) }
-    ensures { Gives result (terms.pair_item (format_of f) (settings_of c) (x, y)) }
+pub fn pair_term(f: Layout, c: Env, x: u64, y: u64) -> Option<Term>
+    ensures { Gives result (terms.pair_item (layout_of f) (env_of c) (x, y)) }
 {
     if both_plain(f, x, y) {
         return Some(plain_product(f, x, y));

@@ -11,8 +11,12 @@ ghost use Rattle.totals_spec.specs.Side as side;
 ghost use Rattle.totals_spec.specs.Alone.{Alone};
 ghost use Rattle.totals_spec.specs.Settled as settled;
 ghost use Rattle.further_spec.specs.Several as several;
-ghost use Rattle.totals_spec.specs.Bounds.{RangeBounds, FormatBounds, SettingsBounds};
-ghost use Rattle.format.specs.Joined.{format_of, settings_of, unpacked_of};
+ghost use Rattle.totals_spec.specs.Bounds.{SettingsBounds};
+ghost use Rattle.format.specs.Kinds.{number_of};
+ghost use Rattle.format.specs.Shapes.{shape_of};
+ghost use Rattle.format.specs.Layouts.{layout_of};
+ghost use Rattle.format.specs.Environments.{env_of};
+ghost use Rattle.format.specs.Joined.{unpacked_of};
 ghost use Rattle.format.specs.Fits.{Encodes};
 ghost use Rattle.values.specs.Walks.{wide, Known};
 ghost use Rattle.window.specs.Joined.{outcome_of, run_of, Ended, LeftOf};
@@ -21,12 +25,11 @@ ghost use Rattle.reduction.specs.Answered.{words_as, written_as, answer_of, answ
 use binary::encode;
 use binary::extended::encode as encode_ten;
 use exact::{Rounded, Unrounded, round};
-use format::env::{
-    DENORMAL_INPUT, INEXACT, INVALID, ROUNDED_UP, Settings, flag, has_flag, zero_sum_is_negative,
-    zero_sum_sign,
-};
+use format::env::{DENORMAL_INPUT, INEXACT, INVALID, ROUNDED_UP, flag, has_flag};
+use format::environment::Env;
+use format::layout::Layout;
+use format::shape::Shape;
 use format::unpacked::Unpacked;
-use format::{Format, depth, fall, grid, lift, origin, rise};
 use values::Ten;
 use window::ExactSum;
 
@@ -109,23 +112,23 @@ fn side_of(v: Unpacked, flags: u64) -> u64
 }
 
 // An encoding in one word, or in two.
-fn encoded(f: Format, v: Unpacked) -> Ten
-    requires { Known (wide (format_of f)) (format_of f) × Encodes (format_of f) (unpacked_of v) }
-    ensures { words_as (wide (format_of f)) result.head result.significand ≡ written_as (wide (format_of f)) (enc.encode (format_of f) (unpacked_of v)) }
+fn encoded(f: Shape, v: Unpacked) -> Ten
+    requires { Known (wide (shape_of f)) (shape_of f) × Encodes (shape_of f) (unpacked_of v) }
+    ensures { words_as (wide (shape_of f)) result.head result.significand ≡ written_as (wide (shape_of f)) (enc.encode (shape_of f) (unpacked_of v)) }
 {
     if f.width > 64 {
         return encode_ten(v);
     }
     Ten {
         head: 0,
-        significand: encode(f, v),
+        significand: encode(Layout { shape: f }, v),
     }
 }
 
 // A record without a pass: a zero beside a sum of 0, or what is not compared.
-pub fn special(f: Format, subnormal: bool, v: Unpacked, invalid: bool) -> Wide
-    requires { Known (wide (format_of f)) (format_of f) × Encodes (format_of f) (unpacked_of v) × Alone (spec.kind_of f.kind) (unpacked_of v) }
-    ensures { answer_as (wide (format_of f)) result ≡ given_as (wide (format_of f)) (totals.special (format_of f) subnormal (unpacked_of v) invalid) }
+pub fn special(f: Shape, subnormal: bool, v: Unpacked, invalid: bool) -> Wide
+    requires { Known (wide (shape_of f)) (shape_of f) × Encodes (shape_of f) (unpacked_of v) × Alone (spec.kind_of (number_of f.kind)) (unpacked_of v) }
+    ensures { answer_as (wide (shape_of f)) result ≡ given_as (wide (shape_of f)) (totals.special (shape_of f) subnormal (unpacked_of v) invalid) }
 {
     let b = encoded(f, v);
     let answer = Answer {
@@ -152,13 +155,13 @@ pub fn left(p: u64, e: ExactSum) -> Unrounded
 }
 
 // The exact sum, of which v is left, counted from a unit `up` positions lower and rounded once on the grid g. Terms that cancel give a zero.
-fn round_sum(f: Format, c: Settings, g: u64, up: u64, v: Unrounded) -> Rounded
-    requires { CanRound (format_of f) (settings_of c) g up v }
-    ensures { (p : ℕ) (x : Signed) → LeftOf p x v → RoundedSum (format_of f) (settings_of c) g (raised up x) result }
+fn round_sum(f: Shape, c: Env, g: u64, up: u64, v: Unrounded) -> Rounded
+    requires { CanRound (shape_of f) (env_of c) g up v }
+    ensures { (p : ℕ) (x : Signed) → LeftOf p x v → RoundedSum (shape_of f) (env_of c) g (raised up x) result }
 {
     if v.is_nothing() {
         return Rounded {
-            value: Unpacked::Zero(zero_sum_is_negative(c)),
+            value: Unpacked::Zero(c.zero_sum_is_negative()),
             flags: 0,
         };
     }
@@ -193,21 +196,14 @@ fn recorded(subnormal: bool, res: u64, r: Rounded, passes: u64, last_edge: i64) 
 }
 
 // The record of a chain of passes, which leaves v.
-pub fn finish(
-    f: Format,
-    c: Settings,
-    products: bool,
-    subnormal: bool,
-    e: ExactSum,
-    v: Unrounded,
-) -> Wide
-    requires { Known (wide (format_of f)) (format_of f) × SettingsBounds (format_of f) (settings_of c) × Ended (spec.digits (format_of f)) e × LeftOf (spec.digits (format_of f)) (settled.settled (outcome_of e)) v }
-    ensures { answer_as (wide (format_of f)) result ≡ given_as (wide (format_of f)) (totals.reported (format_of f) subnormal products (totals.on_grid (format_of f) products (settled.settled (outcome_of e))) (totals.sum_rounded (format_of f) (settings_of c) (spec.grid (format_of f) products) (totals.towards_negative (settings_of c)) (totals.on_grid (format_of f) products (settled.settled (outcome_of e)))) (run_of e)) }
+pub fn finish(f: Shape, c: Env, products: bool, subnormal: bool, e: ExactSum, v: Unrounded) -> Wide
+    requires { Known (wide (shape_of f)) (shape_of f) × SettingsBounds (shape_of f) (env_of c) × Ended (spec.digits (shape_of f)) e × LeftOf (spec.digits (shape_of f)) (settled.settled (outcome_of e)) v }
+    ensures { answer_as (wide (shape_of f)) result ≡ given_as (wide (shape_of f)) (totals.reported (shape_of f) subnormal products (totals.on_grid (shape_of f) products (settled.settled (outcome_of e))) (totals.sum_rounded (shape_of f) (env_of c) (spec.grid (shape_of f) products) (totals.towards_negative (env_of c)) (totals.on_grid (shape_of f) products (settled.settled (outcome_of e)))) (run_of e)) }
 {
-    let r = round_sum(f, c, grid(f, products), rise(f, products), v);
+    let r = round_sum(f, c, f.grid(products), f.rise(products), v);
     let x = r.value;
     let b = encoded(f, x);
-    let last_edge = position_of(e.edge + fall(f, products), origin(f, products));
+    let last_edge = position_of(e.edge + f.fall(products), f.origin(products));
     let answer = recorded(subnormal, b.significand, r, e.passes, last_edge);
     Wide {
         head: b.head,
@@ -218,35 +214,34 @@ pub fn finish(
 // The record of a target: the sum of a list in the format f, of which v is left, rounded once into the format t. Counted from a unit depth(t) + fall(f)
 // positions lower, the target's least number has a position, wherever its grid lies. Passes and last edge are the list's.
 pub fn print(
-    f: Format,
-    t: Format,
-    c: Settings,
+    f: Shape,
+    t: Layout,
+    c: Env,
     subnormal: bool,
     passes: u64,
     last_edge: i64,
     v: Unrounded,
 ) -> Answer
-    requires { Into (format_of f) (format_of t) (settings_of c) v }
-    ensures { (x : Signed) (h : Run) → LeftOf (spec.digits (format_of f)) x v → passes ≡ h.passes → last_edge ≡ last_edge_of (format_of f) false h.edge → answer_of result ≡ several.printed (format_of f) (format_of t) subnormal x (several.rounded_into (format_of f) (format_of t) (settings_of c) x) h }
+    requires { Into (shape_of f) (layout_of t) (env_of c) v }
+    ensures { (x : Signed) (h : Run) → LeftOf (spec.digits (shape_of f)) x v → passes ≡ h.passes → last_edge ≡ last_edge_of (shape_of f) false h.edge → answer_of result ≡ several.printed (shape_of f) (layout_of t) subnormal x (several.rounded_into (shape_of f) (layout_of t) (env_of c) x) h }
 {
-    let g = origin(f, false) + lift(t);
-    let r = round_sum(t, c, g, depth(t) + fall(f, false), v);
+    let g = f.origin(false) + t.shape.lift();
+    let r = round_sum(t.shape, c, g, t.shape.depth() + f.fall(false), v);
     let x = r.value;
     recorded(subnormal, encode(t, x), r, passes, last_edge)
 }
 
 // The record of a target where the list has no term: a zero, by the signs of the listed zeros.
 pub fn print_zero(
-    t: Format,
-    c: Settings,
+    t: Layout,
+    c: Env,
     subnormal: bool,
     positive_zero: bool,
     negative_zero: bool,
 ) -> Answer
-    requires { FormatBounds (format_of t) }
-    ensures { answer_of result ≡ totals.special (format_of t) subnormal (dec.zero_of (totals.zero_sign positive_zero negative_zero (totals.towards_negative (settings_of c)))) false }
+    ensures { answer_of result ≡ totals.special (layout_of t) subnormal (dec.zero_of (totals.zero_sign positive_zero negative_zero (totals.towards_negative (env_of c)))) false }
 {
-    let negative = zero_sum_sign(c, positive_zero, negative_zero);
-    let w = special(t, subnormal, Unpacked::Zero(negative), false);
+    let negative = c.zero_sum_sign(positive_zero, negative_zero);
+    let w = special(t.shape, subnormal, Unpacked::Zero(negative), false);
     w.answer
 }

@@ -1,11 +1,13 @@
 // A chain of passes over the terms of a walk.
-ghost use Rattle.std.specs.Prelude.{◌≡◌, true, false, ◌<◌, ◌≤◌};
-ghost use Rattle.totals_spec.specs.Settings as env;
+ghost use Rattle.std.specs.Prelude.{◌≡◌, ◌≢◌, true, false, ◌<◌, ◌≤◌};
 ghost use Rattle.totals_spec.specs.Terms as terms;
 ghost use Rattle.totals_spec.specs.Totals as totals;
 ghost use Rattle.totals_spec.specs.Hundredfold.{hundred_terms};
-ghost use Rattle.totals_spec.specs.Bounds.{FormatBounds};
-ghost use Rattle.format.specs.Joined.{format_of, settings_of};
+ghost use Rattle.format.specs.Shapes.{shape_of};
+ghost use Rattle.format.specs.Layouts.{layout_of};
+ghost use Rattle.format.specs.Environments.{env_of};
+ghost use Rattle.arithmetic.specs.Summands.{summand_in};
+ghost use Rattle.arithmetic.specs.declared.summand.Summand.TheVariants.{Square};
 ghost use Rattle.values.specs.Sources.{Within, Straight, elements};
 ghost use Rattle.values.specs.Walks.{wide, Known, TensThere, Orderly, is_hundred, added_in};
 ghost use Rattle.window.specs.Joined.{Passed};
@@ -14,10 +16,13 @@ ghost use Rattle.reduction.specs.Held.{Sums};
 use crate::extended::Tens;
 use crate::pass::{element_term, finished, start as middle};
 use crate::terms::{Hundreds, Pairs, Squares, Terms};
-use format::Format;
-use format::env::Settings;
+use arithmetic::summand::Summand;
+use format::environment::Env;
+use format::layout::Layout;
+use format::shape::Shape;
 use limbs::word::add_word;
 use limbs_term::{goes_on, move_term, settle, settle_single};
+use scan::summand_of;
 use std::ops::ControlFlow;
 use values::{HUNDREDFOLD, Source, Walk, element};
 use window::{Chain, ExactSum, Pass, window_part};
@@ -59,19 +64,19 @@ fn pass_over<T: Terms>(list: &T, w: u64) -> Pass
     finished(total, lost)
 }
 
-// And over the values of a list (u = 0) or their magnitudes (1), every step-th of them: terms of one word, which reach two words of the window. A loop of
+// And over the values of a list or their magnitudes, every step-th of them: terms of one word, which reach two words of the window. A loop of
 // its own, and a `while`: through `pass_over`, with the place made of step and index, cancelling values took a tenth to a third longer.
 fn pass_values(
-    f: Format,
-    c: Settings,
-    u: u64,
+    f: Layout,
+    c: Env,
+    u: Summand,
     source: Source,
     words: &[u64],
     bytes: &[u8],
     w: u64,
 ) -> Pass
-    requires { FormatBounds (format_of f) × Within source words.now bytes.now × (u < 2) }
-    ensures { Passed (totals.sum_terms (format_of f) (settings_of c) (env.summand_of u) (elements source words.now bytes.now)) w result }
+    requires { Within source words.now bytes.now × (u ≢ Square) }
+    ensures { Passed (totals.sum_terms (layout_of f) (env_of c) (summand_in u) (elements source words.now bytes.now)) w result }
 {
     let mut total = middle();
     let mut lost: u64 = 0;
@@ -107,8 +112,8 @@ fn pass_values(
 }
 
 fn pass(
-    f: Format,
-    c: Settings,
+    f: Shape,
+    c: Env,
     k: Walk,
     left_words: &[u64],
     left_bytes: &[u8],
@@ -116,28 +121,18 @@ fn pass(
     right_bytes: &[u8],
     w: u64,
 ) -> Pass
-    requires known { Known (wide (format_of f)) (format_of f) × TensThere (wide (format_of f)) k.source left_bytes.now right_bytes.now × (is_hundred k ≡ true → wide (format_of f) ≡ false) }
+    requires known { Known (wide (shape_of f)) (shape_of f) × TensThere (wide (shape_of f)) k.source left_bytes.now right_bytes.now × (is_hundred k ≡ true → wide (shape_of f) ≡ false) }
     requires within { Within k.source left_words.now left_bytes.now × Within k.source right_words.now right_bytes.now × Orderly k }
-    ensures { Passed (terms.terms (added_in (format_of f) (settings_of c) k left_words.now left_bytes.now right_words.now right_bytes.now)) w result }
+    ensures { Passed (terms.terms (added_in (shape_of f) (env_of c) k left_words.now left_bytes.now right_words.now right_bytes.now)) w result }
 {
     let source = k.source;
-    if k.summand == HUNDREDFOLD {
-        return pass_over(
-            &Hundreds {
-                format: f,
-                settings: c,
-                source,
-                words: left_words,
-                bytes: left_bytes,
-            },
-            w,
-        );
-    }
+    let u = summand_of(k.summand);
     if f.width > 64 {
         return pass_over(
             &Tens {
-                settings: c,
-                summand: k.summand,
+                env: c,
+                pairs: k.summand == 3,
+                summand: u,
                 count: source.count,
                 left: left_bytes,
                 right: right_bytes,
@@ -145,11 +140,24 @@ fn pass(
             w,
         );
     }
+    let layout = Layout { shape: f };
+    if k.summand == HUNDREDFOLD {
+        return pass_over(
+            &Hundreds {
+                layout,
+                env: c,
+                source,
+                words: left_words,
+                bytes: left_bytes,
+            },
+            w,
+        );
+    }
     if k.summand == 3 {
         return pass_over(
             &Pairs {
-                format: f,
-                settings: c,
+                layout,
+                env: c,
                 source,
                 left_words,
                 left_bytes,
@@ -159,25 +167,27 @@ fn pass(
             w,
         );
     }
-    if k.summand < 2 {
-        return pass_values(f, c, k.summand, source, left_words, left_bytes, w);
+    match u {
+        Summand::Square => pass_over(
+            &Squares {
+                layout,
+                env: c,
+                source,
+                words: left_words,
+                bytes: left_bytes,
+            },
+            w,
+        ),
+        Summand::Value | Summand::Magnitude => pass_values(
+            layout, c, u, source, left_words, left_bytes, w,
+        ),
     }
-    pass_over(
-        &Squares {
-            format: f,
-            settings: c,
-            source,
-            words: left_words,
-            bytes: left_bytes,
-        },
-        w,
-    )
 }
 
 // The exact sum of the terms, the highest of whose bits lies at `top`: pass after pass until one of them decides its first p digits.
 pub fn exact(
-    f: Format,
-    c: Settings,
+    f: Shape,
+    c: Env,
     k: Walk,
     left_words: &[u64],
     left_bytes: &[u8],
@@ -186,10 +196,10 @@ pub fn exact(
     p: u64,
     top: u64,
 ) -> ExactSum
-    requires known { Known (wide (format_of f)) (format_of f) × TensThere (wide (format_of f)) k.source left_bytes.now right_bytes.now × (is_hundred k ≡ true → wide (format_of f) ≡ false) }
+    requires known { Known (wide (shape_of f)) (shape_of f) × TensThere (wide (shape_of f)) k.source left_bytes.now right_bytes.now × (is_hundred k ≡ true → wide (shape_of f) ≡ false) }
     requires within { Within k.source left_words.now left_bytes.now × Within k.source right_words.now right_bytes.now × (k.source.count ≤ totals.limit) × (p ≤ 64) × Orderly k }
-    requires top_value { (top ≡ terms.top_of (terms.terms (added_in (format_of f) (settings_of c) k left_words.now left_bytes.now right_words.now right_bytes.now))) × (0 < top) }
-    ensures { Sums p (terms.terms (added_in (format_of f) (settings_of c) k left_words.now left_bytes.now right_words.now right_bytes.now)) result }
+    requires top_value { (top ≡ terms.top_of (terms.terms (added_in (shape_of f) (env_of c) k left_words.now left_bytes.now right_words.now right_bytes.now))) × (0 < top) }
+    ensures { Sums p (terms.terms (added_in (shape_of f) (env_of c) k left_words.now left_bytes.now right_words.now right_bytes.now)) result }
 {
     let mut at = Chain::start(top);
     let outcome = loop {

@@ -11,55 +11,43 @@ use Rattle.totals_spec.specs.Format.{digits, grid}
 use Rattle.totals_spec.specs.Round.{Rounded}
 use Rattle.totals_spec.specs.Settled.{settled}
 use Rattle.totals_spec.specs.Totals.{Answer, on_grid, reported}
-use Rattle.format.specs.Joined.{format_of, settings_of}
+use Rattle.format.specs.Shapes.{shape_of}
+use Rattle.format.specs.Environments.{env_of}
+use Rattle.format.proofs.Shapes.{range_bounds}
 use Rattle.values.specs.Walks.{wide}
-use Rattle.values.proofs.Walks.{known-range}
 use Rattle.window.specs.Joined.{outcome_of}
 use Rattle.reduction.specs.Answered.{words_as, written_as, RoundedSum, last_edge_of}
 use Rattle.reduction.proofs.Records.{leans, moved, position-fits}
 use Rattle.reduction.proofs.total.finish.Goals as goal
 
-pub grid-requires : goal.grid-requires
-grid-requires c = known-range _ _ c.requires.0
-
-pub rise-requires : goal.rise-requires
-rise-requires c = known-range _ _ c.requires.0
-
 pub round_sum-r-requires : goal.round_sum-r-requires
 round_sum-r-requires c = record {
-  decided = digits (format_of c.args.f);
+  decided = digits (shape_of c.args.f);
   sum = settled (outcome_of c.args.e);
   left = c.requires.3;
-  format = known-range _ _ c.requires.0;
   settings = c.requires.1;
   enough = omega arith;
-  grid = omega (arith, c.grid.ensures.1);
-  few = omega (arith, c.rise.ensures.1);
+  grid = omega (arith, c.grid.ensures.bound);
+  few = omega (arith, c.rise.ensures.bound);
 }
-
-pub fall-requires : goal.fall-requires
-fall-requires c = known-range _ _ c.requires.0
-
-pub origin-requires : goal.origin-requires
-origin-requires c = known-range _ _ c.requires.0
 
 pub returns : goal.returns
 unfolding reported
 returns c =
-    let f = format_of c.args.f in
-    let env = settings_of c.args.c in
+    let f = shape_of c.args.f in
+    let env = env_of c.args.c in
     let x = on_grid f c.args.products (settled (outcome_of c.args.e)) in
     let q = c.recorded-answer.ensures in
     let r : RoundedSum f env (grid f c.args.products) x c.round_sum-r.result =
-    moved _ c.grid.ensures.0 c.rise.ensures.0 (c.round_sum-r.ensures (digits f) (settled (outcome_of c.args.e)) c.requires.3) in
-    let low : c.args.e.edge + c.fall.result < 2 ^ 63 = omega (arith, c.requires.2.edge, c.fall.ensures.1) in
-    let far : c.origin.result < 2 ^ 63 = omega (arith, c.origin.ensures.1) in
+    moved _ c.grid.ensures.value c.rise.ensures.value (c.round_sum-r.ensures (digits f) (settled (outcome_of c.args.e)) c.requires.3) in
+    let low : c.args.e.edge + c.fall.result < 2 ^ 63 = omega (arith, c.requires.2.edge, c.fall.ensures.bound) in
+    let far : c.origin.result < 2 ^ 63 = omega (arith, c.origin.ensures.bound) in
     let p = c.position_of-last_edge in
     let fits : SFits w64 p.result = record {
       sfits = subst (λ (z : ℤ). mag z < 2 ^ 63) (sym p.ensures) (position-fits (c.args.e.edge + c.fall.result) c.origin.result low far);
     } in
     let edge : to_z w64 (of_z w64 p.result) ≡ last_edge_of f c.args.products c.args.e.edge =
-    to_z-of_z w64 p.result fits ∙ p.ensures ∙ ap₂ (λ (m n : ℕ). sub_ℕ (c.args.e.edge + m) n) c.fall.ensures.0 c.origin.ensures.0 in
+    to_z-of_z w64 p.result fits ∙ p.ensures ∙ ap₂ (λ (m n : ℕ). sub_ℕ (c.args.e.edge + m) n) c.fall.ensures.value c.origin.ensures.value in
     λ i. record {
       result =
           (ap (λ (a : Answer). words_as (wide f) c.encoded-b.result.head a.result) q ∙ c.encoded-b.ensures
@@ -69,5 +57,5 @@ returns c =
       last_edge = (ap (λ (a : Answer). a.last_edge) q ∙ edge) i;
       refusal = (q i).refusal;
       place = (q i).place;
-      side = (ap (λ (a : Answer). a.side) q ∙ leans f env _ x _ (known-range f (wide f) c.requires.0) c.requires.1 r) i;
+      side = (ap (λ (a : Answer). a.side) q ∙ leans f env _ x _ (range_bounds c.args.f) c.requires.1 r) i;
     }

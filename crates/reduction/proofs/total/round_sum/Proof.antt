@@ -10,17 +10,19 @@ use Rattle.totals_spec.specs.Format.{Format}
 use Rattle.totals_spec.specs.Settings.{Settings}
 use Rattle.totals_spec.specs.Decode.{zero_of}
 use Rattle.totals_spec.specs.Totals.{towards_negative, sum_rounded}
-use Rattle.format.specs.Joined.{format_of, settings_of}
+use Rattle.format.specs.Shapes.{shape_of}
+use Rattle.format.specs.Environments.{env_of}
+use Rattle.format.proofs.Shapes.{range_bounds}
 use Rattle.exact.specs.Joined.{significand_of}
 use Rattle.window.proofs.Left.{left-sum, left-rounds}
 use Rattle.reduction.proofs.total.round_sum.Statement.{statement}
 use Rattle.reduction.proofs.total.round_sum.Tie as tie
 
 abbrev form : tie.Start → Format
-form s = format_of s.args.f
+form s = shape_of s.args.f
 
 abbrev env : tie.Start → Settings
-env s = settings_of s.args.c
+env s = env_of s.args.c
 
 -- where nothing is left
 returns : tie.Need-returns-then-is_nothing
@@ -47,7 +49,7 @@ round-requires c κs =
     let e = c.before in
     let s = entry e in
     let h = s.requires in
-    left-rounds h.decided h.sum s.args.v (some e) (h.left.some (some e)) (form s) (env s) _ _ h.format h.settings h.enough h.grid h.few
+    left-rounds h.decided h.sum s.args.v (some e) (h.left.some (some e)) (form s) (env s) _ _ (range_bounds s.args.f) h.settings h.enough h.grid h.few
 
 returns-2 : tie.Need-returns
 returns-2 c p x l =

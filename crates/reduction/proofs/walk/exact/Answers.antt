@@ -1,5 +1,6 @@
 -- Each turn of the loop is a pass of the definitions' chain.
-use Rattle.format.specs.Joined.{format_of, settings_of}
+use Rattle.format.specs.Shapes.{shape_of}
+use Rattle.format.specs.Environments.{env_of}
 use Rattle.reduction.proofs.Loop.{loop-start, loop-holds-at, loop-ready, loop-next, loop-done}
 use Rattle.reduction.proofs.Items.{walk-base}
 use Rattle.reduction.proofs.walk.exact.Goals as goal
@@ -9,7 +10,7 @@ start-at-requires c =
     let a = c.args in
     let h = c.requires in
     rw h.top_value.0
-    (loop-start (walk-base (format_of a.f) (settings_of a.c) a.k a.left_words.now a.left_bytes.now a.right_words.now a.right_bytes.now h.known.0 h.within.3 h.within.2
+    (loop-start (walk-base (shape_of a.f) (env_of a.c) a.k a.left_words.now a.left_bytes.now a.right_words.now a.right_bytes.now h.known.0 h.within.3 h.within.2
     h.top_value.0 h.top_value.1))
 
 pub loop-next-init : goal.loop-next-init
@@ -17,7 +18,7 @@ loop-next-init c =
     let a = c.args in
     let h = c.requires in
     let b =
-    walk-base (format_of a.f) (settings_of a.c) a.k a.left_words.now a.left_bytes.now a.right_words.now a.right_bytes.now h.known.0 h.within.3 h.within.2
+    walk-base (shape_of a.f) (env_of a.c) a.k a.left_words.now a.left_bytes.now a.right_words.now a.right_bytes.now h.known.0 h.within.3 h.within.2
     h.top_value.0 h.top_value.1 in
     record { base = b; walked = loop-holds-at b _ h.top_value.0 c.start-at.ensures }
 

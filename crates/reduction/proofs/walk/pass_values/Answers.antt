@@ -47,18 +47,18 @@ loop-place-init c = record { index = 0; so_far = running-start (element-items _ 
 pub overflow_add-place : goal.overflow_add-place
 overflow_add-place c =
     let k = c.loop-place.invariant in
-    record { fits = next_fits c.args.source _ _ _ _ (inside c.requires.1 (item _ _ _) k c.loop-place-test.true) k.stands c.requires.1 }
+    record { fits = next_fits c.args.source _ _ _ _ (inside c.requires.0 (item _ _ _) k c.loop-place-test.true) k.stands c.requires.0 }
 
 pub loop-place-preserved-in_default : goal.loop-place-preserved-in_default
 loop-place-preserved-in_default c =
-    let w = c.requires.1 in
+    let w = c.requires.0 in
     let k = c.loop-place.invariant in
     let h = c.loop-place-test.true in
     further w (item _ _ _) k h (running-over k.so_far (inside w (item _ _ _) k h) (gives w (item _ _ _) k h c.element-b.ensures None c.in_default.ensures.gives))
 
 pub loop-place-preserved-then-not-p : goal.loop-place-preserved-then-not-p
 loop-place-preserved-then-not-p c =
-    let w = c.requires.1 in
+    let w = c.requires.0 in
     let k = c.loop-place.invariant in
     let h = c.loop-place-test.true in
     let t = turn w (item _ _ _) k h c.element-b.ensures c.in-Some.ensures.gives c.window_part-p.ensures c.max-lost.ensures in
@@ -66,19 +66,19 @@ loop-place-preserved-then-not-p c =
 
 pub loop-place-preserved-then-not-q : goal.loop-place-preserved-then-not-q
 loop-place-preserved-then-not-q c =
-    let w = c.requires.1 in
+    let w = c.requires.0 in
     let k = c.loop-place.invariant in
     let h = c.loop-place-test.true in
     let t = turn w (item _ _ _) k h c.element-b.ensures c.in-Some.ensures.gives c.window_part-p.ensures c.max-lost.ensures in
     let q = c.settle_single-q in
     let p = c.window_part-p.result in
     let s : Settles 10 q.result.w1 c.in-Some.t.negative (term p.low p.high p.up) q.result =
-    rw (c.window_part-p.ensures.one_word (c.in-Some.ensures.high_value c.requires.2)) q.ensures.0 in
+    rw (c.window_part-p.ensures.one_word (c.in-Some.ensures.high_value c.requires.1)) q.ensures.0 in
     further w (item _ _ _) k h (past t (s.past (not-true _ c.if-not-q.true)))
 
 pub loop-place-preserved-then-goes_on : goal.loop-place-preserved-then-goes_on
 loop-place-preserved-then-goes_on c =
-    let w = c.requires.1 in
+    let w = c.requires.0 in
     let k = c.loop-place.invariant in
     let h = c.loop-place-test.true in
     let t = turn w (item _ _ _) k h c.element-b.ensures c.in-Some.ensures.gives c.window_part-p.ensures c.max-lost.ensures in
@@ -86,14 +86,14 @@ loop-place-preserved-then-goes_on c =
 
 pub loop-place-preserved : goal.loop-place-preserved
 loop-place-preserved c =
-    let w = c.requires.1 in
+    let w = c.requires.0 in
     let k = c.loop-place.invariant in
     let h = c.loop-place-test.true in
     let t = turn w (item _ _ _) k h c.element-b.ensures c.in-Some.ensures.gives c.window_part-p.ensures c.max-lost.ensures in
     let q = c.settle_single-q in
     let p = c.window_part-p.result in
     let s : Settles 10 q.result.w1 c.in-Some.t.negative (term p.low p.high p.up) q.result =
-    rw (c.window_part-p.ensures.one_word (c.in-Some.ensures.high_value c.requires.2)) q.ensures.0 in
+    rw (c.window_part-p.ensures.one_word (c.in-Some.ensures.high_value c.requires.1)) q.ensures.0 in
     let none = q.ensures.1 in
     let x = fits _ c.add_word-x.type_inv in
     let y = fits _ c.add_word-y.type_inv in
@@ -105,4 +105,4 @@ loop-place-preserved c =
 pub returns : goal.returns
 returns c =
     let k = c.loop-place.invariant in
-    running-end k.so_far (at-end c.args.source c.requires.1 k.stands c.loop-place-test.false) c.finished.ensures
+    running-end k.so_far (at-end c.args.source c.requires.0 k.stands c.loop-place-test.false) c.finished.ensures
