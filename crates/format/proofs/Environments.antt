@@ -17,7 +17,7 @@ use Rattle.format.specs.Modes.{rounding_number, tininess_number, propagation_num
 use Rattle.format.specs.Environments.{env_of, are_modes, precision_number}
 use Rattle.format.proofs.Chosen.{chosen-some}
 
-rounding_in : (r : Rounding) → leb (rounding_number r) 7 ≡ true
+pub rounding_in : (r : Rounding) → leb (rounding_number r) 7 ≡ true
 rounding_in TiesToEven = refl
 rounding_in TiesToAway = refl
 rounding_in TiesTowardZero = refl

@@ -15,11 +15,11 @@ impl Layout {
     ghost use Rattle.std.specs.Prelude.{◌≡◌, false, MatchOption};
     ghost use Rattle.totals_spec.specs.Format.{valid_format};
     ghost use Rattle.format.specs.Joined.{format_of};
-    ghost use Rattle.format.specs.Layouts.{layout_of};
+    ghost use Rattle.format.specs.Layouts.{IsLayout};
 
     // The format with these numbers, where it is offered. Refusal 3 is the failure of this.
     pub fn new(f: Format) -> Option<Layout>
-        ensures { MatchOption result (valid_format (format_of f) ≡ false) (λ l. layout_of l ≡ format_of f) }
+        ensures { MatchOption result (valid_format (format_of f) ≡ false) (IsLayout (format_of f)) }
     {
         let Ok(kind) = Kind::try_from(f.kind) else {
             return None;

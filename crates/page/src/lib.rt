@@ -57,7 +57,7 @@ pub fn binary64() -> Format
 
 // The same, as the page's own values are read.
 #[tactic(auto, unfolding(totals_spec::specs::Format::binary64))]
-fn layout() -> Layout
+pub fn layout() -> Layout
     ensures { layout_of result ≡ formats.binary64 }
 {
     Layout {

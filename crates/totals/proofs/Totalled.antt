@@ -73,7 +73,7 @@ module _ (f : spec.Format) (c : env.Settings) (u : ℕ) (x y : List ℕ) where
   module _ (q : Known (wide f) f) where
     pub end-asks : (h : Bool) {e : ExactSum} {ts : List terms.Term} {v : Unrounded} → TotalAsks h (wide f) (eqb u 3) f c u x y
         → Sums (cond h 64 (spec.digits f)) ts e → LeftOf (cond h 64 (spec.digits f)) (settled (outcome_of e)) v → EndAsks h f c e v
-    end-asks true a m l = (a.1.0.range, l)
+    end-asks true a m l = l
     end-asks false a m l = (q, (accepts f c u x y (wide f) (eqb u 3) a).settings, m.ended, l)
 
     pub digits-most : (h : Bool) → cond h 64 (spec.digits f) ≤ 64

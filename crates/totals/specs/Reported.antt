@@ -1,7 +1,7 @@
 -- What a walk is asked and what it reports, by whether it is for pence (summand 4): the pence of its left list, or a total.
 use Rattle.std.specs.Prelude.{Option, Some, None, is_some, ◌≡◌, Bool, true, false, not, ◌||◌, cond, List, ℕ, ◌≤◌, pos, length}
 use Rattle.totals_spec.specs.Format as spec
-use Rattle.totals_spec.specs.Bounds.{FormatBounds, RangeBounds, SettingsBounds}
+use Rattle.totals_spec.specs.Bounds.{FormatBounds, SettingsBounds}
 use Rattle.totals_spec.specs.Settings as env
 use Rattle.totals_spec.specs.Decode as dec
 use Rattle.totals_spec.specs.Alone.{Alone}
@@ -68,7 +68,7 @@ EarlyTells false f sub v i r = answer_in (wide f) r ≡ given_as (wide f) (total
 -- ---- and of a chain's end
 
 abbrev pub EndAsks : Bool → spec.Format → env.Settings → ExactSum → Unrounded → Type 0
-EndAsks true f c e v = RangeBounds f × LeftOf 64 (settled (outcome_of e)) v
+EndAsks true f c e v = LeftOf 64 (settled (outcome_of e)) v
 EndAsks false f c e v = Known (wide f) f × SettingsBounds f c × Ended (spec.digits f) e × LeftOf (spec.digits f) (settled (outcome_of e)) v
 
 abbrev pub EndTells : Bool → spec.Format → env.Settings → (products sub : Bool) → ExactSum → Report → Type 0

@@ -1,14 +1,18 @@
 -- The targets of a list (document 02, A.14): the tests that do not look at the elements, and what the walk that all targets share keeps.
-use Rattle.std.specs.Prelude.{◌≡◌, false, not, ◌&&◌, List, ℕ, leb, ltb, length}
+use Rattle.std.specs.Prelude.{◌≡◌, false, not, ◌&&◌, List, ℕ, leb, ltb, length, Result, Ok, Err}
 use Rattle.totals_spec.specs.Basics.{any}
 use Rattle.totals_spec.specs.Format.{Format, valid_format}
 use Rattle.totals_spec.specs.Settings.{Settings, valid_settings}
-use Rattle.totals_spec.specs.Bounds.{FormatBounds, SettingsBounds}
+use Rattle.totals_spec.specs.Bounds.{SettingsBounds}
 use Rattle.totals_spec.specs.Totals.{Answer, refuse_if, limit, stray}
 use Rattle.further_spec.specs.Several.{reading_with, target_answer}
 use Rattle.totals.specs.declared.lists.Walked.{Walked}
-use Rattle.totals.specs.Refusal.{sum_numbers}
+use Rattle.totals.specs.Refusal.{number_of, sum_numbers}
 use Rattle.totals.specs.Kept.{Keeps, ListKept}
+use Rattle.format.specs.Layouts.{layout_of}
+use Rattle.format.specs.Environments.{env_of}
+use Rattle.totals.specs.declared.refusal.Refusal.{Refusal}
+use Rattle.totals.specs.declared.several.Aim.{Aim}
 
 -- refusals 3, 4 and 6 of a target, for a list of n values
 unfoldable pub target_numbers : Format → ℕ → ℕ → Format → Settings → ℕ
@@ -17,10 +21,13 @@ target_numbers f d n t c =
     (refuse_if (not (leb d 1 && valid_settings t c)) 4
     (refuse_if (ltb limit n) 6 0))
 
+-- the two formats and the target's settings, of a target whose refusal has the number n, 0 where it is accepted
+abbrev pub Aims : Format → Format → Settings → ℕ → Result Aim Refusal → Type 0
+Aims f t c n (Ok a) = (layout_of a.list ≡ f) × (layout_of a.layout ≡ t) × (env_of a.env ≡ c) × (n ≡ 0)
+Aims f t c n (Err r) = number_of r ≡ n
+
 -- what the walk of some values keeps, and a target that its tests let pass
 pub record Printable (f t : Format) (c : Settings) (w : Walked) : Type 0 where
-  pub list : FormatBounds f
-  pub format : FormatBounds t
   pub settings : SettingsBounds t c
   pub reading : ℕ
   pub values : List ℕ

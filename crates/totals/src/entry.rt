@@ -141,10 +141,10 @@ fn tens_sum(
         saturate,
         precision,
     );
-    if let Err(refusal) = extended::sum_refusal(f, c, summand, values) {
-        return refusal.number();
+    match extended::sum_refusal(f, c, summand, values) {
+        Ok(env) => enter_tens(extended::total(env, summand, values, values), answer),
+        Err(refusal) => return refusal.number(),
     }
-    enter_tens(extended::total(c, summand, values, values), answer);
     0
 }
 
@@ -187,10 +187,10 @@ fn tens_dot(
         saturate,
         precision,
     );
-    if let Err(refusal) = extended::dot_refusal(f, c, left, right) {
-        return refusal.number();
+    match extended::dot_refusal(f, c, left, right) {
+        Ok(env) => enter_tens(extended::total(env, 3, left, right), answer),
+        Err(refusal) => return refusal.number(),
     }
-    enter_tens(extended::total(c, 3, left, right), answer);
     0
 }
 

@@ -29,7 +29,7 @@ pub fn sum(f: Format, c: Settings, u: u64, values: &[u64]) -> Answer
     ensures { answer_of result ≡ spec.sum_answer (format_of f) (settings_of c) u values.now }
 {
     match sum_refusal(f, c, u, values.len()) {
-        Ok(()) => lists::words(f, c, u, values, values),
+        Ok(asked) => lists::words(asked.layout, asked.env, u, values, values),
         Err(refusal) => Answer::from(refusal),
     }
 }
@@ -39,7 +39,7 @@ pub fn dot(f: Format, c: Settings, left: &[u64], right: &[u64]) -> Answer
     ensures { answer_of result ≡ spec.dot_answer (format_of f) (settings_of c) left.now right.now }
 {
     match dot_refusal(f, c, left.len(), right.len()) {
-        Ok(()) => lists::words(f, c, 3, left, right),
+        Ok(asked) => lists::words(asked.layout, asked.env, 3, left, right),
         Err(refusal) => Answer::from(refusal),
     }
 }
@@ -49,7 +49,7 @@ pub fn sum_bytes(f: Format, c: Settings, u: u64, values: &[u8]) -> Answer
     ensures { answer_of result ≡ spec.sum_answer (format_of f) (settings_of c) u (values_in values.now) }
 {
     match sum_refusal(f, c, u, values.len() / 8) {
-        Ok(()) => lists::bytes(f, c, u, values, values),
+        Ok(asked) => lists::bytes(asked.layout, asked.env, u, values, values),
         Err(refusal) => Answer::from(refusal),
     }
 }
@@ -58,7 +58,7 @@ pub fn dot_bytes(f: Format, c: Settings, left: &[u8], right: &[u8]) -> Answer
     ensures { answer_of result ≡ spec.dot_answer (format_of f) (settings_of c) (values_in left.now) (values_in right.now) }
 {
     match dot_refusal(f, c, left.len() / 8, right.len() / 8) {
-        Ok(()) => lists::bytes(f, c, 3, left, right),
+        Ok(asked) => lists::bytes(asked.layout, asked.env, 3, left, right),
         Err(refusal) => Answer::from(refusal),
     }
 }

@@ -4,7 +4,9 @@ ghost use Rattle.std.specs.Prelude.{◌≡◌, ◌*◌, ◌/◌, ◌<◌, ◌≤
 ghost use Rattle.totals_spec.specs.Basics.{any};
 ghost use Rattle.totals_spec.specs.Settings as env;
 ghost use Rattle.totals_spec.specs.Bytes.{values_in};
-ghost use Rattle.format.specs.Joined.{format_of, settings_of};
+ghost use Rattle.format.specs.Shapes.{shape_of};
+ghost use Rattle.format.specs.Layouts.{layout_of};
+ghost use Rattle.format.specs.Environments.{env_of};
 ghost use Rattle.totals_spec.specs.Table.{column_of};
 ghost use Rattle.totals_spec.specs.Totals as totals;
 ghost use Rattle.totals_spec.specs.Extended as spec;
@@ -24,8 +26,9 @@ use crate::report::{Report, decided_by, digits_for, early, ended, met_special, s
 use crate::stray::walk_stray;
 use binary::extended::extended;
 use exact::{Unrounded, nothing};
-use format::Format;
-use format::env::Settings;
+use format::environment::Env;
+use format::layout::Layout;
+use format::shape::Shape;
 use reduction::total::{Answer, Wide, left};
 use reduction::walk::exact;
 use scan::Scan;
@@ -81,18 +84,18 @@ fn report_of(w: Walked) -> Report
 
 // Of the lists of a walk, which have no stray bit: a scan, and a chain of passes where that decides nothing.
 fn total(
-    f: Format,
-    c: Settings,
+    f: Shape,
+    c: Env,
     k: Walk,
     left_words: &[u64],
     left_bytes: &[u8],
     right_words: &[u64],
     right_bytes: &[u8],
 ) -> Walked
-    requires known { Known (wide (format_of f)) (format_of f) × TensThere (wide (format_of f)) k.source left_bytes.now right_bytes.now }
+    requires known { Known (wide (shape_of f)) (shape_of f) × TensThere (wide (shape_of f)) k.source left_bytes.now right_bytes.now }
     requires within { Within k.source left_words.now left_bytes.now × Within k.source right_words.now right_bytes.now × Orderly k }
-    requires total_asks { TotalAsks (is_hundred k) (wide (format_of f)) (is_dot k) (format_of f) (settings_of c) k.summand (read_as (wide (format_of f)) k.source left_words.now left_bytes.now) (read_as (wide (format_of f)) k.source right_words.now right_bytes.now) }
-    ensures { TotalTells (is_hundred k) (wide (format_of f)) (is_dot k) (format_of f) (settings_of c) k.summand (read_as (wide (format_of f)) k.source left_words.now left_bytes.now) (read_as (wide (format_of f)) k.source right_words.now right_bytes.now) result.report × (k.summand ≡ 0 → wide (format_of f) ≡ false → Keeps (format_of f) (settings_of c) (read_as (wide (format_of f)) k.source left_words.now left_bytes.now) result) }
+    requires total_asks { TotalAsks (is_hundred k) (wide (shape_of f)) (is_dot k) (shape_of f) (env_of c) k.summand (read_as (wide (shape_of f)) k.source left_words.now left_bytes.now) (read_as (wide (shape_of f)) k.source right_words.now right_bytes.now) }
+    ensures { TotalTells (is_hundred k) (wide (shape_of f)) (is_dot k) (shape_of f) (env_of c) k.summand (read_as (wide (shape_of f)) k.source left_words.now left_bytes.now) (read_as (wide (shape_of f)) k.source right_words.now right_bytes.now) result.report × (k.summand ≡ 0 → wide (shape_of f) ≡ false → Keeps (shape_of f) (env_of c) (read_as (wide (shape_of f)) k.source left_words.now left_bytes.now) result) }
 {
     let s = scan(
         f,
@@ -131,8 +134,8 @@ fn total(
 // Of the lists of a walk. Its numbers are handed over one by one: of a record, which goes through memory, the loops know less, and a sum takes up to 13 %
 // longer, by where it lies in the program.
 fn listed(
-    f: Format,
-    c: Settings,
+    f: Shape,
+    c: Env,
     u: u64,
     layout: u64,
     start: usize,
@@ -143,10 +146,10 @@ fn listed(
     right_words: &[u64],
     right_bytes: &[u8],
 ) -> Walked
-    requires known { Known (wide (format_of f)) (format_of f) × TensThere (wide (format_of f)) (source_of layout start step count) left_bytes.now right_bytes.now }
+    requires known { Known (wide (shape_of f)) (shape_of f) × TensThere (wide (shape_of f)) (source_of layout start step count) left_bytes.now right_bytes.now }
     requires within { Within (source_of layout start step count) left_words.now left_bytes.now × Within (source_of layout start step count) right_words.now right_bytes.now × Orderly (walk_of u (source_of layout start step count)) }
-    requires list_asks { ListAsks (eqb u 4) (wide (format_of f)) (eqb u 3) (format_of f) (settings_of c) u count (read_as (wide (format_of f)) (source_of layout start step count) left_words.now left_bytes.now) (read_as (wide (format_of f)) (source_of layout start step count) right_words.now right_bytes.now) }
-    ensures { ListTells (eqb u 4) (wide (format_of f)) (eqb u 3) (format_of f) (settings_of c) u (read_as (wide (format_of f)) (source_of layout start step count) left_words.now left_bytes.now) (read_as (wide (format_of f)) (source_of layout start step count) right_words.now right_bytes.now) result.report × (u ≡ 0 → wide (format_of f) ≡ false → result.report.refusal ≡ 0 → Keeps (format_of f) (settings_of c) (read_as (wide (format_of f)) (source_of layout start step count) left_words.now left_bytes.now) result) }
+    requires list_asks { ListAsks (eqb u 4) (wide (shape_of f)) (eqb u 3) (shape_of f) (env_of c) u count (read_as (wide (shape_of f)) (source_of layout start step count) left_words.now left_bytes.now) (read_as (wide (shape_of f)) (source_of layout start step count) right_words.now right_bytes.now) }
+    ensures { ListTells (eqb u 4) (wide (shape_of f)) (eqb u 3) (shape_of f) (env_of c) u (read_as (wide (shape_of f)) (source_of layout start step count) left_words.now left_bytes.now) (read_as (wide (shape_of f)) (source_of layout start step count) right_words.now right_bytes.now) result.report × (u ≡ 0 → wide (shape_of f) ≡ false → result.report.refusal ≡ 0 → Keeps (shape_of f) (env_of c) (read_as (wide (shape_of f)) (source_of layout start step count) left_words.now left_bytes.now) result) }
 {
     let k = Walk {
         summand: u,
@@ -164,28 +167,40 @@ fn listed(
 }
 
 // A total of words, and of values in bytes.
-pub fn words(f: Format, c: Settings, u: u64, left: &[u64], right: &[u64]) -> Answer
+pub fn words(f: Layout, c: Env, u: u64, left: &[u64], right: &[u64]) -> Answer
     requires right_len { length right.now ≡ length left.now }
-    requires left_value { numbers_in (eqb u 3) (format_of f) (settings_of c) u (length left.now) ≡ 0 }
-    ensures { answer_of result ≡ answer_to (eqb u 3) (format_of f) (settings_of c) u left.now right.now }
+    requires left_value { numbers_in (eqb u 3) (layout_of f) (env_of c) u (length left.now) ≡ 0 }
+    ensures { answer_of result ≡ answer_to (eqb u 3) (layout_of f) (env_of c) u left.now right.now }
 {
-    Answer::from(report_of(listed(f, c, u, 0, 0, 1, left.len(), left, b"", right, b"")))
+    Answer::from(report_of(listed(f.shape, c, u, 0, 0, 1, left.len(), left, b"", right, b"")))
 }
 
-pub fn bytes(f: Format, c: Settings, u: u64, left: &[u8], right: &[u8]) -> Answer
+pub fn bytes(f: Layout, c: Env, u: u64, left: &[u8], right: &[u8]) -> Answer
     requires right_len { length right.now / 8 ≡ length left.now / 8 }
-    requires left_value { numbers_in (eqb u 3) (format_of f) (settings_of c) u (length left.now / 8) ≡ 0 }
-    ensures { answer_of result ≡ answer_to (eqb u 3) (format_of f) (settings_of c) u (values_in left.now) (values_in right.now) }
+    requires left_value { numbers_in (eqb u 3) (layout_of f) (env_of c) u (length left.now / 8) ≡ 0 }
+    ensures { answer_of result ≡ answer_to (eqb u 3) (layout_of f) (env_of c) u (values_in left.now) (values_in right.now) }
 {
     let none = [0u64; 1];
-    Answer::from(report_of(listed(f, c, u, 1, 0, 1, left.len() / 8, &none, left, &none, right)))
+    Answer::from(report_of(listed(
+        f.shape,
+        c,
+        u,
+        1,
+        0,
+        1,
+        left.len() / 8,
+        &none,
+        left,
+        &none,
+        right,
+    )))
 }
 
 // A total of values of ten bytes, none of which is unsupported.
-pub fn tens(c: Settings, u: u64, left: &[u8], right: &[u8]) -> Wide
+pub fn tens(c: Env, u: u64, left: &[u8], right: &[u8]) -> Wide
     requires right_len { length right.now / 10 ≡ length left.now / 10 }
-    requires right_value { (any spec.unsupported (all_tens (eqb u 3) (spec.tens_in left.now) (spec.tens_in right.now)) ≡ false) × (tens_refusal (eqb u 3) (settings_of c) u (spec.tens_in left.now) (spec.tens_in right.now) ≡ 0) }
-    ensures { answer_as true result ≡ answered.answer_in true (eqb u 3) spec.extended (settings_of c) (env.summand_of u) (spec.tens_in left.now) (spec.tens_in right.now) }
+    requires right_value { (any spec.unsupported (all_tens (eqb u 3) (spec.tens_in left.now) (spec.tens_in right.now)) ≡ false) × (tens_refusal (eqb u 3) (env_of c) u (spec.tens_in left.now) (spec.tens_in right.now) ≡ 0) }
+    ensures { answer_as true result ≡ answered.answer_in true (eqb u 3) spec.extended (env_of c) (env.summand_of u) (spec.tens_in left.now) (spec.tens_in right.now) }
 {
     let none = [0u64; 1];
     let f = extended();
@@ -193,12 +208,12 @@ pub fn tens(c: Settings, u: u64, left: &[u8], right: &[u8]) -> Wide
 }
 
 // The pence of a list of words.
-pub fn pence(f: Format, c: Settings, values: &[u64]) -> Pence
-    requires { PenceAsks (format_of f) (settings_of c) (length values.now) }
-    ensures { pence_record result ≡ list_pence (format_of f) values.now }
+pub fn pence(f: Layout, c: Env, values: &[u64]) -> Pence
+    requires { PenceAsks (layout_of f) (env_of c) (length values.now) }
+    ensures { pence_record result ≡ list_pence (layout_of f) values.now }
 {
     Pence::from(report_of(listed(
-        f,
+        f.shape,
         c,
         HUNDREDFOLD,
         0,
@@ -213,29 +228,22 @@ pub fn pence(f: Format, c: Settings, values: &[u64]) -> Pence
 }
 
 // The plain sum of a column: of every step-th word from `first` on, `count` of them.
-pub fn column(
-    f: Format,
-    c: Settings,
-    first: usize,
-    step: usize,
-    count: usize,
-    cells: &[u64],
-) -> Answer
+pub fn column(f: Layout, c: Env, first: usize, step: usize, count: usize, cells: &[u64]) -> Answer
     requires step_in_bounds { (count * step ≤ length cells.now) × (first < step) }
-    requires count_value { numbers_in false (format_of f) (settings_of c) 0 count ≡ 0 }
-    ensures { answer_of result ≡ totals.sum_answer (format_of f) (settings_of c) 0 (column_of count step cells.now first) }
+    requires count_value { numbers_in false (layout_of f) (env_of c) 0 count ≡ 0 }
+    ensures { answer_of result ≡ totals.sum_answer (layout_of f) (env_of c) 0 (column_of count step cells.now first) }
 {
-    Answer::from(report_of(listed(f, c, 0, 0, first, step, count, cells, b"", cells, b"")))
+    Answer::from(report_of(listed(f.shape, c, 0, 0, first, step, count, cells, b"", cells, b"")))
 }
 
 // The walk of a plain sum of values in bytes, for further roundings.
-pub fn sum_walk(f: Format, c: Settings, values: &[u8]) -> Walked
-    requires { numbers_in false (format_of f) (settings_of c) 0 (length values.now / 8) ≡ 0 }
-    ensures { ListKept (format_of f) (settings_of c) (values_in values.now) result }
+pub fn sum_walk(f: Layout, c: Env, values: &[u8]) -> Walked
+    requires { numbers_in false (layout_of f) (env_of c) 0 (length values.now / 8) ≡ 0 }
+    ensures { ListKept (layout_of f) (env_of c) (values_in values.now) result }
 {
     let none = [0u64; 1];
     listed(
-        f,
+        f.shape,
         c,
         0,
         1,

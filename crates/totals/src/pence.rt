@@ -1,11 +1,11 @@
 // Pence: a hundred times a number, rounded to an integer, half a penny away from zero. Of the number that an encoding stands for, and of the exact sum of
 // a list.
 ghost use Rattle.std.specs.Prelude.{◌≡◌, cond, ℕ, ◌+◌, ◌*◌, ◌/◌, ◌^◌, ◌<◌, ◌≤◌, min, pos, neg_ℤ};
-ghost use Rattle.totals_spec.specs.Bounds.{RangeBounds};
 ghost use Rattle.totals_spec.specs.Basics.{Signed};
 ghost use Rattle.totals_spec.specs.Pence as spec;
 ghost use Rattle.totals_spec.specs.Hundredfold.{whole_figure};
-ghost use Rattle.format.specs.Joined.{format_of, settings_of, unpacked_of};
+ghost use Rattle.format.specs.Shapes.{shape_of};
+ghost use Rattle.format.specs.Joined.{format_of, unpacked_of};
 ghost use Rattle.exact.specs.Joined.{significand_of, Stands};
 ghost use Rattle.arithmetic.specs.Joined.{Bounded};
 ghost use Rattle.window.specs.Joined.{LeftOf};
@@ -18,9 +18,13 @@ use crate::stray::greatest;
 use binary::decode;
 use exact::Unrounded;
 use exact::rounding::rounds_up;
-use format::env::{Settings, flag};
+use format::Format;
+use format::env::flag;
+use format::environment::Env;
+use format::layout::Layout;
+use format::modes::Rounding;
+use format::shape::Shape;
 use format::unpacked::Unpacked;
-use format::{Format, depth, fall, lift, origin, valid_format};
 use limbs::pair;
 use limbs::word::{scaled, widening_mul};
 use values::LIMIT;
@@ -35,9 +39,6 @@ pub struct Pence {
 
 // 2^63, the least magnitude that is refused.
 const TOO_LARGE: u64 = 9223372036854775808;
-
-// The rounding mode in which half a penny goes away from zero.
-const TIES_TO_AWAY: u64 = 1;
 
 impl From<Refusal> for Pence {
     ghost from_gives = { λ e p. pence_record p ≡ spec.refused_at (number_of e) (place_of e) };
@@ -122,37 +123,38 @@ fn figure_of(d: u64, n: u64, v: Unpacked) -> Pence
 pub fn pence_of(f: Format, b: u64) -> Pence
     ensures { pence_record result ≡ spec.pence_answer (format_of f) b }
 {
-    if !valid_format(f) {
+    let Some(layout) = Layout::new(f) else {
         return Pence::from(Refusal::NoSuchFormat);
-    }
+    };
     if b > greatest(f.width) {
         return Pence::from(Refusal::StrayBit(0));
     }
-    figure_of(depth(f), lift(f), decode(f, b))
+    let shape = layout.shape;
+    figure_of(shape.depth(), shape.lift(), decode(layout, b))
 }
 
 // The figure of a sum in pence. What has its highest bit at 2^63 pence or above is too large; of all else the whole pence fit a word, with room for one
 // more.
-fn nearest(f: Format, v: Unrounded) -> Pence
-    requires { RangeBounds (format_of f) × Countable v }
-    ensures { (x : ℕ) → Stands v x → pence_record result ≡ whole_figure (format_of f) (record { neg = v.negative; mag = x }) }
+fn nearest(f: Shape, v: Unrounded) -> Pence
+    requires { Countable v }
+    ensures { (x : ℕ) → Stands v x → pence_record result ≡ whole_figure (shape_of f) (record { neg = v.negative; mag = x }) }
 {
-    let one = origin(f, false);
-    let down = fall(f, false);
+    let one = f.origin(false);
+    let down = f.fall(false);
     let end = v.position + v.length();
     if end + down > one + 63 {
         return Pence::from(Refusal::NoPence);
     }
     let whole = v.cut(one - down);
     let d = whole.dropped;
-    let up = rounds_up(TIES_TO_AWAY, v.negative, whole.kept, d);
+    let up = rounds_up(Rounding::TiesToAway, v.negative, whole.kept, d);
     in_range(v.negative, whole.kept + flag(1, up))
 }
 
 // The figure of a sum of hundredfold terms, of which v is left.
-pub fn whole_pence(f: Format, v: Unrounded) -> Pence
-    requires { RangeBounds (format_of f) × (0 < significand_of v → Countable v) }
-    ensures { (x : Signed) → LeftOf 64 x v → pence_record result ≡ whole_figure (format_of f) x }
+pub fn whole_pence(f: Shape, v: Unrounded) -> Pence
+    requires { 0 < significand_of v → Countable v }
+    ensures { (x : Signed) → LeftOf 64 x v → pence_record result ≡ whole_figure (shape_of f) x }
 {
     if v.is_nothing() {
         return in_range(false, 0);
@@ -164,11 +166,11 @@ pub fn whole_pence(f: Format, v: Unrounded) -> Pence
 pub fn pence_of_sum(f: Format, values: &[u64]) -> Pence
     ensures { pence_record result ≡ spec.sum_pence (format_of f) values.now }
 {
-    if !valid_format(f) {
+    let Some(layout) = Layout::new(f) else {
         return Pence::from(Refusal::NoSuchFormat);
-    }
+    };
     if values.len() > LIMIT {
         return Pence::from(Refusal::TooManyElements);
     }
-    lists::pence(f, Settings::default(), values)
+    lists::pence(layout, Env::default(), values)
 }

@@ -7,14 +7,16 @@ ghost use Rattle.totals_spec.specs.Format as format;
 ghost use Rattle.totals_spec.specs.Settings as env;
 ghost use Rattle.totals_spec.specs.Totals as totals;
 ghost use Rattle.totals_spec.specs.Table.{plain_total};
+ghost use Rattle.format.specs.Modes.{rounding_number};
 ghost use Rattle.totals_spec.specs.Ranges as spec;
 ghost use Rattle.totals.specs.Refusal.{number_of, refusal_number};
 ghost use Rattle.totals.specs.Ranges.{amount_in, range_record, lows, highs, Totalled};
 
 use crate::lists;
 use crate::refusal::Refusal;
-use format::env::Settings;
-use page::binary64;
+use format::environment::Env;
+use format::modes::Rounding;
+use page::layout;
 use values::LIMIT;
 
 // An amount known exactly, between two figures, or missing.
@@ -138,15 +140,13 @@ fn settle(tags: &[u64], firsts: &mut [u64], seconds: &mut [u64], ceiling: u64)
 }
 
 // The plain sum of doubles, rounded by a mode; a zero is +0.
-fn toward(rounding: u64, l: &[u64]) -> u64
-    requires { (length l.now ≤ totals.limit) × (rounding < 8) }
-    ensures { result ≡ spec.plus_zero (plain_total format.binary64 (env.with_rounding rounding) l.now) }
+fn toward(rounding: Rounding, l: &[u64]) -> u64
+    requires { length l.now ≤ totals.limit }
+    ensures { result ≡ spec.plus_zero (plain_total format.binary64 (env.with_rounding (rounding_number rounding)) l.now) }
 {
-    let c = Settings {
-        rounding,
-        ..Settings::default()
-    };
-    let a = lists::words(binary64(), c, 0, l, l);
+    let mut c = Env::default();
+    c.rounding = rounding;
+    let a = lists::words(layout(), c, 0, l, l);
     if a.result == SIGN { 0 } else { a.result }
 }
 
@@ -191,8 +191,8 @@ pub fn range_total(tags: &[u64], firsts: &mut [u64], seconds: &mut [u64], ceilin
         return Range::from(refusal);
     }
     settle(tags, firsts, seconds, ceiling);
-    let lower = toward(4, firsts);
-    let upper = toward(3, seconds);
+    let lower = toward(Rounding::TowardNegative, firsts);
+    let upper = toward(Rounding::TowardPositive, seconds);
     Range {
         bounds: Bounds {
             lower: f64::from_bits(lower),

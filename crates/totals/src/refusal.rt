@@ -1,13 +1,18 @@
 // Why a call is refused, and the refusals that do not look at the elements, in the order of their numbers.
-ghost use Rattle.std.specs.Prelude.{◌≡◌, true, cond};
-ghost use Rattle.totals_spec.specs.Bounds.{RangeBounds};
+ghost use Rattle.std.specs.Prelude.{◌≡◌, cond};
+ghost use Rattle.totals_spec.specs.Format.{valid_format};
 ghost use Rattle.totals_spec.specs.Totals as spec;
+ghost use Rattle.format.specs.Shapes.{shape_of};
 ghost use Rattle.format.specs.Joined.{format_of, settings_of};
 ghost use Rattle.reduction.specs.Answered.{answer_of};
 ghost use Rattle.totals.specs.Refusal.{number_of, place_of, refusal_number, first_numbers, list_numbers, pair_numbers, sum_numbers, dot_numbers};
+ghost use Rattle.totals.specs.Asked.{SetFor, Asks};
 
-use format::env::{Settings, valid_settings};
-use format::{Format, valid_format};
+use format::Format;
+use format::env::Settings;
+use format::environment::Env;
+use format::layout::Layout;
+use format::shape::Shape;
 use reduction::total::{Answer, refused};
 use values::LIMIT;
 
@@ -86,13 +91,29 @@ pub(crate) fn refuse_if(holds: bool, refusal: Refusal) -> Result<(), Refusal>
     if holds { Err(refusal) } else { Ok(()) }
 }
 
-// What totals of every kind refuse first: a format that is not offered, and settings that are not those of its digits.
-pub(crate) fn first_refusal(offered: bool, f: Format, c: Settings) -> Result<(), Refusal>
-    requires { offered ≡ true → RangeBounds (format_of f) }
-    ensures { refusal_number result ≡ first_numbers offered (format_of f) (settings_of c) }
+// A format that is offered, and settings in their ranges for it.
+#[derive(Clone, Copy)]
+pub struct Asked {
+    pub layout: Layout,
+    pub env: Env,
+}
+
+// Settings in their ranges, for a format that is offered.
+pub(crate) fn settings_for(shape: Shape, c: Settings) -> Result<Env, Refusal>
+    ensures { SetFor (shape_of shape) (settings_of c) result }
 {
-    refuse_if(!offered, Refusal::NoSuchFormat)?;
-    refuse_if(!valid_settings(f, c), Refusal::SettingOutOfRange)
+    Env::new(shape, c).ok_or(Refusal::SettingOutOfRange)
+}
+
+// What totals of words refuse first: a format that is not offered, and settings that are not those of its digits.
+fn ranged(f: Format, c: Settings) -> Result<Asked, Refusal>
+    ensures { Asks (format_of f) (settings_of c) (first_numbers (valid_format (format_of f)) (format_of f) (settings_of c)) result }
+{
+    let Some(layout) = Layout::new(f) else {
+        return Err(Refusal::NoSuchFormat);
+    };
+    let env = settings_for(layout.shape, c)?;
+    Ok(Asked { layout, env })
 }
 
 // And then totals of lists of n elements, by one more setting that they are asked with, and dots of n and m.
@@ -110,18 +131,20 @@ pub(crate) fn pair_refusal(n: usize, m: usize) -> Result<(), Refusal>
     refuse_if(n > LIMIT, Refusal::TooManyElements)
 }
 
-// The refusal of a sum that does not look at its elements.
-pub fn sum_refusal(f: Format, c: Settings, u: u64, n: usize) -> Result<(), Refusal>
-    ensures { refusal_number result ≡ sum_numbers (format_of f) (settings_of c) u n }
+// The refusal of a sum that does not look at its elements, or what it is asked with.
+pub fn sum_refusal(f: Format, c: Settings, u: u64, n: usize) -> Result<Asked, Refusal>
+    ensures { Asks (format_of f) (settings_of c) (sum_numbers (format_of f) (settings_of c) u n) result }
 {
-    first_refusal(valid_format(f), f, c)?;
-    list_refusal(u <= 2, n)
+    let a = ranged(f, c)?;
+    list_refusal(u <= 2, n)?;
+    Ok(a)
 }
 
-// The refusal of a dot that does not look at its elements.
-pub fn dot_refusal(f: Format, c: Settings, n: usize, m: usize) -> Result<(), Refusal>
-    ensures { refusal_number result ≡ dot_numbers (format_of f) (settings_of c) n m }
+// The refusal of a dot that does not look at its elements, or what it is asked with.
+pub fn dot_refusal(f: Format, c: Settings, n: usize, m: usize) -> Result<Asked, Refusal>
+    ensures { Asks (format_of f) (settings_of c) (dot_numbers (format_of f) (settings_of c) n m) result }
 {
-    first_refusal(valid_format(f), f, c)?;
-    pair_refusal(n, m)
+    let a = ranged(f, c)?;
+    pair_refusal(n, m)?;
+    Ok(a)
 }

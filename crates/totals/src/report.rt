@@ -1,10 +1,11 @@
 // What a walk reports: a total or, with summand 4, the pence of its list.
 ghost use Rattle.std.specs.Prelude.{◌≡◌, false, cond, ◌+◌, ◌^◌, ◌<◌, eqb};
 ghost use Rattle.totals_spec.specs.Format as spec;
-ghost use Rattle.totals_spec.specs.Bounds.{RangeBounds};
 ghost use Rattle.totals_spec.specs.Totals as totals;
 ghost use Rattle.totals_spec.specs.Pence as pence;
-ghost use Rattle.format.specs.Joined.{format_of, settings_of, unpacked_of};
+ghost use Rattle.format.specs.Shapes.{shape_of};
+ghost use Rattle.format.specs.Environments.{env_of};
+ghost use Rattle.format.specs.Joined.{unpacked_of};
 ghost use Rattle.values.specs.Walks.{is_hundred};
 ghost use Rattle.reduction.specs.Answered.{answer_of, products_in, first_in};
 ghost use Rattle.totals.specs.PenceRecord.{pence_record};
@@ -14,9 +15,9 @@ ghost use Rattle.totals.specs.Reported.{answer_in, pence_in, odd, PenceDecides, 
 use crate::pence::{Pence, in_range, whole_pence};
 use crate::refusal::Refusal;
 use exact::Unrounded;
-use format::env::Settings;
+use format::environment::Env;
+use format::shape::Shape;
 use format::unpacked::Unpacked;
-use format::{Format, digits};
 use reduction::total::{Answer, Wide, finish, special};
 use scan::{Given, Scan, decided};
 use values::{HUNDREDFOLD, Walk};
@@ -179,8 +180,8 @@ fn decided_pence(s: Scan) -> Option<Given>
     }
 }
 
-pub fn decided_by(c: Settings, u: u64, s: Scan) -> Option<Given>
-    ensures { DecidesBy (eqb u 4) result (settings_of c) (first_in u) s }
+pub fn decided_by(c: Env, u: u64, s: Scan) -> Option<Given>
+    ensures { DecidesBy (eqb u 4) result (env_of c) (first_in u) s }
 {
     if u == HUNDREDFOLD {
         return decided_pence(s);
@@ -198,9 +199,9 @@ fn special_pence(v: Unpacked) -> Pence
 }
 
 // Without a pass.
-pub fn early(f: Format, u: u64, subnormal: bool, g: Given) -> Report
-    requires { EarlyAsks (eqb u 4) (format_of f) (unpacked_of g.value) }
-    ensures { EarlyTells (eqb u 4) (format_of f) subnormal (unpacked_of g.value) g.invalid result }
+pub fn early(f: Shape, u: u64, subnormal: bool, g: Given) -> Report
+    requires { EarlyAsks (eqb u 4) (shape_of f) (unpacked_of g.value) }
+    ensures { EarlyTells (eqb u 4) (shape_of f) subnormal (unpacked_of g.value) g.invalid result }
 {
     if u == HUNDREDFOLD {
         return Report::from(special_pence(g.value));
@@ -209,14 +210,13 @@ pub fn early(f: Format, u: u64, subnormal: bool, g: Given) -> Report
 }
 
 // The digits that a chain is to decide, and where it starts.
-pub fn digits_for(f: Format, u: u64) -> u64
-    requires { RangeBounds (format_of f) }
-    ensures { result ≡ cond (eqb u 4) 64 (spec.digits (format_of f)) }
+pub fn digits_for(f: Shape, u: u64) -> u64
+    ensures { result ≡ cond (eqb u 4) 64 (spec.digits (shape_of f)) }
 {
     if u == HUNDREDFOLD {
         return DIGITS;
     }
-    digits(f)
+    f.digits()
 }
 
 pub fn top_for(u: u64, top: u64) -> u64
@@ -230,9 +230,9 @@ pub fn top_for(u: u64, top: u64) -> u64
 }
 
 // By a chain of passes, which leaves v.
-pub fn ended(f: Format, c: Settings, u: u64, subnormal: bool, e: ExactSum, v: Unrounded) -> Report
-    requires { EndAsks (eqb u 4) (format_of f) (settings_of c) e v }
-    ensures { EndTells (eqb u 4) (format_of f) (settings_of c) (products_in u) subnormal e result }
+pub fn ended(f: Shape, c: Env, u: u64, subnormal: bool, e: ExactSum, v: Unrounded) -> Report
+    requires { EndAsks (eqb u 4) (shape_of f) (env_of c) e v }
+    ensures { EndTells (eqb u 4) (shape_of f) (env_of c) (products_in u) subnormal e result }
 {
     if u == HUNDREDFOLD {
         return Report::from(whole_pence(f, v));

@@ -3,17 +3,21 @@ ghost use Rattle.std.specs.Prelude.{◌≡◌, ◌&&◌, ◌/◌, length};
 ghost use Rattle.totals_spec.specs.Format.{valid_format};
 ghost use Rattle.totals_spec.specs.Bytes.{values_in};
 ghost use Rattle.further_spec.specs.Several as spec;
+ghost use Rattle.format.specs.Layouts.{layout_of};
+ghost use Rattle.format.specs.Environments.{env_of};
 ghost use Rattle.format.specs.Joined.{format_of, settings_of};
 ghost use Rattle.reduction.specs.Answered.{answer_of};
-ghost use Rattle.totals.specs.Refusal.{refusal_number, sum_numbers};
+ghost use Rattle.totals.specs.Refusal.{first_numbers, sum_numbers};
 ghost use Rattle.totals.specs.Kept.{ListKept};
-ghost use Rattle.totals.specs.Targets.{target_numbers, Printable, Prints, Listed, Answers};
+ghost use Rattle.totals.specs.Targets.{target_numbers, Aims, Printable, Prints, Listed, Answers};
 
 use crate::lists::{Walked, no_walk, sum_walk};
-use crate::refusal::{Refusal, first_refusal, list_refusal, sum_refusal};
+use crate::refusal::{Refusal, list_refusal, settings_for, sum_refusal};
 use crate::report::Report;
+use format::Format;
 use format::env::Settings;
-use format::{Format, digits, valid_format};
+use format::environment::Env;
+use format::layout::Layout;
 use reduction::total::{Answer, print, print_zero, refused};
 
 // A format to round into, with settings of its own.
@@ -41,40 +45,70 @@ fn reading(denormals_are_zero: u64) -> Settings
     }
 }
 
-// Whether a list's format and a target's are offered.
-fn both_valid(f: Format, t: Format) -> bool
-    ensures { result ≡ (valid_format (format_of f) && valid_format (format_of t)) }
-{
-    valid_format(f) && valid_format(t)
+// A list's format, a target's and its settings in their ranges.
+#[derive(Clone, Copy)]
+struct Aim {
+    list: Layout,
+    layout: Layout,
+    env: Env,
 }
 
-// The refusal of a target that does not look at the n elements: 3, 4 or 6.
+// What targets refuse first, 3 and 4, or what they are asked with.
+fn aimed(f: Format, target: Target) -> Result<Aim, Refusal>
+    ensures { Aims (format_of f) (format_of target.format) (settings_of target.settings) (first_numbers (valid_format (format_of f) && valid_format (format_of target.format)) (format_of target.format) (settings_of target.settings)) result }
+{
+    let Some(list) = Layout::new(f) else {
+        return Err(Refusal::NoSuchFormat);
+    };
+    let Some(layout) = Layout::new(target.format) else {
+        return Err(Refusal::NoSuchFormat);
+    };
+    let env = settings_for(layout.shape, target.settings)?;
+    Ok(Aim { list, layout, env })
+}
+
+// The refusal of a target that does not look at the n elements, 3, 4 or 6, or what it is asked with.
 fn target_refusal(
     f: Format,
     denormals_are_zero: u64,
     n: usize,
-    t: Format,
-    c: Settings,
-) -> Result<(), Refusal>
-    ensures { refusal_number result ≡ target_numbers (format_of f) denormals_are_zero n (format_of t) (settings_of c) }
+    target: Target,
+) -> Result<Aim, Refusal>
+    ensures { Aims (format_of f) (format_of target.format) (settings_of target.settings) (target_numbers (format_of f) denormals_are_zero n (format_of target.format) (settings_of target.settings)) result }
 {
-    first_refusal(both_valid(f, t), t, c)?;
-    list_refusal(denormals_are_zero <= 1, n)
+    let a = aimed(f, target)?;
+    list_refusal(denormals_are_zero <= 1, n)?;
+    Ok(a)
 }
 
 // The record of a target, where no element has a stray bit: 17, a zero, or what the list leaves, rounded.
-fn print_one(f: Format, t: Format, c: Settings, w: Walked) -> Answer
-    requires { Printable (format_of f) (format_of t) (settings_of c) w }
-    ensures { Prints (format_of f) (format_of t) (settings_of c) w (answer_of result) }
+fn print_one(aim: Aim, w: Walked) -> Answer
+    requires { Printable (layout_of aim.list) (layout_of aim.layout) (env_of aim.env) w }
+    ensures { Prints (layout_of aim.list) (layout_of aim.layout) (env_of aim.env) w (answer_of result) }
 {
-    if digits(t) > digits(f) || w.special {
+    let list = aim.list.shape;
+    if aim.layout.shape.digits() > list.digits() || w.special {
         return Answer::from(Refusal::TargetOutOfReach);
     }
     if w.top == 0 {
-        return print_zero(t, c, w.subnormal, w.positive_zero, w.negative_zero);
+        return print_zero(
+            aim.layout,
+            aim.env,
+            w.subnormal,
+            w.positive_zero,
+            w.negative_zero,
+        );
     }
     let r = w.report;
-    print(f, t, c, w.subnormal, r.passes, r.last_edge, w.rest)
+    print(
+        list,
+        aim.layout,
+        aim.env,
+        w.subnormal,
+        r.passes,
+        r.last_edge,
+        w.rest,
+    )
 }
 
 // The record of a target of a list of n values.
@@ -82,13 +116,11 @@ fn into_target(f: Format, denormals_are_zero: u64, n: usize, w: Walked, target: 
     requires { sum_numbers (format_of f) (spec.reading_with denormals_are_zero) 0 n ≡ 0 → Listed (format_of f) denormals_are_zero n w }
     ensures { Answers (format_of f) denormals_are_zero n (format_of target.format) (settings_of target.settings) w (answer_of result) }
 {
-    let t = target.format;
-    let c = target.settings;
     let r = w.report;
-    match target_refusal(f, denormals_are_zero, n, t, c) {
+    match target_refusal(f, denormals_are_zero, n, target) {
         Err(refusal) => Answer::from(refusal),
-        Ok(()) if r.refusal != 0 => refused(r.refusal, r.place),
-        Ok(()) => print_one(f, t, c, w),
+        Ok(_) if r.refusal != 0 => refused(r.refusal, r.place),
+        Ok(aim) => print_one(aim, w),
     }
 }
 
@@ -98,7 +130,7 @@ fn walk_once(f: Format, denormals_are_zero: u64, values: &[u8]) -> Walked
 {
     let c = reading(denormals_are_zero);
     match sum_refusal(f, c, 0, values.len() / 8) {
-        Ok(()) => sum_walk(f, c, values),
+        Ok(asked) => sum_walk(asked.layout, asked.env, values),
         Err(refusal) => no_walk(Report::from(refusal)),
     }
 }

@@ -1,15 +1,18 @@
 // The totals of a table: of each row, of each column, and of all cells, which stand row after row in one list.
 ghost use Rattle.std.specs.Prelude.{◌≡◌, not, map, ◌*◌, ◌≤◌, eqb, length};
 ghost use Rattle.totals_spec.specs.Table as spec;
+ghost use Rattle.format.specs.Layouts.{layout_of};
+ghost use Rattle.format.specs.Environments.{env_of};
 ghost use Rattle.format.specs.Joined.{format_of, settings_of};
 ghost use Rattle.totals.specs.Refusal.{sum_numbers};
 ghost use Rattle.totals.specs.Tables.{Tables};
 
 use crate::lists::{column, words};
 use crate::refusal::{Refusal, sum_refusal};
-use crate::sum;
 use format::Format;
 use format::env::Settings;
+use format::environment::Env;
+use format::layout::Layout;
 use reduction::total::Answer;
 
 // Whether rows times columns, as whole numbers, is another number than n.
@@ -20,28 +23,22 @@ fn misshapen(rows: usize, columns: usize, n: usize) -> bool
 }
 
 // Each row is a part of the cells.
-fn fill_rows(f: Format, c: Settings, rows: usize, columns: usize, cells: &[u64], totals: &mut [u64])
-    requires { (rows * columns ≡ length cells.now) × (rows ≤ length totals.old) }
-    ensures { totals.new ≡ spec.filled (map (spec.plain_total (format_of f) (settings_of c)) (spec.rows_of rows columns cells.now)) totals.old }
+fn fill_rows(f: Layout, c: Env, rows: usize, columns: usize, cells: &[u64], totals: &mut [u64])
+    requires { (rows * columns ≡ length cells.now) × (rows ≤ length totals.old) × (sum_numbers (layout_of f) (env_of c) 0 (length cells.now) ≡ 0) }
+    ensures { totals.new ≡ spec.filled (map (spec.plain_total (layout_of f) (env_of c)) (spec.rows_of rows columns cells.now)) totals.old }
 {
     for i in 0..rows {
         let at = i * columns;
-        let row = sum(f, c, 0, &cells[at..at + columns]);
-        totals[i] = row.result;
+        let row = &cells[at..at + columns];
+        let a = words(f, c, 0, row, row);
+        totals[i] = a.result;
     }
 }
 
 // Each column is a source of the walk.
-fn fill_columns(
-    f: Format,
-    c: Settings,
-    rows: usize,
-    columns: usize,
-    cells: &[u64],
-    totals: &mut [u64],
-)
-    requires { (rows * columns ≡ length cells.now) × (columns ≤ length totals.old) × (sum_numbers (format_of f) (settings_of c) 0 (length cells.now) ≡ 0) }
-    ensures { totals.new ≡ spec.filled (map (spec.plain_total (format_of f) (settings_of c)) (spec.columns_from rows columns cells.now 0 columns)) totals.old }
+fn fill_columns(f: Layout, c: Env, rows: usize, columns: usize, cells: &[u64], totals: &mut [u64])
+    requires { (rows * columns ≡ length cells.now) × (columns ≤ length totals.old) × (sum_numbers (layout_of f) (env_of c) 0 (length cells.now) ≡ 0) }
+    ensures { totals.new ≡ spec.filled (map (spec.plain_total (layout_of f) (env_of c)) (spec.columns_from rows columns cells.now 0 columns)) totals.old }
 {
     for j in 0..columns {
         let a = column(f, c, j, columns, rows, cells);
@@ -61,20 +58,21 @@ pub fn table(
 ) -> Answer
     ensures { Tables (spec.table_answer (format_of f) (settings_of c) rows columns cells.now row_totals.old column_totals.old) result row_totals.new column_totals.new }
 {
-    if let Err(refusal) = sum_refusal(f, c, 0, cells.len()) {
-        return Answer::from(refusal);
-    }
+    let asked = match sum_refusal(f, c, 0, cells.len()) {
+        Ok(asked) => asked,
+        Err(refusal) => return Answer::from(refusal),
+    };
     if misshapen(rows, columns, cells.len()) {
         return Answer::from(Refusal::BadShape);
     }
     if row_totals.len() < rows || column_totals.len() < columns {
         return Answer::from(Refusal::NoRoom);
     }
-    let grand = words(f, c, 0, cells, cells);
+    let grand = words(asked.layout, asked.env, 0, cells, cells);
     if grand.refusal != 0 {
         return grand;
     }
-    fill_rows(f, c, rows, columns, cells, row_totals);
-    fill_columns(f, c, rows, columns, cells, column_totals);
+    fill_rows(asked.layout, asked.env, rows, columns, cells, row_totals);
+    fill_columns(asked.layout, asked.env, rows, columns, cells, column_totals);
     grand
 }

@@ -26,25 +26,25 @@ returns-in-Err c =
     rw (format, c.settings-c.ensures) at
     (dot-refused (format_of c.format_with-f.result) (settings_of c.settings-c.result) a.left.now a.right.now a.answer.now
     c.if-left-ne0.false c.if-right-ne0.false c.if-answer-lt32.false _
-    (c.number.ensures ∙ c.in-Err.ensures {u = tt}) (λ z. number-some c.in-Err.refusal (sym c.number.ensures ∙ z)))
+    (c.number.ensures ∙ c.in-Err.ensures) (λ z. number-some c.in-Err.refusal (sym c.number.ensures ∙ z)))
 
 pub total-requires : goal.total-requires
 total-requires c =
     let a = c.args in
-    let passed = sym (c.in_default.ensures {u = tt}) in
+    let (env, passed) = c.in-Ok.ensures in
     let same = (extended-dot-accepts _ _ _ _ passed).1 in
-    (sym (tens-values a.right.now).0 ∙ sym same ∙ (tens-values a.left.now).0, dot-asked _ _ _ _ passed)
+    (sym (tens-values a.right.now).0 ∙ sym same ∙ (tens-values a.left.now).0, rw env (dot-asked _ _ _ _ passed))
 
 pub enter_tens-requires : goal.enter_tens-requires
 enter_tens-requires c =
-    let passed = sym (c.in_default.ensures {u = tt}) in
-    dot-fits _ _ _ _ _ c.if-left-ne0.false c.if-right-ne0.false _ (c.total.ensures ∙ dot-told _ _ _ _ (summand_of 3) passed) c.if-answer-lt32.false
+    let (env, passed) = c.in-Ok.ensures in
+    dot-fits _ _ _ _ _ c.if-left-ne0.false c.if-right-ne0.false _ (rw env at c.total.ensures ∙ dot-told _ _ _ _ (summand_of 3) passed) c.if-answer-lt32.false
 
 pub returns : goal.returns
 returns c =
     let a = c.args in
-    let passed = sym (c.in_default.ensures {u = tt}) in
+    let (env, passed) = c.in-Ok.ensures in
     let format = c.format_with-f.ensures ∙ ap (format_with 4 a.exponent_bits a.width a.named) (read a.bias c.ranges.bias.sfits) in
     rw (format, c.settings-c.ensures) at
     (dot-written _ _ _ _ _ c.if-left-ne0.false c.if-right-ne0.false _
-    (c.total.ensures ∙ dot-told _ _ _ _ (summand_of 3) passed) c.if-answer-lt32.false passed _ c.enter_tens.ensures)
+    (rw env at c.total.ensures ∙ dot-told _ _ _ _ (summand_of 3) passed) c.if-answer-lt32.false passed _ c.enter_tens.ensures)

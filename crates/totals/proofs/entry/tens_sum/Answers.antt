@@ -20,20 +20,20 @@ returns-in-Err c =
     rw (format, c.settings-c.ensures) at
     (sum-refused (format_of c.format_with-f.result) (settings_of c.settings-c.result) a.summand a.values.now a.answer.now
     c.if-values-ne0.false c.if-answer-lt32.false _
-    (c.number.ensures ∙ c.in-Err.ensures {u = tt}) (λ z. number-some c.in-Err.refusal (sym c.number.ensures ∙ z)))
+    (c.number.ensures ∙ c.in-Err.ensures) (λ z. number-some c.in-Err.refusal (sym c.number.ensures ∙ z)))
 
 pub total-requires : goal.total-requires
-total-requires c = (refl, sum-asked _ _ _ _ _ (sym (c.in_default.ensures {u = tt})))
+total-requires c = let (env, passed) = c.in-Ok.ensures in (refl, rw env (sum-asked _ _ _ _ _ passed))
 
 pub enter_tens-requires : goal.enter_tens-requires
 enter_tens-requires c =
-    let passed = sym (c.in_default.ensures {u = tt}) in
-    sum_fits _ _ _ _ _ c.if-values-ne0.false _ (c.total.ensures ∙ sum_told _ _ _ _ _ passed) c.if-answer-lt32.false
+    let (env, passed) = c.in-Ok.ensures in
+    sum_fits _ _ _ _ _ c.if-values-ne0.false _ (rw env at c.total.ensures ∙ sum_told _ _ _ _ _ passed) c.if-answer-lt32.false
 
 pub returns : goal.returns
 returns c =
     let a = c.args in
-    let passed = sym (c.in_default.ensures {u = tt}) in
+    let (env, passed) = c.in-Ok.ensures in
     let format = c.format_with-f.ensures ∙ ap (format_with 4 a.exponent_bits a.width a.named) (read a.bias c.ranges.bias.sfits) in
     rw (format, c.settings-c.ensures) at
-    (sum-written _ _ _ _ _ c.if-values-ne0.false _ (c.total.ensures ∙ sum_told _ _ _ _ _ passed) c.if-answer-lt32.false passed _ c.enter_tens.ensures)
+    (sum-written _ _ _ _ _ c.if-values-ne0.false _ (rw env at c.total.ensures ∙ sum_told _ _ _ _ _ passed) c.if-answer-lt32.false passed _ c.enter_tens.ensures)

@@ -11,7 +11,8 @@ use Rattle.totals_spec.specs.Nan.{default_nan_of}
 use Rattle.totals_spec.specs.Settings.{summand_of}
 use Rattle.totals_spec.specs.Totals.{special}
 use Rattle.totals_spec.specs.Extended.{extended, subnormal_extended, with_spread, tens_in}
-use Rattle.format.specs.Joined.{format_of, settings_of}
+use Rattle.format.specs.Shapes.{shape_of}
+use Rattle.format.specs.Environments.{env_of}
 use Rattle.values.specs.Tens.{all_tens}
 use Rattle.totals.proofs.Tens.{special-asks, special-told, unsupported-told, tens-all}
 use Rattle.totals.proofs.extended.total.Statement.{statement}
@@ -42,7 +43,7 @@ scanned d = d.before.before
 special-requires : tie.Need-special-requires
 special-requires c κs =
     let s = entry (scanned c).before.before in
-    special-asks (format_of c.extended.result) c.extended.ensures (settings_of s.args.c) _ c.default_nan.ensures
+    special-asks (shape_of c.extended.result) c.extended.ensures (env_of s.args.c) _ c.default_nan.ensures
 
 returns : tie.Need-returns-then-some_unsupported
 returns c =
@@ -50,8 +51,8 @@ returns c =
     let t = scanned d in
     let u = t.before in
     let s = entry u.before in
-    let env = settings_of s.args.c in
-    special-told (format_of d.extended.result) d.extended.ensures env _ d.default_nan.ensures _ _ c.special.ensures
+    let env = env_of s.args.c in
+    special-told (shape_of d.extended.result) d.extended.ensures env _ d.default_nan.ensures _ _ c.special.ensures
     ∙ ap (λ (b : Bool). with_spread (special extended b (default_nan_of env) true)) (subnormal t)
     ∙ unsupported-told env (summand_of s.args.u) (left s) (right s) (eqb s.args.u 3) (sym u.some_unsupported.ensures ∙ u.if-some_unsupported.true)
 

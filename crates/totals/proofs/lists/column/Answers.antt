@@ -1,7 +1,8 @@
 -- A column as the source of the walk, which is of no wide format.
 use Rattle.std.proofs.Common.{◌≡◌, ℕ, List, ap, ◌∙◌, false}
 use Rattle.totals_spec.specs.Table.{column_of}
-use Rattle.format.specs.Joined.{format_of, settings_of}
+use Rattle.format.specs.Layouts.{layout_of}
+use Rattle.format.specs.Environments.{env_of}
 use Rattle.values.specs.Sources.{source_of, elements}
 use Rattle.values.proofs.Walks.{narrow, narrow-known, narrow-tens}
 use Rattle.totals.proofs.Answers.{walk-format}
@@ -16,16 +17,16 @@ are count step first cells bytes = column-strided count step first cells
 
 pub listed-requires-clause-known : goal.listed-requires-clause-known
 listed-requires-clause-known c =
-    let f = format_of c.args.f in
-    let b = walk-format false f (settings_of c.args.c) 0 _ c.requires.count_value in
+    let f = layout_of c.args.f in
+    let b = walk-format false f (env_of c.args.c) 0 _ c.requires.count_value in
     (narrow-known f b, narrow-tens f b _ _ _)
 
 pub listed-requires-clause-list_asks : goal.listed-requires-clause-list_asks
-listed-requires-clause-list_asks c = total-asked (format_of c.args.f) (settings_of c.args.c) 0 _ c.requires.count_value _ _
+listed-requires-clause-list_asks c = total-asked (layout_of c.args.f) (env_of c.args.c) 0 _ c.requires.count_value _ _
 
 pub returns : goal.returns
 returns c =
     let a = c.args in
-    let f = format_of a.f in
-    let b = walk-format false f (settings_of a.c) 0 _ c.requires.count_value in
+    let f = layout_of a.f in
+    let b = walk-format false f (env_of a.c) 0 _ c.requires.count_value in
     c.from.ensures ∙ ap (answer_in false) c.report_of.ensures ∙ rw (narrow f b, are a.count a.step a.first a.cells.now _) at c.listed.ensures.0

@@ -1,6 +1,7 @@
 -- By the search for a stray bit.
 use Rattle.std.proofs.Common.{eqb, refl, sym}
-use Rattle.format.specs.Joined.{format_of, settings_of}
+use Rattle.format.specs.Shapes.{shape_of}
+use Rattle.format.specs.Environments.{env_of}
 use Rattle.values.specs.Sources.{source_of}
 use Rattle.values.specs.Walks.{wide, read_as}
 use Rattle.values.proofs.Walks.{read_length}
@@ -10,8 +11,8 @@ use Rattle.totals.proofs.lists.listed.Goals as goal
 pub total-requires-clause-total_asks : goal.total-requires-clause-total_asks
 total-requires-clause-total_asks c =
     let a = c.args in
-    let f = format_of a.f in
-    let s = settings_of a.c in
+    let f = shape_of a.f in
+    let s = env_of a.c in
     let k = source_of a.layout a.start a.step a.count in
     let left = read_as (wide f) k a.left_words.now a.left_bytes.now in
     let right = read_as (wide f) k a.right_words.now a.right_bytes.now in
@@ -23,8 +24,8 @@ total-requires-clause-total_asks c =
 pub returns-in-Some : goal.returns-in-Some
 returns-in-Some c =
     let a = c.args in
-    let f = format_of a.f in
-    let s = settings_of a.c in
+    let f = shape_of a.f in
+    let s = env_of a.c in
     let k = source_of a.layout a.start a.step a.count in
     let left = read_as (wide f) k a.left_words.now a.left_bytes.now in
     let right = read_as (wide f) k a.right_words.now a.right_bytes.now in
@@ -40,8 +41,8 @@ returns-in-Some c =
 pub returns-in-None : goal.returns-in-None
 returns-in-None c =
     let a = c.args in
-    let f = format_of a.f in
-    let s = settings_of a.c in
+    let f = shape_of a.f in
+    let s = env_of a.c in
     let k = source_of a.layout a.start a.step a.count in
     let left = read_as (wide f) k a.left_words.now a.left_bytes.now in
     let right = read_as (wide f) k a.right_words.now a.right_bytes.now in

@@ -1,7 +1,8 @@
 -- The list as the source of the walk, which is of no wide format.
 use Rattle.std.proofs.Common.{◌/◌, length, refl, sym, arith, false}
 use Rattle.totals_spec.proofs.Values.{values_length}
-use Rattle.format.specs.Joined.{format_of, settings_of}
+use Rattle.format.specs.Layouts.{layout_of}
+use Rattle.format.specs.Environments.{env_of}
 use Rattle.values.proofs.Sources.{whole-gives, whole-straight}
 use Rattle.values.proofs.Walks.{narrow, narrow-known, narrow-tens}
 use Rattle.totals.proofs.Answers.{walk-format}
@@ -10,8 +11,8 @@ use Rattle.totals.proofs.lists.sum_walk.Goals as goal
 
 pub listed-requires-clause-known : goal.listed-requires-clause-known
 listed-requires-clause-known c =
-    let f = format_of c.args.f in
-    let b = walk-format false f (settings_of c.args.c) 0 _ c.requires in
+    let f = layout_of c.args.f in
+    let b = walk-format false f (env_of c.args.c) 0 _ c.requires in
     (narrow-known f b, narrow-tens f b _ _ _)
 
 pub listed-requires-clause-within : goal.listed-requires-clause-within
@@ -23,12 +24,12 @@ listed-requires-clause-within c =
     )
 
 pub listed-requires-clause-list_asks : goal.listed-requires-clause-list_asks
-listed-requires-clause-list_asks c = total-asked (format_of c.args.f) (settings_of c.args.c) 0 (length c.args.values.now / 8) c.requires _ _
+listed-requires-clause-list_asks c = total-asked (layout_of c.args.f) (env_of c.args.c) 0 (length c.args.values.now / 8) c.requires _ _
 
 pub returns : goal.returns
 returns c =
     let b = c.args.values.now in
-    let f = format_of c.args.f in
-    let bounds = walk-format false f (settings_of c.args.c) 0 _ c.requires in
+    let f = layout_of c.args.f in
+    let bounds = walk-format false f (env_of c.args.c) 0 _ c.requires in
     let o = rw (narrow f bounds, (whole-gives 1 _ b {count = length b / 8} (sym (values_length b)) (omega arith)).are) at c.listed.ensures in
     record { told = o.0; keeps = o.1 refl refl }

@@ -8,9 +8,10 @@ use borrow.Author.Rules.{rules}
 use Rattle.totals_spec.specs.Format as spec
 use Rattle.totals_spec.specs.Settings.{Settings}
 use Rattle.totals_spec.specs.Terms as terms
-use Rattle.format.specs.Joined.{format_of, settings_of}
+use Rattle.format.specs.Shapes.{shape_of}
+use Rattle.format.specs.Environments.{env_of}
 use Rattle.values.specs.Walks.{wide, read_as, is_dot, is_hundred, added_in}
-use Rattle.values.proofs.Walks.{known-range, read_length}
+use Rattle.values.proofs.Walks.{read_length}
 use Rattle.reduction.specs.Held.{Sums}
 use Rattle.totals.proofs.Totalled.{scanned-orderly, asks-few, digits-most, top-room, early-asks, early-told, exact-asks}
 use Rattle.totals.proofs.Totalled.{pence-narrow, end-asks, end-told}
@@ -21,10 +22,10 @@ use Rattle.totals.proofs.lists.total.Tie as tie
 
 -- at the entry: the call in the definitions' words
 abbrev form : tie.Start → spec.Format
-form s = format_of s.args.f
+form s = shape_of s.args.f
 
 abbrev env : tie.Start → Settings
-env s = settings_of s.args.c
+env s = env_of s.args.c
 
 abbrev u : tie.Start → ℕ
 u s = s.args.k.summand
@@ -84,9 +85,6 @@ returns c =
 -- where there are terms
 abbrev told : tie.In-None → tie.After-decided_by
 told e = e.before
-
-digits-for-requires : tie.Need-digits_for-p-requires
-digits-for-requires c κs = let s = begun (told c) in known-range (form s) (wide (form s)) s.requires.0.0
 
 top-for-requires : tie.Need-top_for-requires
 top-for-requires c κs =
@@ -178,7 +176,7 @@ total_spec =
     (λ c κs. search rules)
     (λ c κs. search rules)
     (λ c. search rules)
-    digits-for-requires
+    (λ c κs. search rules)
     top-for-requires
     exact-requires
     left-requires

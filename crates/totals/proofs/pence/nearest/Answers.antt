@@ -2,7 +2,7 @@
 use Rattle.std.proofs.Common.{◌≡◌, ◌+◌, ◌-◌, ◌≤◌, ap₂, refl, ◌∙◌, arith, false}
 use Rattle.totals_spec.specs.Format.{origin, fall}
 use Rattle.totals_spec.proofs.Nearest.{penny}
-use Rattle.format.specs.Joined.{format_of}
+use Rattle.format.specs.Shapes.{shape_of}
 use Rattle.exact.specs.Joined.{end_of}
 use Rattle.totals.proofs.Counted.{too_large, kept-fits, whole_is}
 use Rattle.totals.proofs.pence.nearest.Goals as goal
@@ -10,25 +10,25 @@ use Rattle.totals.proofs.pence.nearest.Goals as goal
 pub returns-then-end-down : goal.returns-then-end-down
 returns-then-end-down c = λ x st.
     c.from.ensures
-    ∙ too_large (format_of c.args.f) c.args.v c.requires.1
-    (omega (arith, c.if-end-down.true, c.length.ensures.0, c.fall-down.ensures.0, c.origin-one.ensures.0)) x st
+    ∙ too_large (shape_of c.args.f) c.args.v c.requires
+    (omega (arith, c.if-end-down.true, c.length.ensures.0, c.fall-down.ensures.value, c.origin-one.ensures.value)) x st
 
 pub overflow_add-whole : goal.overflow_add-whole
 overflow_add-whole c =
-    let f = format_of c.args.f in
+    let f = shape_of c.args.f in
     let v = c.args.v in
     let fits : end_of v + fall f false ≤ origin f false + 63 =
-    omega (arith, c.if-end-down.false, c.length.ensures.0, c.fall-down.ensures.0, c.origin-one.ensures.0) in
-    let place : c.origin-one.result - c.fall-down.result ≡ penny f = ap₂ ◌-◌ c.origin-one.ensures.0 c.fall-down.ensures.0 in
-    omega (arith, c.flag.ensures.1, kept-fits f v c.requires.1 fits c.cut-whole.result _ place c.cut-whole.ensures)
+    omega (arith, c.if-end-down.false, c.length.ensures.0, c.fall-down.ensures.value, c.origin-one.ensures.value) in
+    let place : c.origin-one.result - c.fall-down.result ≡ penny f = ap₂ ◌-◌ c.origin-one.ensures.value c.fall-down.ensures.value in
+    omega (arith, c.flag.ensures.1, kept-fits f v c.requires fits c.cut-whole.result _ place c.cut-whole.ensures)
 
 pub returns : goal.returns
 returns c = λ x st.
-    let f = format_of c.args.f in
+    let f = shape_of c.args.f in
     let v = c.args.v in
     let fits : end_of v + fall f false ≤ origin f false + 63 =
-    omega (arith, c.if-end-down.false, c.length.ensures.0, c.fall-down.ensures.0, c.origin-one.ensures.0) in
-    let place : c.origin-one.result - c.fall-down.result ≡ penny f = ap₂ ◌-◌ c.origin-one.ensures.0 c.fall-down.ensures.0 in
+    omega (arith, c.if-end-down.false, c.length.ensures.0, c.fall-down.ensures.value, c.origin-one.ensures.value) in
+    let place : c.origin-one.result - c.fall-down.result ≡ penny f = ap₂ ◌-◌ c.origin-one.ensures.value c.fall-down.ensures.value in
     c.in_range.ensures
-    ∙ whole_is f v c.requires.1 fits c.cut-whole.result _ place c.cut-whole.ensures c.rounds_up-up.result c.rounds_up-up.ensures _
+    ∙ whole_is f v c.requires fits c.cut-whole.result _ place c.cut-whole.ensures c.rounds_up-up.result c.rounds_up-up.ensures _
     (ap₂ ◌+◌ refl c.flag.ensures.0) x st

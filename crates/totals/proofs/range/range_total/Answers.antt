@@ -29,13 +29,13 @@ pub toward-lower-requires : goal.toward-lower-requires
 toward-lower-requires c =
     let a = c.args in
     let r = accepts _ _ _ _ (sym (c.in_default.ensures {u = tt})) in
-    (rw (c.settle.ensures.0, length-map (spec.entries a.tags.now a.firsts.now a.seconds.now) spec.low_of) r.few, search rules)
+    rw (c.settle.ensures.0, length-map (spec.entries a.tags.now a.firsts.now a.seconds.now) spec.low_of) r.few
 
 pub toward-upper-requires : goal.toward-upper-requires
 toward-upper-requires c =
     let a = c.args in
     let r = accepts _ _ _ _ (sym (c.in_default.ensures {u = tt})) in
-    (rw (c.settle.ensures.1, length-map (spec.entries a.tags.now a.firsts.now a.seconds.now) (spec.high_of a.ceiling)) r.few, search rules)
+    rw (c.settle.ensures.1, length-map (spec.entries a.tags.now a.firsts.now a.seconds.now) (spec.high_of a.ceiling)) r.few
 
 pub float_from_bits-result : goal.float_from_bits-result
 unfolding spec.lower_total

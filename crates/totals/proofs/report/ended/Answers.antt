@@ -6,4 +6,4 @@ pub whole_pence-requires : goal.whole_pence-requires
 whole_pence-requires c =
     let a = c.args in
     let h = rw (eq-eqb a.u 4 c.if-u-eq-HUNDREDFOLD.true) at c.requires in
-    (h.0, left-countable _ _ h.1)
+    left-countable _ _ h

@@ -5,7 +5,7 @@ use Rattle.totals_spec.specs.Format.{digits}
 use Rattle.totals_spec.specs.Settings.{value}
 use Rattle.totals_spec.specs.Totals.{sum_terms}
 use Rattle.further_spec.specs.Several.{reading_with}
-use Rattle.format.specs.Joined.{format_of}
+use Rattle.format.specs.Layouts.{layout_of}
 use Rattle.totals.proofs.Targets.{too_wide, not_finite, no-term, by_chain}
 use Rattle.totals.proofs.several.print_one.Goals as goal
 use Rattle.totals.proofs.several.print_one.Goals.{then-digits-via-then-digits, then-digits-via-else-digits+then-w}
@@ -28,7 +28,7 @@ returns-then-w-eq0 c = λ d l a n k.
 pub returns : goal.returns
 returns c = λ d l a n k.
     let o = k.ends c.if-w.false c.if-w-eq0.false in
-    let f = format_of c.args.f in
+    let f = layout_of c.args.aim.list in
     c.print.ensures _ (chain (digits f) (sum_terms f (reading_with d) value l)) o.left o.passes
     (to_z-of_z {w = w64} {z = c.args.w.report.last_edge} (search rules) ∙ o.edge)
     ∙ by_chain _ d l _ _ a n (omega (arith, c.digits.ensures, c.digits-2.ensures, c.if-digits.false)) (k.special ∙ c.if-w.false) o.some _ k.subnormal

@@ -4,7 +4,8 @@ use Rattle.std.proofs.Math.Nat.{mul-le-mul_left}
 use Rattle.totals_spec.specs.Totals.{Answer}
 use Rattle.totals_spec.specs.Table.{columns_from, plain_total, filled}
 use Rattle.totals_spec.proofs.Table.{columns-filled}
-use Rattle.format.specs.Joined.{format_of, settings_of}
+use Rattle.format.specs.Layouts.{layout_of}
+use Rattle.format.specs.Environments.{env_of}
 use Rattle.totals.proofs.Columns.{fewer-pass}
 use Rattle.totals.proofs.table.fill_columns.Goals as goal
 
@@ -12,13 +13,13 @@ pub column-a-requires-clause-count_value : goal.column-a-requires-clause-count_v
 column-a-requires-clause-count_value c =
     let a = c.args in
     let some : a.rows * 1 ≤ a.rows * a.columns = mul-le-mul_left a.rows (omega (arith, c.loop-j-test.true)) in
-    fewer-pass (format_of a.f) (settings_of a.c) 0 a.rows _ (omega (arith, some, c.requires.0)) c.requires.2
+    fewer-pass (layout_of a.f) (env_of a.c) 0 a.rows _ (omega (arith, some, c.requires.0)) c.requires.2
 
 pub loop-j-preserved : goal.loop-j-preserved
 loop-j-preserved c =
     let a = c.args in
     let l = c.loop-j in
-    let g = plain_total (format_of a.f) (settings_of a.c) in
+    let g = plain_total (layout_of a.f) (env_of a.c) in
     let old = a.totals.now in
     ap (λ (x : ℕ). set l.totals l.j x) (ap (λ (r : Answer). r.result) c.column-a.ensures)
     ∙ columns-filled g a.columns a.cells.now l.totals old l.j (omega arith) a.rows l.invariant

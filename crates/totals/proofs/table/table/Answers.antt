@@ -27,7 +27,7 @@ pub returns-in-Err : goal.returns-in-Err
 unfolding sum_numbers
 returns-in-Err c =
     let a = c.args in
-    let e = c.in-Err.ensures {u = tt} in
+    let e = c.in-Err.ensures in
     tables _ (table-stopped (format_of a.f) (settings_of a.c) a.cells.now a.rows a.columns a.row_totals.now a.column_totals.now _ e
     (number-some c.in-Err.refusal))
     (rw (sum-place (format_of a.f) (settings_of a.c) 0 (length a.cells.now) c.in-Err.refusal e) at c.from.ensures)
@@ -36,7 +36,7 @@ pub returns-then-misshapen : goal.returns-then-misshapen
 unfolding sum_numbers
 returns-then-misshapen c =
     let a = c.args in
-    let passed = sound (format_of a.f) (settings_of a.c) a.cells.now (sym (c.in_default.ensures {u = tt})) in
+    let passed = sound (format_of a.f) (settings_of a.c) a.cells.now (c.in-Ok.ensures.2) in
     let other : a.rows * a.columns ≢ length a.cells.now = eqb-false _ _ (not-true _ (sym c.misshapen.ensures ∙ c.if-misshapen.true)) in
     tables _ (shape-refused (format_of a.f) (settings_of a.c) a.cells.now a.rows a.columns a.row_totals.now a.column_totals.now passed other)
     c.from-then-misshapen.ensures
@@ -45,7 +45,7 @@ pub returns-then-row_totals-rows : goal.returns-then-row_totals-rows
 unfolding sum_numbers
 returns-then-row_totals-rows c =
     let a = c.args in
-    let passed = sound (format_of a.f) (settings_of a.c) a.cells.now (sym (c.in_default.ensures {u = tt})) in
+    let passed = sound (format_of a.f) (settings_of a.c) a.cells.now (c.in-Ok.ensures.2) in
     let shape = eqb-true (a.rows * a.columns) (length a.cells.now) (not-false _ (sym c.misshapen.ensures ∙ c.if-misshapen.false)) in
     let refused = room-refused (format_of a.f) (settings_of a.c) a.cells.now a.rows a.columns a.row_totals.now a.column_totals.now passed shape in
     let told = c.from-then-row_totals-rows.ensures in
@@ -60,13 +60,14 @@ returns-then-grand-ne0 c =
     let a = c.args in
     let f = format_of a.f in
     let s = settings_of a.c in
-    let passed = sound f s a.cells.now (sym (c.in_default.ensures {u = tt})) in
+    let passed = sound f s a.cells.now (c.in-Ok.ensures.2) in
     let shape = eqb-true (a.rows * a.columns) (length a.cells.now) (not-false _ (sym c.misshapen.ensures ∙ c.if-misshapen.false)) in
     let roomy : Roomy a.rows a.columns a.cells.now a.row_totals.now a.column_totals.now =
     record { shape = shape; for-rows = c.if-row_totals-rows.false; for-columns = c.if-column_totals-columns.false } in
-    let number = ap (λ (t : totals.Answer). t.refusal) c.words-grand.ensures ∙ sum-refusal f s 0 a.cells.now in
+    let grand = rw (c.in-Ok.ensures.0, c.in-Ok.ensures.1) at c.words-grand.ensures in
+    let number = ap (λ (t : totals.Answer). t.refusal) grand ∙ sum-refusal f s 0 a.cells.now in
     tables _ (table-strayed f s a.cells.now a.rows a.columns a.row_totals.now a.column_totals.now passed roomy (λ q. c.if-grand-ne0.true (number ∙ q)))
-    c.words-grand.ensures
+    grand
 
 pub returns : goal.returns
 unfolding sum_numbers
@@ -74,14 +75,15 @@ returns c =
     let a = c.args in
     let f = format_of a.f in
     let s = settings_of a.c in
-    let passed = sound f s a.cells.now (sym (c.in_default.ensures {u = tt})) in
+    let passed = sound f s a.cells.now (c.in-Ok.ensures.2) in
     let shape = eqb-true (a.rows * a.columns) (length a.cells.now) (not-false _ (sym c.misshapen.ensures ∙ c.if-misshapen.false)) in
     let roomy : Roomy a.rows a.columns a.cells.now a.row_totals.now a.column_totals.now =
     record { shape = shape; for-rows = c.if-row_totals-rows.false; for-columns = c.if-column_totals-columns.false } in
-    let number = ap (λ (t : totals.Answer). t.refusal) c.words-grand.ensures ∙ sum-refusal f s 0 a.cells.now in
+    let grand = rw (c.in-Ok.ensures.0, c.in-Ok.ensures.1) at c.words-grand.ensures in
+    let number = ap (λ (t : totals.Answer). t.refusal) grand ∙ sum-refusal f s 0 a.cells.now in
     let all = table-summed f s a.cells.now a.rows a.columns a.row_totals.now a.column_totals.now passed roomy (sym number ∙ c.if-grand-ne0.false) in
     record {
-      grand-is = c.words-grand.ensures ∙ sym (ap (λ (x : Tabled). x.grand) all);
-      rows_are = c.fill_rows.ensures ∙ sym (ap (λ (x : Tabled). x.row_totals) all);
-      columns-are = c.fill_columns.ensures ∙ sym (ap (λ (x : Tabled). x.column_totals) all);
+      grand-is = grand ∙ sym (ap (λ (x : Tabled). x.grand) all);
+      rows_are = rw (c.in-Ok.ensures.0, c.in-Ok.ensures.1) at c.fill_rows.ensures ∙ sym (ap (λ (x : Tabled). x.row_totals) all);
+      columns-are = rw (c.in-Ok.ensures.0, c.in-Ok.ensures.1) at c.fill_columns.ensures ∙ sym (ap (λ (x : Tabled). x.column_totals) all);
     }

@@ -1,0 +1,17 @@
+-- By the format, and then by the settings for its digits.
+use Rattle.std.proofs.Common.{refl}
+use Rattle.std.proofs.lemmas.Result.{err_from_is_err_and}
+use Rattle.totals.proofs.refusal.ranged.Goals as goal
+
+pub returns-in_err-env : goal.returns-in_err-env
+returns-in_err-env c =
+    let p = err_from_is_err_and c.from_residual.result c.from_residual.ensures.1 in
+    let l = c.in-Some.ensures in
+    let (is, bad) = c.in_err-env.ensures in
+    rw (p.1, p.2, is, l.valid, rw l.is at bad) refl
+
+pub returns : goal.returns
+returns c =
+    let l = c.in-Some.ensures in
+    let e = c.in_ok-env.ensures in
+    (l.is, e.is, rw (l.valid, rw l.is at e.valid) refl)
