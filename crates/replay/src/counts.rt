@@ -4,7 +4,7 @@ ghost use Rattle.std.specs.Prelude.{◌≤◌};
 
 use format::Format;
 use format::env::Settings;
-use totals::refusal::{Refusal, dot_refusal, sum_refusal};
+use totals::refusal::{Asked, Refusal, dot_refusal, sum_refusal};
 
 // binary64, or of a kind that there is not
 fn double(kind: u64) -> Format {
@@ -25,9 +25,9 @@ fn plain(rounding: u64) -> Settings {
 }
 
 // The number of a refusal, 0 where there is none.
-fn number_of(refusal: Result<(), Refusal>) -> u64 {
+fn number_of(refusal: Result<Asked, Refusal>) -> u64 {
     match refusal {
-        Ok(()) => 0,
+        Ok(_) => 0,
         Err(refusal) => refusal.number(),
     }
 }

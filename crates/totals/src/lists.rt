@@ -181,19 +181,8 @@ pub fn bytes(f: Layout, c: Env, u: u64, left: &[u8], right: &[u8]) -> Answer
     ensures { answer_of result ≡ answer_to (eqb u 3) (layout_of f) (env_of c) u (values_in left.now) (values_in right.now) }
 {
     let none = [0u64; 1];
-    Answer::from(report_of(listed(
-        f.shape,
-        c,
-        u,
-        1,
-        0,
-        1,
-        left.len() / 8,
-        &none,
-        left,
-        &none,
-        right,
-    )))
+    let n = left.len() / 8;
+    Answer::from(report_of(listed(f.shape, c, u, 1, 0, 1, n, &none, left, &none, right)))
 }
 
 // A total of values of ten bytes, none of which is unsupported.
