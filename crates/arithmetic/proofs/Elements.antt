@@ -35,7 +35,7 @@ use Rattle.arithmetic.specs.Joined.{magnitude, StandsFor, Bounded, item_of, plai
 -- ---- an operand: its exponent is below 2^28, its significand above 0
 
 module _ (f : spec.Format) (h : RangeBounds f) where
-  bounded : (x : dec.Unpacked) → Decoded f x → Bounded x
+  pub bounded : (x : dec.Unpacked) → Decoded f x → Bounded x
   bounded (dec.zero_of s) d = tt
   bounded (dec.finite s k m) d = let p : 2 ^ f.E ≤ 2 ^ 28 = pow_mono h.e-le in (omega (arith, p), d.0)
   bounded (dec.infinity s) d = tt

@@ -1,2 +1,3 @@
 pub mod Elements
 pub mod Pairs
+pub mod Given

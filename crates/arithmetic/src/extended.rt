@@ -1,8 +1,9 @@
 // The terms of values of ten bytes (kind 4).
-ghost use Rattle.std.specs.Prelude.{◌<◌};
+ghost use Rattle.std.specs.Prelude.{◌≡◌, ◌≢◌, ◌<◌};
 ghost use Rattle.totals_spec.specs.Extended as spec;
 ghost use Rattle.format.specs.Environments.{env_of};
 ghost use Rattle.arithmetic.specs.Summands.{summand_in};
+ghost use Rattle.arithmetic.specs.declared.summand.Summand.TheVariants.{Square};
 ghost use Rattle.values.specs.Tens.{ten_of};
 ghost use Rattle.arithmetic.specs.Joined.{StandsFor};
 
@@ -16,7 +17,8 @@ use values::Ten;
 #[tactic(auto, unfolding(totals_spec::specs::Extended::extended_item), using(crate::proofs::Elements::operands))]
 pub fn ten_term(c: Env, u: Summand, b: Ten) -> Term
     requires { b.head < 65536 }
-    ensures { StandsFor result (spec.extended_item (env_of c) (summand_in u) (ten_of b)) }
+    ensures stands_for { StandsFor result (spec.extended_item (env_of c) (summand_in u) (ten_of b)) }
+    ensures high_value { u ≢ Square → result.high ≡ 0 }
 {
     operand_term(u, operand(c, b).value)
 }

@@ -1,6 +1,7 @@
 // Terms, what an element or a pair adds: a sign, a significand of two words and a shift in units.
 #![tactic(auto)]
 
+pub mod element;
 pub mod extended;
 pub mod summand;
 

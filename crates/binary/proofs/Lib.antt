@@ -3,3 +3,4 @@ mod Cases
 pub mod Encodable
 pub mod Plain
 pub mod Tens
+pub mod Held

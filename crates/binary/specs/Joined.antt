@@ -2,7 +2,7 @@
 use Rattle.std.specs.Prelude.{Option, Some, None, ℕ, ◌-◌, ◌%◌, ◌^◌, Bool, false, cond, not, ◌&&◌, ◌==◌, nat_lt}
 use Rattle.totals_spec.specs.Format as spec
 use Rattle.totals_spec.specs.Settings as env
-use Rattle.totals_spec.specs.Decode.{Unpacked, zero_of, infinity, nan, top_field, ones, field_of, fraction_of}
+use Rattle.totals_spec.specs.Decode.{Unpacked, zero_of, infinity, nan, is_nan, top_field, ones, field_of, fraction_of}
 use Rattle.totals_spec.specs.Nan as nans
 use Rattle.binary.specs.declared.nan.Nan.{Nan}
 
@@ -29,6 +29,10 @@ is_blank f b = field_of f b == 0 && fraction_of f b == 0
 abbrev pub nan_of : Option Nan → Unpacked
 nan_of (Some n) = nan n.negative n.signaling n.payload
 nan_of None = zero_of false
+
+-- the choice among operands as the code holds it: where it is no NaN there is none yet
+abbrev pub if_nan : Unpacked → Unpacked
+if_nan v = cond (is_nan v) v (zero_of false)
 
 -- the choice at the end, made quiet, as in `by_rule`
 abbrev pub selected_by : env.Propagation → env.Settings → Unpacked → Unpacked

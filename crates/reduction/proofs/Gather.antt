@@ -97,14 +97,6 @@ adds w t terms.invalid_item h = adds_none w t terms.invalid_item refl h.0
 adds w t (terms.infinite s) h = adds_none w t (terms.infinite s) refl h.0
 adds w t (terms.zero_item s) h = adds_none w t (terms.zero_item s) refl h.0
 
--- nothing above 0 stands for what is no term
-pub none-stands-for : (t : Term) (i : terms.Item) → magnitude t ≡ 0 → StandsFor t i → terms.term_of i ≡ none
-none-stands-for t (terms.term s) e h = absurd (omega (arith, h.0, h.3, e))
-none-stands-for t terms.nan_item e h = refl
-none-stands-for t terms.invalid_item e h = refl
-none-stands-for t (terms.infinite s) e h = refl
-none-stands-for t (terms.zero_item s) e h = refl
-
 -- ---- the gathering of a list of items, and of one more
 
 held_more : (ts : List terms.Term) (w v lost v' lost' : ℕ) (t : Term) (i : terms.Item) → StandsFor t i → Held ts w v lost
@@ -148,20 +140,6 @@ passed ts w v lost q h e =
           ∙ residue-cancel half half_pos a b (value middle);
       lost = e.1 ∙ h.lost-is;
     }
-
--- ---- an element, or a pair, that is plainly normal
-
-pub plain-stands : (f : spec.Format) (c : env.Settings) (u : env.Summand) (x : ℕ) (t : Term) → is_plain f x ≡ true
-    → StandsFor t (terms.item_of u (plain_number f x)) → StandsFor t (terms.item f c u x)
-plain-stands f c u x t e s = subst (λ (i : terms.Item). StandsFor t i) (plain-item f c u x (plainly f x e)) s
-
-pub hundred-stands : (f : spec.Format) (c : env.Settings) (x : ℕ) (t : Term) → is_plain f x ≡ true
-    → StandsFor t (hundred_of (plain_number f x)) → StandsFor t (hundred_item f c x)
-hundred-stands f c x t e s = subst (λ (i : terms.Item). StandsFor t i) (plain-hundred f c x (plainly f x e)) s
-
-pub pair-stands : (f : spec.Format) (c : env.Settings) (x y : ℕ) (t : Term) → both_plain f x y ≡ true
-    → StandsFor t (terms.term (plain_product f x y)) → StandsFor t (terms.pair_item f c (x, y))
-pair-stands f c x y t e s = subst (λ (i : terms.Item). StandsFor t i) (plain-pair f c x y (both-plainly f x y e)) s
 
 -- ---- a pass over a list of n items: after i of them
 

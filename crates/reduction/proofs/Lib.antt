@@ -3,4 +3,3 @@ pub mod Loop
 pub mod Records
 pub mod Reduce
 pub mod Items
-pub mod Tens

@@ -30,15 +30,8 @@ use Rattle.window.specs.declared.Chain.{Chain}
 use Rattle.window.specs.declared.Outcome.{Outcome}
 use Rattle.window.specs.Joined.{Passed, Ready, Steps, started}
 use Rattle.window.proofs.Walked.{Walked, Lower, walked_start, walked-ready, walked_next, walked-done}
-use Rattle.reduction.specs.Held.{Sums}
+use Rattle.reduction.specs.Held.{Base, Sums}
 use Rattle.totals_spec.proofs.Tops.{top_most, top_product, sum_top, dot-top}
-
-pub record Base (p : ℕ) (ts : List Term) : Type 0 where
-  pub digits_le : p ≤ 64
-  pub good : AllGood ts
-  pub few : length ts ≤ terms-max
-  pub small : top_of ts < 2147483648
-  pub some : 0 < length ts
 
 some_of : (ts : List Term) → 0 < top_of ts → 0 < length ts
 unfolding top_of
@@ -61,38 +54,14 @@ module _ {p : ℕ} (d : p ≤ 64) (f : Format) (b : RangeBounds f) where
   base-of : (ts : List Term) → AllGood ts → length ts ≤ limit → top_of ts ≤ top_product f + 7 → 0 < top_of ts → Base p ts
   base-of ts g n t h = record { digits_le = d; good = g; few = limit-le _ n; small = top_small f b t; some = some_of ts h }
 
-  pub sum-base : (c : Settings) (u : Summand) (l : List ℕ) → length l ≤ limit → 0 < top_of (sum_terms f c u l) → Base p (sum_terms f c u l)
-  sum-base c u l n h =
-      base-of (sum_terms f c u l) (good-terms f c u l) (le_trans (picked-length term_of (map (item f c u) l)) (rw (length-map l (item f c u)) n))
-      (le-add (sum_top f c u l)) h
+  -- of items that can be added up, where there is a term
+  pub summable-base : (l : List Item) → Summable f l → 0 < top_of (terms l) → Base p (terms l)
+  summable-base l s h = base-of (terms l) s.good (le_trans (picked-length term_of l) s.few) (le-add s.top) h
 
-  pub dot-base : (c : Settings) (x y : List ℕ) → length y ≡ length x → length x ≤ limit → 0 < top_of (dot_terms f c x y) → Base p (dot_terms f c x y)
-  dot-base c x y e n h =
-      base-of (dot_terms f c x y) (good-pairs f c (pairs x y))
-      (le_trans (picked-length term_of (map (pair_item f c) (pairs x y))) (rw (length-map (pairs x y) (pair_item f c), pairs-length x y (sym e)) n))
-      (le-add (dot-top f c x y)) h
-
+  -- and of values a hundred times each
   pub hundred-base : (c : Settings) (l : List ℕ) → length l ≤ limit → 0 < top_of (hundred_terms f c l) → Base p (hundred_terms f c l)
   hundred-base c l n h =
       base-of (hundred_terms f c l) (good-hundred f c l) (le_trans (few-hundred f c l) n) (le_trans (top-most f c l) (most-product f)) h
-
--- kind 4
-module _ (c : Settings) (u : Summand) (x y : List ℕ) (alike : length y ≡ length x) where
-  pub tens-length : (b : Bool) → length (tens_items b c u x y) ≡ length x
-  tens-length true = length-map (pairs x y) (extended_pair c) ∙ pairs-length x y (sym alike)
-  tens-length false = length-map x (extended_item c u)
-
-  pub tens-base : {p : ℕ} → p ≤ 64 → length x ≤ limit → (b : Bool) → 0 < top_of (terms (tens_items b c u x y)) → Base p (terms (tens_items b c u x y))
-  tens-base d n b h =
-      base-of d extended extended-bounds _ (good b) (le_trans (picked-length term_of (tens_items b c u x y)) (rw (tens-length b) n)) (le-add (top b)) h
-    where
-      good : (b : Bool) → AllGood (terms (tens_items b c u x y))
-      good true = extended-good-pairs c (pairs x y)
-      good false = extended-good c u x
-
-      top : (b : Bool) → top_of (terms (tens_items b c u x y)) ≤ top_product extended
-      top true = extended-dot-top c (pairs x y)
-      top false = extended-top c u x
 
 -- ---- the loop: its start, a turn, its end
 

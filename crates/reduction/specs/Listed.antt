@@ -1,10 +1,9 @@
--- What a list gives at an index: the term of its item there, or none where that item is none.
-use Rattle.std.specs.Prelude.{◌≡◌, Option, None, Some}
-use Rattle.std.proofs.Math.Option.{none}
-use Rattle.totals_spec.specs.Terms as terms
-use Rattle.arithmetic.specs.declared.Term.{Term}
-use Rattle.arithmetic.specs.Joined.{StandsFor}
+-- Which terms have one word.
+use Rattle.std.specs.Prelude.{Bool, true, false}
+use Rattle.arithmetic.specs.declared.summand.Summand.{Summand}
+use Rattle.arithmetic.specs.declared.summand.Summand.TheVariants.{Value, Magnitude, Square}
 
-abbrev pub Gives : Option Term → terms.Item → Type 0
-Gives (Some t) i = StandsFor t i
-Gives None i = terms.term_of i ≡ none
+abbrev pub is_single : Summand → Bool
+is_single Value = true
+is_single Magnitude = true
+is_single Square = false

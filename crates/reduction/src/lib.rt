@@ -1,7 +1,6 @@
 // The total of a list that is accepted: a scan, and then passes at lower and lower edges until one of them decides.
 #![tactic(auto)]
 
-pub mod extended;
 pub mod pass;
 pub mod terms;
 pub mod total;

@@ -1,118 +1,126 @@
 // The lists of terms that a pass adds up.
-ghost use Rattle.std.specs.Prelude.{◌≡◌, List, ◌<◌, length, get_or, map};
-ghost use Rattle.totals_spec.specs.Settings.{square};
-ghost use Rattle.totals_spec.specs.Terms.{Item, item, pair_item, nan_item};
+ghost use Rattle.std.specs.Prelude.{◌≡◌, Bool, true, false, List, ◌<◌, length, get_or, map, IfSome};
+ghost use Rattle.totals_spec.specs.Settings.{no_settings};
+ghost use Rattle.totals_spec.specs.Terms.{Item, nan_item};
 ghost use Rattle.totals_spec.specs.Totals.{pairs};
 ghost use Rattle.totals_spec.specs.Hundredfold.{hundred_item};
 ghost use Rattle.format.specs.Layouts.{layout_of};
 ghost use Rattle.format.specs.Environments.{env_of};
-ghost use Rattle.values.specs.Sources.{Within, Straight, elements};
-ghost use Rattle.reduction.specs.Listed.{Gives};
+ghost use Rattle.arithmetic.specs.Summands.{summand_in};
+ghost use Rattle.arithmetic.specs.Gives.{Gives};
+ghost use Rattle.scan.specs.Encodings.{item_in, pair_in};
+ghost use Rattle.reduction.specs.Listed.{is_single};
 
-use crate::pass::{element_term, hundred_term, pair_term};
 use arithmetic::Term;
+use arithmetic::element::hundred_term;
 use arithmetic::summand::Summand;
 use format::environment::Env;
 use format::layout::Layout;
-use values::{Source, element};
+use scan::numbers::Numbers;
+use values::elements::Elements;
 
 // Terms that stand for the items of a list, one after another. A pass has a copy of its own for each such list, with these methods inlined.
 pub trait Terms {
     ghost items: { Self → List Item };
 
-    // That the elements are there.
-    ghost valid: { Self → Type 0 };
+    ghost single: { Self → Bool };
 
     fn count(&self) -> usize
-        requires { valid self.now }
         ensures { result ≡ length (items self.now) };
+
+    // Whether each term has one word.
+    fn is_single(&self) -> bool
+        ensures { result ≡ single self.now };
 
     // The term of the item i. A zero may be told at once, and has none.
     fn term(&self, i: usize) -> Option<Term>
-        requires { valid self.now × (i < length (items self.now)) }
-        ensures { Gives result (get_or (items self.now) i nan_item) };
+        requires { i < length (items self.now) }
+        ensures gives { Gives result (get_or (items self.now) i nan_item) }
+        ensures high_value { IfSome result (λ t. single self.now ≡ true → t.high ≡ 0) };
 }
 
-// The squares of the elements of a list, which stand side by side.
+// The values, the magnitudes or the squares of some numbers.
 #[derive(Clone, Copy)]
-pub struct Squares<'a> {
-    pub layout: Layout,
+pub struct Summed<'a, N> {
+    pub numbers: &'a N,
     pub env: Env,
-    pub source: Source,
-    pub words: &'a [u64],
-    pub bytes: &'a [u8],
+    pub summand: Summand,
 }
 
-impl Terms for Squares<'_> {
-    ghost items = { λ s. map (item (layout_of s.layout) (env_of s.env) square) (elements s.source s.words.now s.bytes.now) };
+impl<N: Numbers> Terms for Summed<'_, N> {
+    ghost items = { λ s. map (item_in (N.encoding s.numbers.now) (env_of s.env) (summand_in s.summand)) (N.codes s.numbers.now) };
 
-    ghost valid = { λ s. Within s.source s.words.now s.bytes.now × Straight s.source };
+    ghost single = { λ s. is_single s.summand };
 
     #[inline(always)]
     fn count(&self) -> usize {
-        self.source.count
+        self.numbers.count()
+    }
+
+    #[inline(always)]
+    fn is_single(&self) -> bool {
+        self.summand != Summand::Square
     }
 
     #[inline(always)]
     fn term(&self, i: usize) -> Option<Term> {
-        let b = element(self.source, self.words, self.bytes, i);
-        element_term(self.layout, self.env, Summand::Square, b)
+        self.numbers.term(self.env, self.summand, i)
+    }
+}
+
+// The products of the pairs of two lists of one length.
+pub struct Paired<'a, N: Numbers> {
+    pub left: &'a N,
+    pub right: &'a N,
+    pub env: Env,
+    pub ghost alike: { length (N.codes right.now) ≡ length (N.codes left.now) },
+}
+
+impl<N: Numbers> Terms for Paired<'_, N> {
+    ghost items = { λ s. map (pair_in (N.encoding s.left.now) (env_of s.env)) (pairs (N.codes s.left.now) (N.codes s.right.now)) };
+
+    ghost single = { λ s. false };
+
+    #[inline(always)]
+    fn count(&self) -> usize {
+        self.left.count()
+    }
+
+    #[inline(always)]
+    fn is_single(&self) -> bool {
+        false
+    }
+
+    #[inline(always)]
+    fn term(&self, i: usize) -> Option<Term> {
+        self.left.pair_term(self.right, self.env, i)
     }
 }
 
 // A hundred times each value of a list, for pence.
 #[derive(Clone, Copy)]
-pub struct Hundreds<'a> {
+pub struct Hundreds<'a, E> {
     pub layout: Layout,
-    pub env: Env,
-    pub source: Source,
-    pub words: &'a [u64],
-    pub bytes: &'a [u8],
+    pub elements: &'a E,
 }
 
-impl Terms for Hundreds<'_> {
-    ghost items = { λ s. map (hundred_item (layout_of s.layout) (env_of s.env)) (elements s.source s.words.now s.bytes.now) };
+impl<E: Elements> Terms for Hundreds<'_, E> {
+    ghost items = { λ s. map (hundred_item (layout_of s.layout) no_settings) (E.list s.elements.now) };
 
-    ghost valid = { λ s. Within s.source s.words.now s.bytes.now × Straight s.source };
+    ghost single = { λ s. false };
 
     #[inline(always)]
     fn count(&self) -> usize {
-        self.source.count
+        self.elements.count()
+    }
+
+    #[inline(always)]
+    fn is_single(&self) -> bool {
+        false
     }
 
     #[inline(always)]
     fn term(&self, i: usize) -> Option<Term> {
-        let b = element(self.source, self.words, self.bytes, i);
-        hundred_term(self.layout, self.env, b)
-    }
-}
-
-// The products of the pairs of two lists, which stand alike.
-#[derive(Clone, Copy)]
-pub struct Pairs<'a> {
-    pub layout: Layout,
-    pub env: Env,
-    pub source: Source,
-    pub left_words: &'a [u64],
-    pub left_bytes: &'a [u8],
-    pub right_words: &'a [u64],
-    pub right_bytes: &'a [u8],
-}
-
-impl Terms for Pairs<'_> {
-    ghost items = { λ s. map (pair_item (layout_of s.layout) (env_of s.env)) (pairs (elements s.source s.left_words.now s.left_bytes.now) (elements s.source s.right_words.now s.right_bytes.now)) };
-
-    ghost valid = { λ s. Within s.source s.left_words.now s.left_bytes.now × Within s.source s.right_words.now s.right_bytes.now × Straight s.source };
-
-    #[inline(always)]
-    fn count(&self) -> usize {
-        self.source.count
-    }
-
-    #[inline(always)]
-    fn term(&self, i: usize) -> Option<Term> {
-        let x = element(self.source, self.left_words, self.left_bytes, i);
-        let y = element(self.source, self.right_words, self.right_bytes, i);
-        pair_term(self.layout, self.env, x, y)
+        hundred_term(self.layout, Env::default(), self.elements.at(i))
     }
 }

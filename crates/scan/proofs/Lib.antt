@@ -1,6 +1,6 @@
 pub mod Choice
 pub mod Step
 pub mod Lists
-pub mod Tens
+pub mod Instances
 pub mod Special
 mod Leaves

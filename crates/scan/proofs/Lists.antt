@@ -1,5 +1,4 @@
--- The scan of a list, and of the pairs of a dot, with one element more: what `take` and `take_pair` give, and a turn of a walk. Nothing here is about
--- words: the list may lie anywhere.
+-- The scan of a list, and of the pairs of a dot, with one element more: what `take` and `take_pair` give, and a turn of a walk, in any encoding.
 use mathlib.Core.Path.{◌≡◌, refl, sym, ap, ap₂, ◌∙◌}
 use mathlib.Core.Bool.{Bool, ◌||◌, or-false, or_assoc}
 use mathlib.Core.List.{List, [], ◌∷◌, ◌++◌, map, map-append}
@@ -13,17 +12,18 @@ use Rattle.totals_spec.specs.Decode as dec
 use Rattle.totals_spec.specs.Nan as nans
 use Rattle.totals_spec.specs.Terms as terms
 use Rattle.totals_spec.specs.Totals as totals
-use Rattle.totals_spec.specs.Bounds.{FormatBounds}
-use Rattle.totals_spec.proofs.Good.{AllGood, good-terms, good-pairs}
+use Rattle.totals_spec.specs.Extended.{both_of}
+use Rattle.totals_spec.proofs.Good.{AllGood, good-items, good-item_of, good-pair_of}
 use Rattle.totals_spec.proofs.Tops.{top-high}
-use Rattle.totals_spec.proofs.Order.{item-nan, pair-nan}
-use Rattle.binary.specs.Joined.{nan_of}
-use Rattle.arithmetic.specs.Joined.{item_of, plain_field, plain_fields, field_top, fields_top}
-use Rattle.arithmetic.proofs.Elements.{field-none, field-max, fields-max, plain-field}
-use Rattle.arithmetic.proofs.Pairs.{pairs-at, plain-fields}
+use Rattle.totals_spec.proofs.Order.{item_of-nan, pair_of-nan}
+use Rattle.binary.specs.Joined.{nan_of, if_nan}
+use Rattle.arithmetic.specs.Joined.{Bounded, item_of}
+use Rattle.arithmetic.proofs.Elements.{bounded}
+use Rattle.arithmetic.proofs.Pairs.{pairs-at}
 use Rattle.scan.specs.declared.Scan.{Scan}
-use Rattle.scan.specs.Joined.{top_of_item, with_item, with_top, seen, if_nan, Reads, Takes, TakesPair}
-use Rattle.scan.proofs.Choice.{if-left, if-right, if-signaling, none-signaling, decoded-encodes, operand-held}
+use Rattle.scan.specs.Joined.{top_of_item, with_item, with_top, seen, Reads, Takes, TakesPair}
+use Rattle.scan.specs.Encodings.{Encoding, signaling_in, item_in, pair_in, FieldIn, FieldsIn}
+use Rattle.scan.proofs.Choice.{if-nan, if-left, if-right, if-signaling, none-signaling}
 use Rattle.scan.proofs.Step.{Reading, Plainly, Over, over-taken}
 
 -- ---- what was read
@@ -89,79 +89,89 @@ placed (terms.term t) g e = absurd (none t.top (top-high t g.0) e)
     none : (n : ℕ) → 1024 ≤ n → n ≡ 0 → ⊥
     none n h e = omega arith
 
--- ---- the elements of a list
+-- ---- the codes of a list, and the pairs of two, in any encoding
 
-module _ (f : spec.Format) (c : env.Settings) (u : env.Summand) where
-  abbrev pub list : Reading f ℕ
-  list = record {
-    subnormal = dec.is_subnormal f;
-    signaling = λ b. dec.is_signaling (dec.decode f b);
-    operands = λ b. dec.decode f b ∷ [];
-    item = terms.item f c u;
-    position = field_top f u;
-    position-none = field-none f u;
-    position-max = field-max f u;
-    all = map (dec.decode f);
-    all_more = λ l b. map-append (dec.decode f) l (b ∷ []);
-    adds = λ b. record {
-      nan = item-nan f c u b ∙ sym (or-false (dec.is_nan (dec.decode f b)));
-      encode = (decoded-encodes f b, tt);
-      placed = placed (terms.item f c u b) (good-terms f c u (b ∷ []));
-    };
-  }
+module _ (e : Encoding) (c : env.Settings) where
+  pub nan-is : (b : ℕ) → dec.is_nan (e.operand c b) ≡ dec.is_nan (e.decode b)
+  nan-is b = sym (if-nan (e.operand c b)) ∙ ap dec.is_nan (e.held c b) ∙ if-nan (e.decode b)
 
-  -- what `take` gives
-  pub list-taken : (b : ℕ) (s t r : Scan) → Reads c.nan_propagation (dec.is_subnormal f b) (dec.operand f c b) s t
-      → r ≡ with_item (item_of (terms.item f c u b)) t → Takes f c u b s r
-  list-taken b s t r h e = one-taken f c list b s r (dec.operand f c b) (dec.decode f b) t refl refl (operand-held f c b) h e
+  -- what was read can be taken
+  pub can-take : (b : ℕ) (v : dec.Unpacked) → v ≡ e.operand c b → Bounded v
+  can-take b v p = rw p (bounded e.format e.range (e.operand c b) (e.decoded c b))
 
-  -- what `plain_field` says
-  pub list-plainly : (b n : ℕ) → FormatBounds f → n ≡ plain_field f b → 0 < n → Plainly f c list b n
-  list-plainly b n h e z =
-      let a = plain-field f b n h e z u c in
-      record { subnormal = a.0; signaling = none-signaling (dec.decode f b) a.1; nan = or-false (dec.is_nan (dec.decode f b)) ∙ a.1; item = a.2 }
+  module _ (u : env.Summand) where
+    abbrev pub list : Reading e.format ℕ
+    list = record {
+      subnormal = e.subnormal;
+      signaling = signaling_in e;
+      operands = λ b. e.decode b ∷ [];
+      item = item_in e c u;
+      position = e.top u;
+      position-none = e.top-none u;
+      position-max = e.top-max u;
+      all = map e.decode;
+      all_more = λ l b. map-append e.decode l (b ∷ []);
+      adds = λ b. record {
+        nan = item_of-nan u (e.operand c b) ∙ nan-is b ∙ sym (or-false (dec.is_nan (e.decode b)));
+        encode = (e.encodes b, tt);
+        placed = placed (item_in e c u b) (good-items (item_in e c u) (λ x. good-item_of e.format u (e.operand c x) (e.decoded c x)) (b ∷ []));
+      };
+    }
 
--- ---- the pairs of a dot
+    -- what `take` gives
+    pub list-taken : (b : ℕ) (sub : Bool) (v : dec.Unpacked) (s r : Scan) → (v ≡ e.operand c b) × (sub ≡ e.subnormal b) → Takes c u sub v s r
+        → (l : List ℕ) (apart : ℕ) → Over e.format c list l (with_top apart s) → Over e.format c list (l ++ (b ∷ [])) (with_top apart r)
+    list-taken b sub v s r (p, q) h =
+        one-taken e.format c list b s r (e.operand c b) (e.decode b) h.between refl refl (e.held c b) (rw (p, q) at h.read) (rw p at h.noted)
 
-pub operands-more : (f : spec.Format) (l : List (ℕ × ℕ)) (x : ℕ × ℕ)
-    → totals.operands f (l ++ (x ∷ [])) ≡ totals.operands f l ++ (dec.decode f x.0 ∷ dec.decode f x.1 ∷ [])
-operands-more f [] x = refl
-operands-more f (y ∷ l) x = ap (λ r. dec.decode f y.0 ∷ dec.decode f y.1 ∷ r) (operands-more f l x)
+    -- what `plain_field` says
+    pub list-plainly : (b n : ℕ) → FieldIn e b n → 0 < n → Plainly e.format c list b n
+    list-plainly b n h z =
+        let a = h.plain z u c in
+        record { subnormal = a.0; signaling = none-signaling (e.decode b) a.1; nan = or-false (dec.is_nan (e.decode b)) ∙ a.1; item = a.2 }
 
-module _ (f : spec.Format) (c : env.Settings) where
-  abbrev pub dot : Reading f (ℕ × ℕ)
+  pub both-more : (l : List (ℕ × ℕ)) (x : ℕ × ℕ) → map e.decode (both_of (l ++ (x ∷ []))) ≡ map e.decode (both_of l) ++ (e.decode x.0 ∷ e.decode x.1 ∷ [])
+  both-more [] x = refl
+  both-more (y ∷ l) x = ap (λ r. e.decode y.0 ∷ e.decode y.1 ∷ r) (both-more l x)
+
+  abbrev pub dot : Reading e.format (ℕ × ℕ)
   dot = record {
-    subnormal = λ x. dec.is_subnormal f x.0 || dec.is_subnormal f x.1;
-    signaling = λ x. dec.is_signaling (dec.decode f x.0) || dec.is_signaling (dec.decode f x.1);
-    operands = λ x. dec.decode f x.0 ∷ dec.decode f x.1 ∷ [];
-    item = terms.pair_item f c;
-    position = fields_top f;
-    position-none = refl;
-    position-max = fields-max f;
-    all = totals.operands f;
-    all_more = operands-more f;
+    subnormal = λ x. e.subnormal x.0 || e.subnormal x.1;
+    signaling = λ x. signaling_in e x.0 || signaling_in e x.1;
+    operands = λ x. e.decode x.0 ∷ e.decode x.1 ∷ [];
+    item = pair_in e c;
+    position = e.pair_top;
+    position-none = e.pair-top-none;
+    position-max = e.pair-top-max;
+    all = λ l. map e.decode (both_of l);
+    all_more = both-more;
     adds = λ x. record {
-      nan = pair-nan f c x ∙ ap (λ b. dec.is_nan (dec.decode f x.0) || b) (sym (or-false (dec.is_nan (dec.decode f x.1))));
-      encode = (decoded-encodes f x.0, (decoded-encodes f x.1, tt));
-      placed = placed (terms.pair_item f c x) (good-pairs f c (x ∷ []));
+      nan =
+          pair_of-nan (e.operand c x.0) (e.operand c x.1)
+          ∙ ap₂ ◌||◌ (nan-is x.0) (nan-is x.1 ∙ sym (or-false (dec.is_nan (e.decode x.1))));
+      encode = (e.encodes x.0, (e.encodes x.1, tt));
+      placed =
+          placed (pair_in e c x)
+          (good-items (pair_in e c) (λ y. good-pair_of e.format (e.operand c y.0) (e.operand c y.1) (e.decoded c y.0) (e.decoded c y.1)) (x ∷ []));
     };
   }
 
   -- what `take_pair` gives
-  pub pair-taken : (x y : ℕ) (s t q r : Scan) → Reads c.nan_propagation (dec.is_subnormal f x) (dec.operand f c x) s t
-      → Reads c.nan_propagation (dec.is_subnormal f y) (dec.operand f c y) t q → r ≡ with_item (item_of (terms.pair_item f c (x, y))) q → TakesPair f c (x, y) s r
-  pair-taken x y s t q r h k e =
-      two-taken f c dot (x, y) s r (dec.is_subnormal f x) (dec.is_subnormal f y) (dec.operand f c x) (dec.decode f x) (dec.operand f c y) (dec.decode f y)
-      t q refl refl refl (operand-held f c x) (operand-held f c y) h k e
+  pub pair-taken : (x y : ℕ) (sub sub₁ : Bool) (v w : dec.Unpacked) (s r : Scan) → (v ≡ e.operand c x) × (sub ≡ e.subnormal x)
+      → (w ≡ e.operand c y) × (sub₁ ≡ e.subnormal y) → TakesPair c sub sub₁ v w s r
+      → (l : List (ℕ × ℕ)) (apart : ℕ) → Over e.format c dot l (with_top apart s) → Over e.format c dot (l ++ ((x, y) ∷ [])) (with_top apart r)
+  pair-taken x y sub sub₁ v w s r (p, q) (m, n) h =
+      two-taken e.format c dot (x, y) s r (e.subnormal x) (e.subnormal y) (e.operand c x) (e.decode x) (e.operand c y) (e.decode y)
+      h.between h.next refl refl refl (e.held c x) (e.held c y) (rw (p, q) at h.left) (rw (m, n) at h.right) (rw (p, m) at h.noted)
 
   -- what `plain_fields` says
-  pub pair-plainly : (x y n : ℕ) → FormatBounds f → n ≡ plain_fields f x y → 0 < n → Plainly f c dot (x, y) n
-  pair-plainly x y n h e z =
-      let a = plain-fields f x y n h e z c in
+  pub pair-plainly : (x y n : ℕ) → FieldsIn e x y n → 0 < n → Plainly e.format c dot (x, y) n
+  pair-plainly x y n h z =
+      let a = h.plain z c in
       record {
         subnormal = ap₂ ◌||◌ a.0 a.1;
-        signaling = ap₂ ◌||◌ (none-signaling (dec.decode f x) a.2) (none-signaling (dec.decode f y) a.3);
-        nan = ap₂ ◌||◌ a.2 (or-false (dec.is_nan (dec.decode f y)) ∙ a.3);
+        signaling = ap₂ ◌||◌ (none-signaling (e.decode x) a.2) (none-signaling (e.decode y) a.3);
+        nan = ap₂ ◌||◌ a.2 (or-false (dec.is_nan (e.decode y)) ∙ a.3);
         item = a.4;
       }
 

@@ -16,14 +16,14 @@ use Rattle.totals_spec.specs.Decode as dec
 use Rattle.totals_spec.specs.Nan as nans
 use Rattle.totals_spec.specs.Terms as terms
 use Rattle.totals_spec.proofs.Walk.{any_append, greatest-append, picked-append}
-use Rattle.binary.specs.Joined.{nan_of}
+use Rattle.binary.specs.Joined.{nan_of, if_nan}
 use Rattle.format.specs.Fits.{Encodes}
 use Rattle.binary.specs.declared.nan.Nan.{Nan}
 use Rattle.arithmetic.specs.declared.Item.{Item}
 use Rattle.arithmetic.specs.declared.Item.TheVariants as item
 use Rattle.arithmetic.specs.Joined.{item_of}
 use Rattle.scan.specs.declared.Scan.{Scan}
-use Rattle.scan.specs.Joined.{top_of_item, is_invalid_item, is_infinite_of, is_zero_of, with_item, with_top, seen, if_nan, Gathered}
+use Rattle.scan.specs.Joined.{top_of_item, is_invalid_item, is_infinite_of, is_zero_of, with_item, with_top, seen, Gathered}
 use Rattle.scan.proofs.Choice.{AllEncode, if-nan, held-some, held-if, chosen-append, chosen-held, chosen_nan, chosen_none, chosen-encodes}
 
 -- ---- what one item says, in the code and in totals_spec

@@ -1,5 +1,5 @@
 -- The code's scan as what totals_spec gathers of a list.
-use Rattle.std.specs.Prelude.{Option, Some, None, is_some, ◌≡◌, Bool, true, false, not, cond, ◌&&◌, ◌||◌, List, [], ◌∷◌, ◌++◌, map, ℕ, max, ◌<◌, eqb}
+use Rattle.std.specs.Prelude.{Option, Some, None, is_some, ◌≡◌, Bool, true, false, not, ◌&&◌, ◌||◌, List, [], map, ℕ, max, ◌<◌, eqb}
 use Rattle.std.specs.Bool.{beq}
 use Rattle.totals_spec.specs.Basics.{any}
 use Rattle.totals_spec.specs.Format as spec
@@ -10,11 +10,12 @@ use Rattle.totals_spec.specs.Terms as terms
 use Rattle.totals_spec.specs.Totals as totals
 use Rattle.totals_spec.specs.Alone.{AllGive, Alone}
 use Rattle.format.specs.Joined.{unpacked_of}
-use Rattle.binary.specs.Joined.{nan_of}
+use Rattle.binary.specs.Joined.{nan_of, if_nan}
 use Rattle.format.specs.Fits.{Encodes}
 use Rattle.binary.specs.declared.nan.Nan.{Nan}
 use Rattle.arithmetic.specs.declared.Item.{Item}
 use Rattle.arithmetic.specs.declared.Item.TheVariants as item
+use Rattle.arithmetic.specs.Joined.{item_of}
 use Rattle.scan.specs.declared.Scan.{Scan}
 use Rattle.scan.specs.declared.Given.{Given}
 
@@ -92,10 +93,6 @@ seen sub sig n s = record {
   nan = n;
 }
 
--- the choice among operands as a scan holds it: where it is no NaN there is none yet
-abbrev pub if_nan : dec.Unpacked → dec.Unpacked
-if_nan v = cond (dec.is_nan v) v (dec.zero_of false)
-
 -- r is s with the operand v
 pub record Reads (rule : ℕ) (sub : Bool) (v : dec.Unpacked) (s r : Scan) : Type 0 where
   pub rest : r ≡ seen sub (dec.is_signaling v) r.nan s
@@ -136,14 +133,21 @@ ScannedPairs f c l s =
 
 -- the scan of nothing
 abbrev pub Fresh : Scan → Type 0
-Fresh s = ((f : spec.Format) (c : env.Settings) (u : env.Summand) → Scanned f c u [] s) × ((f : spec.Format) (c : env.Settings) → ScannedPairs f c [] s)
+Fresh s = (f : spec.Format) (c : env.Settings) → Gathered f c false false [] [] s
 
--- r is s with one element more, whatever s is the scan of, and whatever position is kept apart from it
-abbrev pub Takes : spec.Format → env.Settings → env.Summand → ℕ → Scan → Scan → Type 0
-Takes f c u b s r = (l : List ℕ) (apart : ℕ) → Scanned f c u l (with_top apart s) → Scanned f c u (l ++ (b ∷ [])) (with_top apart r)
+-- r is s with one element more, of which the operand v was read
+pub record Takes (c : env.Settings) (u : env.Summand) (sub : Bool) (v : dec.Unpacked) (s r : Scan) : Type 0 where
+  pub between : Scan
+  pub read : Reads c.nan_propagation sub v s between
+  pub noted : r ≡ with_item (item_of (terms.item_of u v)) between
 
-abbrev pub TakesPair : spec.Format → env.Settings → ℕ × ℕ → Scan → Scan → Type 0
-TakesPair f c x s r = (l : List (ℕ × ℕ)) (apart : ℕ) → ScannedPairs f c l (with_top apart s) → ScannedPairs f c (l ++ (x ∷ [])) (with_top apart r)
+-- and with one pair more, of which v and then w
+pub record TakesPair (c : env.Settings) (sub sub₁ : Bool) (v w : dec.Unpacked) (s r : Scan) : Type 0 where
+  pub between : Scan
+  pub next : Scan
+  pub left : Reads c.nan_propagation sub v s between
+  pub right : Reads c.nan_propagation sub₁ w between next
+  pub noted : r ≡ with_item (item_of (terms.pair_of v w)) next
 
 -- ---- what a scan decides, whatever it is the scan of
 

@@ -1,12 +1,12 @@
 -- The scan of values of ten bytes, over the elements of one list or the pairs of two.
-use Rattle.std.specs.Prelude.{Bool, true, false, ◌||◌, List, [], ◌∷◌, ◌++◌, map, ℕ}
+use Rattle.std.specs.Prelude.{Bool, ◌||◌, List, map, ℕ}
 use Rattle.totals_spec.specs.Basics.{any}
 use Rattle.totals_spec.specs.Settings.{Settings, Summand}
 use Rattle.totals_spec.specs.Decode.{is_signaling}
 use Rattle.totals_spec.specs.Extended.{extended, decode_extended, subnormal_extended, extended_item, extended_pair, both_of}
 use Rattle.values.specs.Tens.{all_tens, tens_items}
 use Rattle.scan.specs.declared.Scan.{Scan}
-use Rattle.scan.specs.Joined.{with_top, Gathered}
+use Rattle.scan.specs.Joined.{Gathered}
 
 abbrev pub signaling_extended : ℕ → Bool
 signaling_extended b = is_signaling (decode_extended b)
@@ -26,14 +26,3 @@ abbrev pub GatheredTens : Bool → Settings → Summand → List ℕ → List �
 GatheredTens b c u x y s =
     let l = all_tens b x y in
     Gathered extended c (any subnormal_extended l) (any signaling_extended l) (map decode_extended l) (tens_items b c u x y) s
-
--- r is s with one value more, whatever s is the scan of, and whatever position is kept apart from it
-abbrev pub TakesTen : Settings → Summand → ℕ → Scan → Scan → Type 0
-TakesTen c u b s r = (l : List ℕ) (apart : ℕ) → ScannedTens c u l (with_top apart s) → ScannedTens c u (l ++ (b ∷ [])) (with_top apart r)
-
-abbrev pub TakesTenPair : Settings → ℕ × ℕ → Scan → Scan → Type 0
-TakesTenPair c x s r = (l : List (ℕ × ℕ)) (apart : ℕ) → ScannedTenPairs c l (with_top apart s) → ScannedTenPairs c (l ++ (x ∷ [])) (with_top apart r)
-
-abbrev pub TakesTens : Bool → Settings → Summand → ℕ → ℕ → Scan → Scan → Type 0
-TakesTens true c u x y s r = TakesTenPair c (x, y) s r
-TakesTens false c u x y s r = TakesTen c u x s r

@@ -2,23 +2,23 @@
 #![tactic(auto)]
 
 pub mod extended;
+pub mod numbers;
 pub mod walk;
 
 ghost use Rattle.std.specs.Prelude.{◌≡◌, true, false, ◌||◌};
 ghost use Rattle.totals_spec.specs.Settings as env;
-ghost use Rattle.format.specs.Layouts.{layout_of};
 ghost use Rattle.format.specs.Modes.{propagation_number};
 ghost use Rattle.format.specs.Environments.{env_of};
 ghost use Rattle.format.specs.Joined.{unpacked_of};
+ghost use Rattle.arithmetic.specs.Joined.{Bounded};
 ghost use Rattle.arithmetic.specs.Summands.{summand_in};
 ghost use Rattle.scan.specs.Joined.{with_top, with_item, Offered, Reads, Fresh, Takes, TakesPair, nan_decides, Decides, terms_in, leaves_terms};
 
 use arithmetic::summand::Summand;
 use arithmetic::{Item, item_of, pair_of};
+use binary::Read;
 use binary::nan::{Nan, default_nan, select, selected};
-use binary::{Read, operand};
 use format::environment::Env;
-use format::layout::Layout;
 use format::modes::NanPropagation;
 use format::unpacked::Unpacked;
 
@@ -145,23 +145,20 @@ impl Scan {
         }
     }
 
-    // One more element of a list.
-    #[tactic(auto, using(arithmetic::proofs::Elements::operands))]
-    pub fn take(&mut self, f: Layout, c: Env, u: Summand, b: u64)
-        ensures { Takes (layout_of f) (env_of c) (summand_in u) b self.old self.new }
+    // One more element of a list, of which the operand was read.
+    pub fn take(&mut self, c: Env, u: Summand, o: Read)
+        requires { Bounded (unpacked_of o.value) }
+        ensures { Takes (env_of c) (summand_in u) o.subnormal (unpacked_of o.value) self.old self.new }
     {
-        let o = operand(f, c, b);
         self.read(c.nan_propagation, o);
         self.item(item_of(u, o.value));
     }
 
-    // One more pair of a dot.
-    #[tactic(auto, using(arithmetic::proofs::Elements::operands))]
-    pub fn take_pair(&mut self, f: Layout, c: Env, x: u64, y: u64)
-        ensures { TakesPair (layout_of f) (env_of c) (x, y) self.old self.new }
+    // One more pair of a dot, of which both were read.
+    pub fn take_pair(&mut self, c: Env, a: Read, b: Read)
+        requires { Bounded (unpacked_of a.value) × Bounded (unpacked_of b.value) }
+        ensures { TakesPair (env_of c) a.subnormal b.subnormal (unpacked_of a.value) (unpacked_of b.value) self.old self.new }
     {
-        let a = operand(f, c, x);
-        let b = operand(f, c, y);
         self.read(c.nan_propagation, a);
         self.read(c.nan_propagation, b);
         self.item(pair_of(a.value, b.value));

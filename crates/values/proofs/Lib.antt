@@ -1,3 +1,4 @@
 pub mod Chunks
+pub mod Columns
 pub mod Sources
 pub mod Walks

@@ -3,7 +3,7 @@ use mathlib.Core.Path.{◌≡◌, refl, sym, ap, ◌∙◌}
 use mathlib.Core.Bool.{Bool, true, false}
 use mathlib.Core.List.{List}
 use Prim.Native.Nat.{ℕ, zero, suc, ◌+◌, ◌*◌, ◌-◌, ◌^◌, ◌<◌, ◌≤◌}
-use native.Mathlib.Nat.{le_of_suc-le-suc, not-suc-le-zero, add-zero, zero-mul, mul-one, zero-add, mul_comm}
+use native.Mathlib.Nat.{le_of_lt, le_of_suc-le-suc, not-suc-le-zero, add-zero, zero-mul, mul-one, zero-add, mul_comm}
 use native.Mathlib.Nat.{mul-le-mul_right, le_of_mul-le-mul_right, lt_of_mul-lt-mul_right}
 use native.Mathlib.Numerals.{add-one-le}
 use native.Mathlib.Omega.{arith}
@@ -44,6 +44,9 @@ module _ (s : Source) (words bytes : List ℕ) (i at : ℕ) (h : i < s.count) (e
   pub element-is : get_or (values s words bytes) at 0 ≡ get_or (elements s words bytes) i 0
   unfolding elements
   element-is = rw e (sym (strided-at s.start s.step s.count (values s words bytes) i h))
+
+  pub place_fits : Within s words bytes → at < 2 ^ 64
+  place_fits w = omega (arith, e, w.room, mul-le-mul_right s.step (le_of_lt h))
 
   -- and the next one a step on
   pub next_place : at + s.step ≡ s.start + (i + 1) * s.step

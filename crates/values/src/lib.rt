@@ -1,6 +1,8 @@
 // Values in bytes, eight to a value, or ten, the least byte first.
 #![tactic(auto)]
 
+pub mod elements;
+
 ghost use Rattle.std.specs.Prelude.{◌≡◌, ◌+◌, ◌/◌, ◌<◌, ◌≤◌, length, get_or};
 ghost use Rattle.totals_spec.specs.Bytes.{values_in};
 ghost use Rattle.totals_spec.specs.Extended.{tens_in};

@@ -1,6 +1,6 @@
-use Rattle.std.proofs.Common.{sym}
-use Rattle.reduction.proofs.Items.{element-items}
+use Rattle.std.proofs.Common.{sym, ◌∙◌}
+use lib.ListN.{length-map}
 use Rattle.reduction.proofs.terms.HundredsTerms.count.Goals as goal
 
 pub returns : goal.returns
-returns c = let s = c.args.self.now in sym (element-items s.source s.words.now s.bytes.now _)
+returns g c = c.count.ensures ∙ sym (length-map _ _)

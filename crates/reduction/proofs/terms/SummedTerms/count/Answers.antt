@@ -1,0 +1,6 @@
+use Rattle.std.proofs.Common.{sym, ◌∙◌}
+use lib.ListN.{length-map}
+use Rattle.reduction.proofs.terms.SummedTerms.count.Goals as goal
+
+pub returns : goal.returns
+returns g c = c.count.ensures ∙ sym (length-map _ _)
