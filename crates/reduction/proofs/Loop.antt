@@ -12,7 +12,7 @@ use Rattle.std.specs.declared.ops.ControlFlow.TheVariants.{Continue, Break}
 use Rattle.totals_spec.specs.Format.{Format}
 use Rattle.totals_spec.specs.Settings.{Settings, Summand}
 use Rattle.totals_spec.specs.Bounds.{RangeBounds}
-use Rattle.totals_spec.specs.Terms.{Term, item, pair_item, term_of, terms, top_of}
+use Rattle.totals_spec.specs.Terms.{Item, Term, term_of, terms, top_of}
 use Rattle.totals_spec.specs.Totals.{limit, sum_terms, pairs, dot_terms}
 use Rattle.totals_spec.specs.Hundredfold.{hundred_terms}
 use Rattle.totals_spec.specs.Extended.{extended, extended_item, extended_pair}
@@ -30,7 +30,7 @@ use Rattle.window.specs.declared.Chain.{Chain}
 use Rattle.window.specs.declared.Outcome.{Outcome}
 use Rattle.window.specs.Joined.{Passed, Ready, Steps, started}
 use Rattle.window.proofs.Walked.{Walked, Lower, walked_start, walked-ready, walked_next, walked-done}
-use Rattle.reduction.specs.Held.{Base, Sums}
+use Rattle.reduction.specs.Held.{Base, Summable, Sums}
 use Rattle.totals_spec.proofs.Tops.{top_most, top_product, sum_top, dot-top}
 
 some_of : (ts : List Term) → 0 < top_of ts → 0 < length ts

@@ -1,18 +1,19 @@
 -- Laws of the record: a signed position, its parts one by one, and a sum rounded once.
-use mathlib.Core.Path.{◌≡◌, refl, sym, ap, ◌∙◌}
+use mathlib.Core.Path.{◌≡◌, refl, sym, ap, ap₂, ◌∙◌, subst}
 use mathlib.Core.Bool.{Bool, true, false, not, cond}
-use Prim.Native.Nat.{ℕ, zero, suc, ◌-◌, ◌^◌, ◌≤◌, ◌<◌}
+use Prim.Native.Nat.{ℕ, zero, suc, ◌+◌, ◌-◌, ◌^◌, ◌≤◌, ◌<◌}
 use native.Mathlib.Nat.{add-zero}
 use native.Mathlib.Omega.{arith}
 use lib.Dec.{T, ltb, ltb→lt, nltb→le}
-use lib.IntN.{pos, negsuc, sub_ℕ, ◌-ℤ◌}
+use lib.IntN.{ℤ, pos, negsuc, sub_ℕ, ◌-ℤ◌}
 use lib.Signed.{mag}
 use mir.Syntax.{w64}
-use mir.Val.{to_z}
+use mir.Val.{SFits, to_z, of_z}
+use mir.ValLaws.{to_z-of_z}
 use borrow.Author.Tests.{lt-ltb, le-ltb}
 use Rattle.totals_spec.specs.Basics.{Signed, raised}
 use Rattle.totals_spec.specs.Bounds.{RangeBounds, SettingsBounds}
-use Rattle.totals_spec.specs.Format.{Format, kind_of}
+use Rattle.totals_spec.specs.Format.{Format, kind_of, origin, fall}
 use Rattle.totals_spec.specs.Settings.{Settings}
 use Rattle.totals_spec.specs.Decode.{decode}
 use Rattle.totals_spec.specs.Encode.{encode}
@@ -28,7 +29,7 @@ use Rattle.format.specs.declared.unpacked.Unpacked.TheVariants.{Zero, Finite, In
 use Rattle.format.specs.Joined.{unpacked_of}
 use Rattle.format.specs.Fits.{Encodes}
 use Rattle.exact.specs.declared.Rounded.{Rounded}
-use Rattle.reduction.specs.Answered.{RoundedSum}
+use Rattle.reduction.specs.Answered.{RoundedSum, last_edge_of}
 
 -- ---- without a pass the value tells the side
 
@@ -65,6 +66,13 @@ position-fits a b h k = go (ltb a b) (nltb→le a b) (ltb→lt a b)
     go : (t : Bool) → (T (not t) → b ≤ a) → (T t → a < b) → mag (cond t (negsuc (b - suc a)) (pos (a - b))) < 2 ^ 63
     go true f g = let e : b - suc a < 9223372036854775808 = omega (arith, k) in e
     go false f g = let e : a - b < 9223372036854775808 = omega (arith, h) in e
+
+-- the last edge of a chain, as a record has it
+pub edge-is : (f : Format) (products : Bool) (e : ℕ) {fallen one : ℕ} (z : ℤ) → fallen ≡ fall f products → one ≡ origin f products → e + fallen < 2 ^ 63
+    → one < 2 ^ 63 → z ≡ sub_ℕ (e + fallen) one → to_z w64 (of_z w64 z) ≡ last_edge_of f products e
+edge-is f products e {fallen} {one} z p q low far is =
+    let fits : SFits w64 z = record { sfits = subst (λ (y : ℤ). mag y < 2 ^ 63) (sym is) (position-fits (e + fallen) one low far) } in
+    to_z-of_z w64 z fits ∙ is ∙ ap₂ (λ (m n : ℕ). sub_ℕ (e + m) n) p q
 
 -- a rounding by what the functions of the formats say of its grid and unit
 pub moved : {f : Format} {c : Settings} (x : Signed) {r : Rounded} {g h m n : ℕ} → g ≡ h → m ≡ n → RoundedSum f c g (raised m x) r → RoundedSum f c h (raised n x) r

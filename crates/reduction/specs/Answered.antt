@@ -15,7 +15,8 @@ use Rattle.format.specs.Fits.{Encodes}
 use Rattle.exact.specs.declared.Rounded.{Rounded}
 use Rattle.exact.specs.declared.Unrounded.{Unrounded}
 use Rattle.exact.specs.Joined.{rounded_of}
-use Rattle.window.specs.Joined.{LeftOf}
+use Rattle.window.specs.declared.ExactSum.{ExactSum}
+use Rattle.window.specs.Joined.{Ended, LeftOf}
 use Rattle.reduction.specs.declared.total.Answer.{Answer}
 use Rattle.reduction.specs.declared.total.Wide.{Wide}
 
@@ -78,10 +79,9 @@ pub record RoundedSum (f : spec.Format) (c : env.Settings) (g : ℕ) (x : Signed
   pub encodes : Encodes f (unpacked_of r.value)
   pub flags : r.flags < 128
 
--- what is left of the sum of a list in the format f, and a target t that it can be rounded into, under the target's settings
-pub record Into (f t : spec.Format) (c : env.Settings) (v : Unrounded) : Type 0 where
-  pub sum : Signed
-  pub left : LeftOf (spec.digits f) sum v
+-- the end of the chain of a list in the format f, and a target t that its sum can be rounded into, under the target's settings
+pub record Into (f t : spec.Format) (c : env.Settings) (e : ExactSum) : Type 0 where
+  pub ended : Ended (spec.digits f) e
   pub settings : SettingsBounds t c
   pub digits_le : spec.digits t ≤ spec.digits f
 
@@ -100,27 +100,3 @@ record_of sub result r passes edge = record {
 -- of a chain over a list in the format f, as a record has it
 abbrev pub last_edge_of : spec.Format → (products : Bool) → ℕ → ℤ
 last_edge_of f products edge = sub_ℕ (edge + spec.fall f products) (spec.origin f products)
-
--- ---- a walk that is accepted, of the summand's number u: over the pairs of a dot, or over the elements of one list
-
-abbrev pub products_in : ℕ → Bool
-products_in u = leb 2 u
-
-abbrev pub first_in : ℕ → Bool
-first_in u = not (eqb u 3) && not (eqb u 0)
-
--- those of kind 4, by lengths alone
-abbrev pub tens_refusal : (dot : Bool) → env.Settings → ℕ → List ℕ → List ℕ → ℕ
-tens_refusal true c u x y = extended_dot_refusal kind4 c x y
-tens_refusal false c u x y = extended_sum_refusal kind4 c u x
-
-abbrev pub Accepted : (wide dot : Bool) → spec.Format → env.Settings → ℕ → List ℕ → List ℕ → Type 0
-Accepted true b f c u x y = (f ≡ extended) × (any unsupported (all_tens b x y) ≡ false) × (tens_refusal b c u x y ≡ 0)
-Accepted false true f c u x y = totals.dot_refusal f c x y ≡ 0
-Accepted false false f c u x y = totals.sum_refusal f c u x ≡ 0
-
-abbrev pub answer_in : (wide dot : Bool) → spec.Format → env.Settings → env.Summand → List ℕ → List ℕ → totals.Answer
-answer_in true true f c u x y = extended_dot c (totals.pairs x y)
-answer_in true false f c u x y = extended_sum c u x
-answer_in false true f c u x y = totals.dot_accepted f c (totals.pairs x y)
-answer_in false false f c u x y = totals.sum_accepted f c u x

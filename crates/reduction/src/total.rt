@@ -2,7 +2,6 @@
 ghost use Rattle.std.specs.Prelude.{◌≡◌, false, ℕ, ◌^◌, ◌<◌, ◌≤◌};
 ghost use Rattle.std.proofs.Math.IntN.{sub_ℕ};
 ghost use Rattle.totals_spec.specs.Basics.{Signed, raised};
-ghost use Rattle.totals_spec.specs.Chain.{Run};
 ghost use Rattle.totals_spec.specs.Format as spec;
 ghost use Rattle.totals_spec.specs.Decode as dec;
 ghost use Rattle.totals_spec.specs.Encode as enc;
@@ -20,7 +19,7 @@ ghost use Rattle.format.specs.Joined.{unpacked_of};
 ghost use Rattle.format.specs.Fits.{Encodes};
 ghost use Rattle.values.specs.Walks.{wide, Known};
 ghost use Rattle.window.specs.Joined.{outcome_of, run_of, Ended, LeftOf};
-ghost use Rattle.reduction.specs.Answered.{words_as, written_as, answer_of, answer_as, given_as, CanRound, RoundedSum, Into, record_of, last_edge_of};
+ghost use Rattle.reduction.specs.Answered.{words_as, written_as, answer_of, answer_as, given_as, CanRound, RoundedSum, Into, record_of};
 
 use binary::encode;
 use binary::extended::encode as encode_ten;
@@ -195,11 +194,12 @@ fn recorded(subnormal: bool, res: u64, r: Rounded, passes: u64, last_edge: i64) 
     }
 }
 
-// The record of a chain of passes, which leaves v.
-pub fn finish(f: Shape, c: Env, products: bool, subnormal: bool, e: ExactSum, v: Unrounded) -> Wide
-    requires { Known (wide (shape_of f)) (shape_of f) × SettingsBounds (shape_of f) (env_of c) × Ended (spec.digits (shape_of f)) e × LeftOf (spec.digits (shape_of f)) (settled.settled (outcome_of e)) v }
+// The record of a chain of passes.
+pub fn finish(f: Shape, c: Env, products: bool, subnormal: bool, e: ExactSum) -> Wide
+    requires { Known (wide (shape_of f)) (shape_of f) × SettingsBounds (shape_of f) (env_of c) × Ended (spec.digits (shape_of f)) e }
     ensures { answer_as (wide (shape_of f)) result ≡ given_as (wide (shape_of f)) (totals.reported (shape_of f) subnormal products (totals.on_grid (shape_of f) products (settled.settled (outcome_of e))) (totals.sum_rounded (shape_of f) (env_of c) (spec.grid (shape_of f) products) (totals.towards_negative (env_of c)) (totals.on_grid (shape_of f) products (settled.settled (outcome_of e)))) (run_of e)) }
 {
+    let v = left(f.digits(), e);
     let r = round_sum(f, c, f.grid(products), f.rise(products), v);
     let x = r.value;
     let b = encoded(f, x);
@@ -211,24 +211,18 @@ pub fn finish(f: Shape, c: Env, products: bool, subnormal: bool, e: ExactSum, v:
     }
 }
 
-// The record of a target: the sum of a list in the format f, of which v is left, rounded once into the format t. Counted from a unit depth(t) + fall(f)
-// positions lower, the target's least number has a position, wherever its grid lies. Passes and last edge are the list's.
-pub fn print(
-    f: Shape,
-    t: Layout,
-    c: Env,
-    subnormal: bool,
-    passes: u64,
-    last_edge: i64,
-    v: Unrounded,
-) -> Answer
-    requires { Into (shape_of f) (layout_of t) (env_of c) v }
-    ensures { (x : Signed) (h : Run) → LeftOf (spec.digits (shape_of f)) x v → passes ≡ h.passes → last_edge ≡ last_edge_of (shape_of f) false h.edge → answer_of result ≡ several.printed (shape_of f) (layout_of t) subnormal x (several.rounded_into (shape_of f) (layout_of t) (env_of c) x) h }
+// The record of a target: the sum of a list in the format f, rounded once into the format t. Counted from a unit depth(t) + fall(f) positions lower, the
+// target's least number has a position, wherever its grid lies. Passes and last edge are the list's.
+pub fn print(f: Shape, t: Layout, c: Env, subnormal: bool, e: ExactSum) -> Answer
+    requires { Into (shape_of f) (layout_of t) (env_of c) e }
+    ensures { answer_of result ≡ several.printed (shape_of f) (layout_of t) subnormal (settled.settled (outcome_of e)) (several.rounded_into (shape_of f) (layout_of t) (env_of c) (settled.settled (outcome_of e))) (run_of e) }
 {
+    let v = left(f.digits(), e);
     let g = f.origin(false) + t.shape.lift();
     let r = round_sum(t.shape, c, g, t.shape.depth() + f.fall(false), v);
     let x = r.value;
-    recorded(subnormal, encode(t, x), r, passes, last_edge)
+    let last_edge = position_of(e.edge + f.fall(false), f.origin(false));
+    recorded(subnormal, encode(t, x), r, e.passes, last_edge)
 }
 
 // The record of a target where the list has no term: a zero, by the signs of the listed zeros.

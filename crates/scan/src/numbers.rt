@@ -1,6 +1,7 @@
 // Numbers in some encoding, one after another.
 ghost use Rattle.std.specs.Prelude.{◌≡◌, ◌≢◌, List, ℕ, ◌<◌, length, get_or, IfSome};
 ghost use Rattle.totals_spec.specs.Extended.{tens_in};
+ghost use Rattle.format.specs.Shapes.{shape_of};
 ghost use Rattle.format.specs.Environments.{env_of};
 ghost use Rattle.arithmetic.specs.Summands.{summand_in};
 ghost use Rattle.arithmetic.specs.declared.summand.Summand.TheVariants.{Square};
@@ -11,10 +12,11 @@ use arithmetic::element::{element_term, pair_term};
 use arithmetic::extended::{ten_pair, ten_term};
 use arithmetic::summand::Summand;
 use arithmetic::{Term, plain_field, plain_fields, plain_pair_top, plain_top};
-use binary::extended::operand as ten_operand;
+use binary::extended::{extended, operand as ten_operand};
 use binary::{Read, operand};
 use format::environment::Env;
 use format::layout::Layout;
+use format::shape::Shape;
 use values::elements::Elements;
 use values::ten_at;
 
@@ -24,6 +26,10 @@ pub trait Numbers {
     ghost encoding: { Self → Encoding };
 
     ghost codes: { Self → List ℕ };
+
+    // The format of the numbers.
+    fn shape(&self) -> Shape
+        ensures { shape_of result ≡ (encoding self.now).format };
 
     fn count(&self) -> usize
         ensures { result ≡ length (codes self.now) };
@@ -78,6 +84,11 @@ impl<E: Elements> Numbers for Encoded<E> {
     ghost codes = { λ s. E.list s.elements };
 
     #[inline(always)]
+    fn shape(&self) -> Shape {
+        self.layout.shape
+    }
+
+    #[inline(always)]
     fn count(&self) -> usize {
         self.elements.count()
     }
@@ -128,6 +139,11 @@ impl Numbers for Tens<'_> {
     ghost encoding = { λ s. of_tens };
 
     ghost codes = { λ s. tens_in s.values.now };
+
+    #[inline(always)]
+    fn shape(&self) -> Shape {
+        extended()
+    }
 
     #[inline(always)]
     fn count(&self) -> usize {

@@ -38,12 +38,9 @@ refusal_number (Err e) = number_of e
 abbrev pub first_numbers : Bool → Format → Settings → ℕ
 first_numbers offered f c = refuse_if (not offered) 3 (refuse_if (not (valid_settings f c)) 4 0)
 
--- and then totals of lists of n elements, by one more setting that they are asked with, and dots of n and m
-abbrev pub list_numbers : Bool → ℕ → ℕ
-list_numbers in_range n = refuse_if (not in_range) 4 (refuse_if (ltb limit n) 6 0)
-
-abbrev pub pair_numbers : ℕ → ℕ → ℕ
-pair_numbers n m = refuse_if (not (eqb n m)) 5 (refuse_if (ltb limit n) 6 0)
+-- and last, of n elements or pairs
+abbrev pub few_number : ℕ → ℕ
+few_number n = refuse_if (ltb limit n) 6 0
 
 -- n is the length of the list; a dot has n on the left and m on the right
 unfoldable pub sum_numbers : Format → Settings → ℕ → ℕ → ℕ

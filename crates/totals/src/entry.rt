@@ -142,7 +142,7 @@ fn tens_sum(
         precision,
     );
     match extended::sum_refusal(f, c, summand, values) {
-        Ok(env) => enter_tens(extended::total(env, summand, values, values), answer),
+        Ok((env, summand)) => enter_tens(extended::sum(env, summand, values), answer),
         Err(refusal) => return refusal.number(),
     }
     0
@@ -188,7 +188,7 @@ fn tens_dot(
         precision,
     );
     match extended::dot_refusal(f, c, left, right) {
-        Ok(env) => enter_tens(extended::total(env, 3, left, right), answer),
+        Ok(env) => enter_tens(extended::dot(env, left, right), answer),
         Err(refusal) => return refusal.number(),
     }
     0

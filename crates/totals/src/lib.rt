@@ -8,7 +8,6 @@ pub mod pages;
 pub mod pence;
 pub mod range;
 pub mod refusal;
-mod report;
 pub mod several;
 mod stray;
 pub mod table;
@@ -18,47 +17,53 @@ ghost use Rattle.totals_spec.specs.Totals as spec;
 ghost use Rattle.totals_spec.specs.Bytes.{values_in};
 ghost use Rattle.format.specs.Joined.{format_of, settings_of};
 ghost use Rattle.reduction.specs.Answered.{answer_of};
+ghost use Rattle.totals.specs.Asked.{answer_in};
 
-use crate::refusal::{dot_refusal, sum_refusal};
+use crate::refusal::{Refusal, answered, dot_refusal, sum_refusal};
 use format::Format;
 use format::env::Settings;
 use reduction::total::Answer;
+use values::elements::{Bytes, Elements, Words};
+
+// The sum of a list, wherever its elements stand.
+fn sum_of<E: Elements>(f: Format, c: Settings, u: u64, elements: E) -> Result<Answer, Refusal>
+    ensures { answer_in result ≡ spec.sum_answer (format_of f) (settings_of c) u (E.list elements) }
+{
+    let (asked, summand) = sum_refusal(f, c, u, elements.count())?;
+    lists::sum(asked.layout, asked.env, summand, elements)
+}
+
+// The sum of the products of the pairs of two lists.
+fn dot_of<E: Elements>(f: Format, c: Settings, left: E, right: E) -> Result<Answer, Refusal>
+    ensures { answer_in result ≡ spec.dot_answer (format_of f) (settings_of c) (E.list left) (E.list right) }
+{
+    let asked = dot_refusal(f, c, left.count(), right.count())?;
+    lists::dot(asked.layout, asked.env, left, right)
+}
 
 // The sum of the values (u = 0), of their magnitudes (1) or of their squares (2).
 pub fn sum(f: Format, c: Settings, u: u64, values: &[u64]) -> Answer
     ensures { answer_of result ≡ spec.sum_answer (format_of f) (settings_of c) u values.now }
 {
-    match sum_refusal(f, c, u, values.len()) {
-        Ok(asked) => lists::words(asked.layout, asked.env, u, values, values),
-        Err(refusal) => Answer::from(refusal),
-    }
+    answered(sum_of(f, c, u, Words { values }))
 }
 
 // The sum of the products of the pairs.
 pub fn dot(f: Format, c: Settings, left: &[u64], right: &[u64]) -> Answer
     ensures { answer_of result ≡ spec.dot_answer (format_of f) (settings_of c) left.now right.now }
 {
-    match dot_refusal(f, c, left.len(), right.len()) {
-        Ok(asked) => lists::words(asked.layout, asked.env, 3, left, right),
-        Err(refusal) => Answer::from(refusal),
-    }
+    answered(dot_of(f, c, Words { values: left }, Words { values: right }))
 }
 
 // The same over bytes, eight to a value, little end first. Bytes past the last whole value are not looked at.
 pub fn sum_bytes(f: Format, c: Settings, u: u64, values: &[u8]) -> Answer
     ensures { answer_of result ≡ spec.sum_answer (format_of f) (settings_of c) u (values_in values.now) }
 {
-    match sum_refusal(f, c, u, values.len() / 8) {
-        Ok(asked) => lists::bytes(asked.layout, asked.env, u, values, values),
-        Err(refusal) => Answer::from(refusal),
-    }
+    answered(sum_of(f, c, u, Bytes { values }))
 }
 
 pub fn dot_bytes(f: Format, c: Settings, left: &[u8], right: &[u8]) -> Answer
     ensures { answer_of result ≡ spec.dot_answer (format_of f) (settings_of c) (values_in left.now) (values_in right.now) }
 {
-    match dot_refusal(f, c, left.len() / 8, right.len() / 8) {
-        Ok(asked) => lists::bytes(asked.layout, asked.env, 3, left, right),
-        Err(refusal) => Answer::from(refusal),
-    }
+    answered(dot_of(f, c, Bytes { values: left }, Bytes { values: right }))
 }

@@ -1,20 +1,23 @@
 // Pence: a hundred times a number, rounded to an integer, half a penny away from zero. Of the number that an encoding stands for, and of the exact sum of
 // a list.
-ghost use Rattle.std.specs.Prelude.{◌≡◌, cond, ℕ, ◌+◌, ◌*◌, ◌/◌, ◌^◌, ◌<◌, ◌≤◌, min, pos, neg_ℤ};
+ghost use Rattle.std.specs.Prelude.{◌≡◌, cond, ℕ, ◌+◌, ◌*◌, ◌/◌, ◌^◌, ◌<◌, ◌≤◌, min, pos, neg_ℤ, length};
 ghost use Rattle.totals_spec.specs.Basics.{Signed};
 ghost use Rattle.totals_spec.specs.Pence as spec;
+ghost use Rattle.totals_spec.specs.Totals.{limit};
 ghost use Rattle.totals_spec.specs.Hundredfold.{whole_figure};
 ghost use Rattle.format.specs.Shapes.{shape_of};
+ghost use Rattle.format.specs.Layouts.{layout_of};
 ghost use Rattle.format.specs.Joined.{format_of, unpacked_of};
 ghost use Rattle.exact.specs.Joined.{significand_of, Stands};
 ghost use Rattle.arithmetic.specs.Joined.{Bounded};
 ghost use Rattle.window.specs.Joined.{LeftOf};
 ghost use Rattle.totals.specs.Refusal.{number_of, place_of};
-ghost use Rattle.totals.specs.PenceRecord.{pence_record, Countable};
+ghost use Rattle.totals.specs.PenceRecord.{pence_record, list_figure, Countable};
 
-use crate::lists;
+use crate::lists::met_special;
 use crate::refusal::Refusal;
-use crate::stray::greatest;
+use crate::stray::{find_stray, greatest};
+use arithmetic::summand::Summand;
 use binary::decode;
 use exact::Unrounded;
 use exact::rounding::rounds_up;
@@ -27,7 +30,13 @@ use format::shape::Shape;
 use format::unpacked::Unpacked;
 use limbs::pair;
 use limbs::word::{scaled, widening_mul};
+use reduction::terms::Hundreds;
+use reduction::total::left;
+use reduction::walk::exact;
+use scan::numbers::Encoded;
+use scan::walk::scan_list;
 use values::LIMIT;
+use values::elements::{Elements, Words};
 
 // The record of a pence figure.
 #[derive(Clone, Copy, PartialEq, Eq, Debug)]
@@ -36,6 +45,12 @@ pub struct Pence {
     pub refusal: u64,
     pub place: u64,
 }
+
+// The digits that decide a figure below 2^63 and the half penny beside it.
+const DIGITS: u64 = 64;
+
+// A hundred has 7 bits: each value, taken a hundred times, has its T so much higher.
+const HUNDRED_BITS: u64 = 7;
 
 // 2^63, the least magnitude that is refused.
 const TOO_LARGE: u64 = 9223372036854775808;
@@ -162,6 +177,30 @@ pub fn whole_pence(f: Shape, v: Unrounded) -> Pence
     nearest(f, v)
 }
 
+// The pence of a list without a stray bit.
+fn hundredfold<E: Elements>(f: Layout, elements: E) -> Pence
+    requires { length (E.list elements) ≤ limit }
+    ensures { pence_record result ≡ list_figure (layout_of f) (E.list elements) }
+{
+    let numbers = Encoded {
+        layout: f,
+        elements,
+    };
+    let s = scan_list(&numbers, Env::default(), Summand::Value);
+    if met_special(s) {
+        return Pence::from(Refusal::NoPence);
+    }
+    if s.top == 0 {
+        return in_range(false, 0);
+    }
+    let list = Hundreds {
+        layout: f,
+        elements: &numbers.elements,
+    };
+    let e = exact(&list, DIGITS, s.top + HUNDRED_BITS);
+    whole_pence(f.shape, left(DIGITS, e))
+}
+
 // The pence of the exact sum of a list, or why there are none. Its settings are all 0.
 pub fn pence_of_sum(f: Format, values: &[u64]) -> Pence
     ensures { pence_record result ≡ spec.sum_pence (format_of f) values.now }
@@ -172,5 +211,9 @@ pub fn pence_of_sum(f: Format, values: &[u64]) -> Pence
     if values.len() > LIMIT {
         return Pence::from(Refusal::TooManyElements);
     }
-    lists::pence(layout, Env::default(), values)
+    let elements = Words { values };
+    if let Some(i) = find_stray(layout.shape.width, &elements) {
+        return Pence::from(Refusal::StrayBit(i));
+    }
+    hundredfold(layout, elements)
 }

@@ -12,12 +12,14 @@ ghost use Rattle.totals_spec.specs.Ranges as spec;
 ghost use Rattle.totals.specs.Refusal.{number_of, refusal_number};
 ghost use Rattle.totals.specs.Ranges.{amount_in, range_record, lows, highs, Totalled};
 
-use crate::lists;
-use crate::refusal::Refusal;
+use crate::lists::sum;
+use crate::refusal::{Refusal, answered};
+use arithmetic::summand::Summand;
 use format::environment::Env;
 use format::modes::Rounding;
 use page::layout;
 use values::LIMIT;
+use values::elements::Words;
 
 // An amount known exactly, between two figures, or missing.
 #[derive(Clone, Copy)]
@@ -146,7 +148,7 @@ fn toward(rounding: Rounding, l: &[u64]) -> u64
 {
     let mut c = Env::default();
     c.rounding = rounding;
-    let a = lists::words(layout(), c, 0, l, l);
+    let a = answered(sum(layout(), c, Summand::Value, Words { values: l }));
     if a.result == SIGN { 0 } else { a.result }
 }
 

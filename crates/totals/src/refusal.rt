@@ -5,9 +5,10 @@ ghost use Rattle.totals_spec.specs.Totals as spec;
 ghost use Rattle.format.specs.Shapes.{shape_of};
 ghost use Rattle.format.specs.Joined.{format_of, settings_of};
 ghost use Rattle.reduction.specs.Answered.{answer_of};
-ghost use Rattle.totals.specs.Refusal.{number_of, place_of, refusal_number, first_numbers, list_numbers, pair_numbers, sum_numbers, dot_numbers};
-ghost use Rattle.totals.specs.Asked.{SetFor, Asks};
+ghost use Rattle.totals.specs.Refusal.{number_of, place_of, refusal_number, first_numbers, few_number, sum_numbers, dot_numbers};
+ghost use Rattle.totals.specs.Asked.{SetFor, SummandFor, Asks, AsksSum, answer_in};
 
+use arithmetic::summand::Summand;
 use format::Format;
 use format::env::Settings;
 use format::environment::Env;
@@ -116,35 +117,46 @@ fn ranged(f: Format, c: Settings) -> Result<Asked, Refusal>
     Ok(Asked { layout, env })
 }
 
-// And then totals of lists of n elements, by one more setting that they are asked with, and dots of n and m.
-pub(crate) fn list_refusal(in_range: bool, n: usize) -> Result<(), Refusal>
-    ensures { refusal_number result ≡ list_numbers in_range n }
+// The summand with this number.
+pub(crate) fn summand_for(u: u64) -> Result<Summand, Refusal>
+    ensures { SummandFor u result }
 {
-    refuse_if(!in_range, Refusal::SettingOutOfRange)?;
-    refuse_if(n > LIMIT, Refusal::TooManyElements)
+    Summand::try_from(u).map_err(|_| Refusal::SettingOutOfRange)
 }
 
-pub(crate) fn pair_refusal(n: usize, m: usize) -> Result<(), Refusal>
-    ensures { refusal_number result ≡ pair_numbers n m }
+// A list of n elements, or pairs, is not too long.
+pub(crate) fn few(n: usize) -> Result<(), Refusal>
+    ensures { refusal_number result ≡ few_number n }
 {
-    refuse_if(n != m, Refusal::DifferentLengths)?;
     refuse_if(n > LIMIT, Refusal::TooManyElements)
 }
 
 // The refusal of a sum that does not look at its elements, or what it is asked with.
-pub fn sum_refusal(f: Format, c: Settings, u: u64, n: usize) -> Result<Asked, Refusal>
-    ensures { Asks (format_of f) (settings_of c) (sum_numbers (format_of f) (settings_of c) u n) result }
+pub fn sum_refusal(f: Format, c: Settings, u: u64, n: usize) -> Result<(Asked, Summand), Refusal>
+    ensures { AsksSum (format_of f) (settings_of c) u (sum_numbers (format_of f) (settings_of c) u n) result }
 {
-    let a = ranged(f, c)?;
-    list_refusal(u <= 2, n)?;
-    Ok(a)
+    let asked = ranged(f, c)?;
+    let summand = summand_for(u)?;
+    few(n)?;
+    Ok((asked, summand))
 }
 
 // The refusal of a dot that does not look at its elements, or what it is asked with.
 pub fn dot_refusal(f: Format, c: Settings, n: usize, m: usize) -> Result<Asked, Refusal>
     ensures { Asks (format_of f) (settings_of c) (dot_numbers (format_of f) (settings_of c) n m) result }
 {
-    let a = ranged(f, c)?;
-    pair_refusal(n, m)?;
-    Ok(a)
+    let asked = ranged(f, c)?;
+    refuse_if(n != m, Refusal::DifferentLengths)?;
+    few(n)?;
+    Ok(asked)
+}
+
+// The record of a total that may be refused.
+pub(crate) fn answered(total: Result<Answer, Refusal>) -> Answer
+    ensures { answer_of result ≡ answer_in total }
+{
+    match total {
+        Ok(answer) => answer,
+        Err(refusal) => Answer::from(refusal),
+    }
 }

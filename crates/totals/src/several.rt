@@ -8,17 +8,16 @@ ghost use Rattle.format.specs.Environments.{env_of};
 ghost use Rattle.format.specs.Joined.{format_of, settings_of};
 ghost use Rattle.reduction.specs.Answered.{answer_of};
 ghost use Rattle.totals.specs.Refusal.{first_numbers, sum_numbers};
-ghost use Rattle.totals.specs.Kept.{ListKept};
+ghost use Rattle.totals.specs.Kept.{KeptIn};
 ghost use Rattle.totals.specs.Targets.{target_numbers, Aims, Printable, Prints, Listed, Answers};
 
-use crate::lists::{Walked, no_walk, sum_walk};
-use crate::refusal::{Refusal, list_refusal, settings_for, sum_refusal};
-use crate::report::Report;
+use crate::lists::{Kept, keep, met_special};
+use crate::refusal::{Refusal, few, refuse_if, settings_for, sum_refusal};
 use format::Format;
 use format::env::Settings;
 use format::environment::Env;
 use format::layout::Layout;
-use reduction::total::{Answer, print, print_zero, refused};
+use reduction::total::{Answer, print, print_zero};
 
 // A format to round into, with settings of its own.
 #[derive(Clone, Copy)]
@@ -77,62 +76,57 @@ fn target_refusal(
     ensures { Aims (format_of f) (format_of target.format) (settings_of target.settings) (target_numbers (format_of f) denormals_are_zero n (format_of target.format) (settings_of target.settings)) result }
 {
     let a = aimed(f, target)?;
-    list_refusal(denormals_are_zero <= 1, n)?;
+    refuse_if(denormals_are_zero > 1, Refusal::SettingOutOfRange)?;
+    few(n)?;
     Ok(a)
 }
 
 // The record of a target, where no element has a stray bit: 17, a zero, or what the list leaves, rounded.
-fn print_one(aim: Aim, w: Walked) -> Answer
-    requires { Printable (layout_of aim.list) (layout_of aim.layout) (env_of aim.env) w }
-    ensures { Prints (layout_of aim.list) (layout_of aim.layout) (env_of aim.env) w (answer_of result) }
+fn print_one(aim: Aim, kept: Kept) -> Answer
+    requires { Printable (layout_of aim.list) (layout_of aim.layout) (env_of aim.env) kept }
+    ensures { Prints (layout_of aim.list) (layout_of aim.layout) (env_of aim.env) kept (answer_of result) }
 {
     let list = aim.list.shape;
-    if aim.layout.shape.digits() > list.digits() || w.special {
+    let s = kept.scan;
+    if aim.layout.shape.digits() > list.digits() || met_special(s) {
         return Answer::from(Refusal::TargetOutOfReach);
     }
-    if w.top == 0 {
-        return print_zero(
+    match kept.sum {
+        Some(e) => print(list, aim.layout, aim.env, s.subnormal, e),
+        None => print_zero(
             aim.layout,
             aim.env,
-            w.subnormal,
-            w.positive_zero,
-            w.negative_zero,
-        );
+            s.subnormal,
+            s.positive_zero,
+            s.negative_zero,
+        ),
     }
-    let r = w.report;
-    print(
-        list,
-        aim.layout,
-        aim.env,
-        w.subnormal,
-        r.passes,
-        r.last_edge,
-        w.rest,
-    )
 }
 
 // The record of a target of a list of n values.
-fn into_target(f: Format, denormals_are_zero: u64, n: usize, w: Walked, target: Target) -> Answer
-    requires { sum_numbers (format_of f) (spec.reading_with denormals_are_zero) 0 n ≡ 0 → Listed (format_of f) denormals_are_zero n w }
-    ensures { Answers (format_of f) denormals_are_zero n (format_of target.format) (settings_of target.settings) w (answer_of result) }
+fn into_target(
+    f: Format,
+    denormals_are_zero: u64,
+    n: usize,
+    list: Result<Kept, Refusal>,
+    target: Target,
+) -> Answer
+    requires { sum_numbers (format_of f) (spec.reading_with denormals_are_zero) 0 n ≡ 0 → Listed (format_of f) denormals_are_zero n list }
+    ensures { Answers (format_of f) denormals_are_zero n (format_of target.format) (settings_of target.settings) list (answer_of result) }
 {
-    let r = w.report;
-    match target_refusal(f, denormals_are_zero, n, target) {
-        Err(refusal) => Answer::from(refusal),
-        Ok(_) if r.refusal != 0 => refused(r.refusal, r.place),
-        Ok(aim) => print_one(aim, w),
+    match (target_refusal(f, denormals_are_zero, n, target), list) {
+        (Err(refusal), _) => Answer::from(refusal),
+        (Ok(_), Err(refusal)) => Answer::from(refusal),
+        (Ok(aim), Ok(kept)) => print_one(aim, kept),
     }
 }
 
 // The walk of a list that is not refused as it stands.
-fn walk_once(f: Format, denormals_are_zero: u64, values: &[u8]) -> Walked
-    ensures { sum_numbers (format_of f) (spec.reading_with denormals_are_zero) 0 (length values.now / 8) ≡ 0 → ListKept (format_of f) (spec.reading_with denormals_are_zero) (values_in values.now) result }
+fn walk_once(f: Format, denormals_are_zero: u64, values: &[u8]) -> Result<Kept, Refusal>
+    ensures { sum_numbers (format_of f) (spec.reading_with denormals_are_zero) 0 (length (values_in values.now)) ≡ 0 → KeptIn (format_of f) (spec.reading_with denormals_are_zero) (values_in values.now) result }
 {
-    let c = reading(denormals_are_zero);
-    match sum_refusal(f, c, 0, values.len() / 8) {
-        Ok(asked) => sum_walk(asked.layout, asked.env, values),
-        Err(refusal) => no_walk(Report::from(refusal)),
-    }
+    let (asked, _) = sum_refusal(f, reading(denormals_are_zero), 0, values.len() / 8)?;
+    keep(asked.layout, asked.env, values)
 }
 
 // The plain sum of the values in three targets. Bytes past the last whole value are not looked at.
@@ -147,10 +141,10 @@ pub fn in_three(
     ensures { (answer_of result.first ≡ spec.target_answer (format_of f) denormals_are_zero (values_in values.now) (format_of a.format) (settings_of a.settings)) × (answer_of result.second ≡ spec.target_answer (format_of f) denormals_are_zero (values_in values.now) (format_of b.format) (settings_of b.settings)) × (answer_of result.third ≡ spec.target_answer (format_of f) denormals_are_zero (values_in values.now) (format_of c.format) (settings_of c.settings)) }
 {
     let n = values.len() / 8;
-    let w = walk_once(f, denormals_are_zero, values);
-    let first = into_target(f, denormals_are_zero, n, w, a);
-    let second = into_target(f, denormals_are_zero, n, w, b);
-    let third = into_target(f, denormals_are_zero, n, w, c);
+    let list = walk_once(f, denormals_are_zero, values);
+    let first = into_target(f, denormals_are_zero, n, list, a);
+    let second = into_target(f, denormals_are_zero, n, list, b);
+    let third = into_target(f, denormals_are_zero, n, list, c);
     Printed {
         first,
         second,

@@ -7,13 +7,15 @@ ghost use Rattle.format.specs.Joined.{format_of, settings_of};
 ghost use Rattle.totals.specs.Refusal.{sum_numbers};
 ghost use Rattle.totals.specs.Tables.{Tables};
 
-use crate::lists::{column, words};
-use crate::refusal::{Refusal, sum_refusal};
+use crate::lists::sum;
+use crate::refusal::{Refusal, answered, sum_refusal};
+use arithmetic::summand::Summand;
 use format::Format;
 use format::env::Settings;
 use format::environment::Env;
 use format::layout::Layout;
 use reduction::total::Answer;
+use values::elements::{Column, Words};
 
 // Whether rows times columns, as whole numbers, is another number than n.
 fn misshapen(rows: usize, columns: usize, n: usize) -> bool
@@ -30,18 +32,24 @@ fn fill_rows(f: Layout, c: Env, rows: usize, columns: usize, cells: &[u64], tota
     for i in 0..rows {
         let at = i * columns;
         let row = &cells[at..at + columns];
-        let a = words(f, c, 0, row, row);
+        let a = answered(sum(f, c, Summand::Value, Words { values: row }));
         totals[i] = a.result;
     }
 }
 
-// Each column is a source of the walk.
+// Each column is a list of its own.
 fn fill_columns(f: Layout, c: Env, rows: usize, columns: usize, cells: &[u64], totals: &mut [u64])
     requires { (rows * columns ≡ length cells.now) × (columns ≤ length totals.old) × (sum_numbers (layout_of f) (env_of c) 0 (length cells.now) ≡ 0) }
     ensures { totals.new ≡ spec.filled (map (spec.plain_total (layout_of f) (env_of c)) (spec.columns_from rows columns cells.now 0 columns)) totals.old }
 {
     for j in 0..columns {
-        let a = column(f, c, j, columns, rows, cells);
+        let column = Column {
+            cells,
+            first: j,
+            step: columns,
+            count: rows,
+        };
+        let a = answered(sum(f, c, Summand::Value, column));
         totals[j] = a.result;
     }
 }
@@ -59,7 +67,7 @@ pub fn table(
     ensures { Tables (spec.table_answer (format_of f) (settings_of c) rows columns cells.now row_totals.old column_totals.old) result row_totals.new column_totals.new }
 {
     let asked = match sum_refusal(f, c, 0, cells.len()) {
-        Ok(asked) => asked,
+        Ok((asked, _)) => asked,
         Err(refusal) => return Answer::from(refusal),
     };
     if misshapen(rows, columns, cells.len()) {
@@ -68,10 +76,11 @@ pub fn table(
     if row_totals.len() < rows || column_totals.len() < columns {
         return Answer::from(Refusal::NoRoom);
     }
-    let grand = words(asked.layout, asked.env, 0, cells, cells);
-    if grand.refusal != 0 {
-        return grand;
-    }
+    let all = Words { values: cells };
+    let grand = match sum(asked.layout, asked.env, Summand::Value, all) {
+        Ok(grand) => grand,
+        Err(refusal) => return Answer::from(refusal),
+    };
     fill_rows(asked.layout, asked.env, rows, columns, cells, row_totals);
     fill_columns(asked.layout, asked.env, rows, columns, cells, column_totals);
     grand

@@ -1,10 +1,5 @@
 -- The record of a chain of passes is that of its rounded sum.
-use Rattle.std.proofs.Common.{◌≡◌, ℕ, ◌+◌, ◌^◌, ◌<◌, ℤ, sym, ap, ap₂, ◌∙◌, subst, arith}
-use Rattle.std.proofs.Math.IntN.{sub_ℕ}
-use lib.Signed.{mag}
-use mir.Syntax.{w64}
-use mir.Val.{SFits, to_z, of_z}
-use mir.ValLaws.{to_z-of_z}
+use Rattle.std.proofs.Common.{◌+◌, ◌^◌, ◌<◌, ap, ◌∙◌, arith}
 use Rattle.totals_spec.specs.Basics.{flag}
 use Rattle.totals_spec.specs.Encode.{encode}
 use Rattle.totals_spec.specs.Format.{digits, grid}
@@ -16,15 +11,15 @@ use Rattle.format.specs.Environments.{env_of}
 use Rattle.format.proofs.Shapes.{range_bounds}
 use Rattle.values.specs.Walks.{wide}
 use Rattle.window.specs.Joined.{outcome_of}
-use Rattle.reduction.specs.Answered.{words_as, written_as, RoundedSum, last_edge_of}
-use Rattle.reduction.proofs.Records.{leans, moved, position-fits}
+use Rattle.reduction.specs.Answered.{words_as, written_as, RoundedSum}
+use Rattle.reduction.proofs.Records.{leans, moved, edge-is}
 use Rattle.reduction.proofs.total.finish.Goals as goal
 
 pub round_sum-r-requires : goal.round_sum-r-requires
 round_sum-r-requires c = record {
   decided = digits (shape_of c.args.f);
   sum = settled (outcome_of c.args.e);
-  left = c.requires.3;
+  left = rw c.digits.ensures at c.left-v.ensures;
   settings = c.requires.1;
   enough = omega arith;
   grid = omega (arith, c.grid.ensures.bound);
@@ -39,15 +34,11 @@ returns c =
     let x = on_grid f c.args.products (settled (outcome_of c.args.e)) in
     let q = c.recorded-answer.ensures in
     let r : RoundedSum f env (grid f c.args.products) x c.round_sum-r.result =
-    moved _ c.grid.ensures.value c.rise.ensures.value (c.round_sum-r.ensures (digits f) (settled (outcome_of c.args.e)) c.requires.3) in
+    moved _ c.grid.ensures.value c.rise.ensures.value (c.round_sum-r.ensures (digits f) (settled (outcome_of c.args.e)) (rw c.digits.ensures at c.left-v.ensures)) in
     let low : c.args.e.edge + c.fall.result < 2 ^ 63 = omega (arith, c.requires.2.edge, c.fall.ensures.bound) in
     let far : c.origin.result < 2 ^ 63 = omega (arith, c.origin.ensures.bound) in
     let p = c.position_of-last_edge in
-    let fits : SFits w64 p.result = record {
-      sfits = subst (λ (z : ℤ). mag z < 2 ^ 63) (sym p.ensures) (position-fits (c.args.e.edge + c.fall.result) c.origin.result low far);
-    } in
-    let edge : to_z w64 (of_z w64 p.result) ≡ last_edge_of f c.args.products c.args.e.edge =
-    to_z-of_z w64 p.result fits ∙ p.ensures ∙ ap₂ (λ (m n : ℕ). sub_ℕ (c.args.e.edge + m) n) c.fall.ensures.value c.origin.ensures.value in
+    let edge = edge-is f c.args.products c.args.e.edge p.result c.fall.ensures.value c.origin.ensures.value low far p.ensures in
     λ i. record {
       result =
           (ap (λ (a : Answer). words_as (wide f) c.encoded-b.result.head a.result) q ∙ c.encoded-b.ensures

@@ -1,37 +1,54 @@
 -- The record is that of the sum rounded into the target, field by field.
-use Rattle.std.proofs.Common.{ap, ap₂, ◌+◌, ◌∙◌}
-use mir.Syntax.{w64}
-use mir.ValLaws.{to_z-of_z}
+use Rattle.std.proofs.Common.{◌+◌, ◌^◌, ◌<◌, false, ap, ap₂, ◌∙◌, arith}
 use Rattle.totals_spec.specs.Basics.{flag}
 use Rattle.totals_spec.specs.Encode.{encode}
 use Rattle.totals_spec.specs.Format.{digits}
 use Rattle.totals_spec.specs.Round.{Rounded}
+use Rattle.totals_spec.specs.Settled.{settled}
 use Rattle.totals_spec.specs.Totals.{Answer}
 use Rattle.further_spec.specs.Several.{target_grid, on_target, rounded_into, printed}
 use Rattle.format.specs.Shapes.{shape_of}
 use Rattle.format.specs.Layouts.{layout_of}
 use Rattle.format.specs.Environments.{env_of}
 use Rattle.format.proofs.Shapes.{range_bounds}
+use Rattle.window.specs.Joined.{outcome_of}
 use Rattle.reduction.specs.Answered.{RoundedSum}
-use Rattle.reduction.proofs.Records.{leans, moved}
+use Rattle.reduction.proofs.Records.{leans, moved, edge-is}
 use Rattle.reduction.proofs.total.print.Goals as goal
+
+pub round_sum-r-requires : goal.round_sum-r-requires
+round_sum-r-requires c = record {
+  decided = digits (shape_of c.args.f);
+  sum = settled (outcome_of c.args.e);
+  left = rw c.digits.ensures at c.left-v.ensures;
+  settings = c.requires.settings;
+  enough = c.requires.digits_le;
+  grid = omega (arith, c.origin.ensures.bound, c.lift.ensures.bound);
+  few = omega (arith, c.depth.ensures.bound, c.fall.ensures.bound);
+}
 
 pub returns : goal.returns
 unfolding printed rounded_into
-returns c x h l passes edge =
+returns c =
     let a = c.args in
-    let q = c.recorded.ensures in
+    let f = shape_of a.f in
     let t = layout_of a.t in
-    let grid = ap₂ ◌+◌ c.origin.ensures.value c.lift.ensures.value in
+    let x = on_target f t (settled (outcome_of a.e)) in
+    let q = c.recorded.ensures in
+    let lifted = ap₂ ◌+◌ c.origin.ensures.value c.lift.ensures.value in
     let up = ap₂ ◌+◌ c.depth.ensures.value c.fall.ensures.value in
-    let r : RoundedSum t (env_of a.c) (target_grid (shape_of a.f) t) (on_target (shape_of a.f) t x) c.round_sum-r.result =
-    moved _ grid up (c.round_sum-r.ensures (digits (shape_of a.f)) x l) in
+    let r : RoundedSum t (env_of a.c) (target_grid f t) x c.round_sum-r.result =
+    moved _ lifted up (c.round_sum-r.ensures (digits f) (settled (outcome_of a.e)) (rw c.digits.ensures at c.left-v.ensures)) in
+    let low : a.e.edge + c.fall-2.result < 2 ^ 63 = omega (arith, c.requires.ended.edge, c.fall-2.ensures.bound) in
+    let far : c.origin-2.result < 2 ^ 63 = omega (arith, c.origin-2.ensures.bound) in
+    let p = c.position_of-last_edge in
+    let edge = edge-is f false a.e.edge p.result c.fall-2.ensures.value c.origin-2.ensures.value low far p.ensures in
     λ i. record {
       result = (ap (λ (b : Answer). b.result) q ∙ c.encode.ensures ∙ ap (λ (y : Rounded). encode t y.value) r.equal) i;
       flags = (ap (λ (b : Answer). b.flags) q ∙ ap (λ (y : Rounded). flag 128 a.subnormal + y.flags) r.equal) i;
-      passes = (ap (λ (b : Answer). b.passes) q ∙ passes) i;
-      last_edge = (ap (λ (b : Answer). b.last_edge) q ∙ to_z-of_z w64 a.last_edge c.ranges.last_edge ∙ edge) i;
+      passes = (q i).passes;
+      last_edge = (ap (λ (b : Answer). b.last_edge) q ∙ edge) i;
       refusal = (q i).refusal;
       place = (q i).place;
-      side = (ap (λ (b : Answer). b.side) q ∙ leans t (env_of a.c) _ (on_target (shape_of a.f) t x) _ (range_bounds a.t.shape) c.requires.settings r) i;
+      side = (ap (λ (b : Answer). b.side) q ∙ leans t (env_of a.c) _ x _ (range_bounds a.t.shape) c.requires.settings r) i;
     }
