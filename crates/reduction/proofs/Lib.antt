@@ -3,3 +3,4 @@ pub mod Loop
 pub mod Records
 pub mod Reduce
 pub mod Items
+pub mod Widths

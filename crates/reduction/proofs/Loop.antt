@@ -24,7 +24,6 @@ use Rattle.totals_spec.proofs.HundredTop.{top-most}
 use Rattle.totals_spec.proofs.Order.{pairs-length}
 use Rattle.totals_spec.proofs.Margin.{terms-max}
 use Rattle.totals_spec.proofs.Edges.{first_edge}
-use Rattle.values.specs.Tens.{tens_items}
 use Rattle.window.specs.declared.Pass.{Pass}
 use Rattle.window.specs.declared.Chain.{Chain}
 use Rattle.window.specs.declared.Outcome.{Outcome}
@@ -49,6 +48,9 @@ most-product f = omega arith
 
 pub top_small : (f : Format) {t : ℕ} → RangeBounds f → t ≤ top_product f + 7 → t < 2147483648
 top_small f b h = omega (arith, b.e-ge, b.w-ge, b.p-le, pow_mono {j = 28} b.e-le, h)
+
+pub summable-few : (f : Format) (l : List Item) → Summable f l → length (terms l) ≤ terms-max
+summable-few f l s = limit-le _ (le_trans (picked-length term_of l) s.few)
 
 module _ {p : ℕ} (d : p ≤ 64) (f : Format) (b : RangeBounds f) where
   base-of : (ts : List Term) → AllGood ts → length ts ≤ limit → top_of ts ≤ top_product f + 7 → 0 < top_of ts → Base p ts

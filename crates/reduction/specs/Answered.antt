@@ -1,15 +1,14 @@
 -- The code's record as that of totals_spec, and a sum rounded once.
-use Rattle.std.specs.Prelude.{◌≡◌, Bool, true, false, not, ◌&&◌, List, ℕ, ◌+◌, ◌^◌, ◌≤◌, ◌<◌, leb, eqb, ℤ}
+use Rattle.std.specs.Prelude.{◌≡◌, Bool, true, false, ℕ, ◌+◌, ◌^◌, ◌≤◌, ◌<◌, ltb, ℤ}
 use Rattle.std.proofs.Math.IntN.{sub_ℕ}
-use Rattle.totals_spec.specs.Basics.{Signed, flag, any}
-use Rattle.totals_spec.specs.Bounds.{SettingsBounds}
+use Rattle.totals_spec.specs.Basics.{Signed, flag}
+use Rattle.totals_spec.specs.Bounds.{FormatBounds, SettingsBounds}
 use Rattle.totals_spec.specs.Format as spec
 use Rattle.totals_spec.specs.Settings as env
 use Rattle.totals_spec.specs.Totals as totals
-use Rattle.totals_spec.specs.Extended.{unsupported, spread, kind4, extended_sum_refusal, extended_sum, extended_dot_refusal, extended_dot, extended}
+use Rattle.totals_spec.specs.Extended.{spread, extended}
 use Rattle.totals_spec.specs.Halves.{joined}
 use Rattle.totals_spec.specs.Side.{rounded_side}
-use Rattle.values.specs.Tens.{all_tens}
 use Rattle.format.specs.Joined.{unpacked_of}
 use Rattle.format.specs.Fits.{Encodes}
 use Rattle.exact.specs.declared.Rounded.{Rounded}
@@ -19,6 +18,14 @@ use Rattle.window.specs.declared.ExactSum.{ExactSum}
 use Rattle.window.specs.Joined.{Ended, LeftOf}
 use Rattle.reduction.specs.declared.total.Answer.{Answer}
 use Rattle.reduction.specs.declared.total.Wide.{Wide}
+
+-- a format wider than a word, that of kind 4, or one that is offered
+abbrev pub wide : spec.Format → Bool
+wide f = ltb 64 f.W
+
+abbrev pub Known : (wide : Bool) → spec.Format → Type 0
+Known true f = f ≡ extended
+Known false f = FormatBounds f
 
 -- a result in its words; that of kind 4 has two, and its leading bit is written out
 abbrev pub words_as : (wide : Bool) → (head low : ℕ) → ℕ

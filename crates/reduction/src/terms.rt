@@ -69,6 +69,7 @@ impl<N: Numbers> Terms for Summed<'_, N> {
 }
 
 // The products of the pairs of two lists of one length.
+#[derive(Drop)]
 pub struct Paired<'a, N: Numbers> {
     pub left: &'a N,
     pub right: &'a N,

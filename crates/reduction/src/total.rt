@@ -17,9 +17,8 @@ ghost use Rattle.format.specs.Layouts.{layout_of};
 ghost use Rattle.format.specs.Environments.{env_of};
 ghost use Rattle.format.specs.Joined.{unpacked_of};
 ghost use Rattle.format.specs.Fits.{Encodes};
-ghost use Rattle.values.specs.Walks.{wide, Known};
 ghost use Rattle.window.specs.Joined.{outcome_of, run_of, Ended, LeftOf};
-ghost use Rattle.reduction.specs.Answered.{words_as, written_as, answer_of, answer_as, given_as, CanRound, RoundedSum, Into, record_of};
+ghost use Rattle.reduction.specs.Answered.{wide, Known, words_as, written_as, answer_of, answer_as, given_as, CanRound, RoundedSum, Into, record_of};
 
 use binary::encode;
 use binary::extended::encode as encode_ten;

@@ -22,17 +22,6 @@ use format::environment::Env;
 use format::modes::NanPropagation;
 use format::unpacked::Unpacked;
 
-// The summand of one list with this number: 2 and all above are squares, as totals_spec's `summand_of` has them. The pairs of two (3) ask for none.
-pub fn summand_of(number: u64) -> Summand
-    ensures { summand_in result ≡ env.summand_of number }
-{
-    match number {
-        0 => Summand::Value,
-        1 => Summand::Magnitude,
-        _ => Summand::Square,
-    }
-}
-
 #[derive(Clone, Copy, Default)]
 pub struct Scan {
     pub subnormal: bool,

@@ -73,15 +73,15 @@ pub trait Numbers {
 
 // Numbers of an offered format.
 #[derive(Clone, Copy)]
-pub struct Encoded<E> {
+pub struct Encoded<'a, E> {
     pub layout: Layout,
-    pub elements: E,
+    pub elements: &'a E,
 }
 
-impl<E: Elements> Numbers for Encoded<E> {
+impl<E: Elements> Numbers for Encoded<'_, E> {
     ghost encoding = { λ s. of_layout s.layout };
 
-    ghost codes = { λ s. E.list s.elements };
+    ghost codes = { λ s. E.list s.elements.now };
 
     #[inline(always)]
     fn shape(&self) -> Shape {

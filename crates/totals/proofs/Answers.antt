@@ -1,7 +1,7 @@
 -- A total by its refusals: the tests that do not look at the elements, then the search for a stray bit, then the total itself.
 use mathlib.Core.Path.{◌≡◌, refl, sym, ap, ◌∙◌}
 use mathlib.Core.Logic.{◌≢◌}
-use mathlib.Core.Bool.{Bool, true, false, not, ◌&&◌}
+use mathlib.Core.Bool.{Bool, true, false, not, ◌&&◌, ◌||◌}
 use mathlib.Core.List.{List}
 use Prim.Native.Nat.{ℕ, ◌<◌, ◌≤◌}
 use native.Mathlib.Omega.{arith}
@@ -17,14 +17,9 @@ use Rattle.totals_spec.specs.Totals.{sum_refusal, sum_accepted, sum_answer, dot_
 use Rattle.totals_spec.proofs.Valid.{and_right, format-bounds}
 use Rattle.totals_spec.proofs.Passes.{valid-of}
 use Rattle.totals_spec.proofs.Order.{first-zero}
-use Rattle.reduction.specs.Answered.{Accepted, answer_in}
 use Rattle.totals.specs.declared.refusal.Refusal.{Refusal}
 use Rattle.totals.specs.Refusal.{number_of, place_of, sum_numbers, dot_numbers}
-use Rattle.totals.specs.Stray.{FoundOn}
-use Rattle.totals.specs.Walked.{numbers_in, answer_to}
-use Rattle.std.specs.Prelude.{Option, Some, None}
 use Rattle.totals.proofs.Refusals.{number-some, no-place}
-use Rattle.totals.proofs.Search.{says_at, says_nothing}
 
 -- ---- a row of tests, none of which has number 0 or 7, before another one
 
@@ -84,23 +79,6 @@ module _ (f : Format) (c : Settings) (l : List ℕ) {n : ℕ} (long : length l �
   unfolding sum_numbers sum_answer sum_refusal
   stray-told t = rw (long, t) (seventh _ (sum-tests f c 0 n) (first_index (stray f) l) (sum_accepted f c (summand_of 0) l) e)
 
--- the summand 3 is the dot's
-module _ (f : Format) (c : Settings) (u n : ℕ) (e : sum_numbers f c u n ≡ 0) where
-  pub summand-le : u ≤ 2
-  unfolding sum_numbers
-  summand-le =
-      let t = valid-of (valid_settings f c && leb u 2) 3 _ (first-zero (not (valid_format f)) 2 _ e).1 in
-      leb→le u 2 (and_right (valid_settings f c) (leb u 2) t)
-
-  no-dot : eqb u 3 ≡ false
-  no-dot = ne_eqb u 3 (λ z. omega (arith, z, summand-le))
-
-  pub sum-asked : numbers_in (eqb u 3) f c u n ≡ 0
-  sum-asked = rw no-dot e
-
-  pub sum_told : (x y : List ℕ) → answer_to (eqb u 3) f c u x y ≡ sum_answer f c u x
-  sum_told x y = rw no-dot
-
 -- ---- a dot
 
 dot-tests : (f : Format) (c : Settings) (n m : ℕ)
@@ -124,30 +102,46 @@ module _ (f : Format) (c : Settings) (n m : ℕ) where
       let b = (first-zero (not (valid_settings f c)) 3 _ a).1 in
       sym (eqb→eq n m (valid-of (eqb n m) 4 _ b))
 
--- ---- a walk over lists of n elements
+-- ---- by whether an element has a stray bit
 
-module _ (f : Format) (c : Settings) (u : ℕ) {n : ℕ} (x y : List ℕ) (left : length x ≡ n) (right : length y ≡ n) where
-  pub strayed : (b : Bool) → numbers_in b f c u n ≡ 0 → (r : Option ℕ) (i : ℕ) → FoundOn b r f.W x y → r ≡ Some i → refused 7 i ≡ answer_to b f c u x y
-  unfolding sum_numbers sum_answer sum_refusal dot_numbers dot_answer dot_refusal dot_place
-  strayed true e r i found is =
-      let (t, at) = says_at _ _ r found i is in
-      rw (left, right, t, sym at) (seventh _ (dot-tests f c n n) _ (dot_accepted f c (pairs x y)) e)
-  strayed false e r i found is =
-      let (t, at) = says_at _ _ r found i is in
-      rw (left, t, sym at) (seventh _ (sum-tests f c u n) _ (sum_accepted f c (summand_of u) x) e)
+module _ (f : Format) (c : Settings) (u : ℕ) (l : List ℕ) (e : sum_numbers f c u (length l) ≡ 0) where
+  pub sum-format : FormatBounds f
+  unfolding sum_numbers
+  sum-format = format-bounds f (valid-of (valid_format f) 2 _ e)
 
-  pub unrefused : (b : Bool) → numbers_in b f c u n ≡ 0 → (r : Option ℕ) → FoundOn b r f.W x y → r ≡ None → Accepted false b f c u x y
-  unfolding sum_numbers sum_refusal dot_numbers dot_refusal
-  unrefused true e r found is = rw (left, right, says_nothing _ _ r found is) e
-  unrefused false e r found is = rw (left, says_nothing _ _ r found is) e
+  pub sum-strayed : any (stray f) l ≡ true → refused 7 (first_index (stray f) l) ≡ sum_answer f c u l
+  unfolding sum_numbers sum_answer sum_refusal
+  sum-strayed t = rw t (seventh _ (sum-tests f c u (length l)) (first_index (stray f) l) (sum_accepted f c (summand_of u) l) e)
 
-pub walk-format : (b : Bool) (f : Format) (c : Settings) (u n : ℕ) → numbers_in b f c u n ≡ 0 → FormatBounds f
-unfolding sum_numbers dot_numbers
-walk-format true f c u n e = format-bounds f (valid-of (valid_format f) 2 _ e)
-walk-format false f c u n e = format-bounds f (valid-of (valid_format f) 2 _ e)
+  pub sum-unstrayed : any (stray f) l ≡ false → sum_refusal f c u l ≡ 0
+  unfolding sum_numbers sum_refusal
+  sum-unstrayed t = rw t e
 
-pub accepted-is : (b : Bool) (f : Format) (c : Settings) (u : ℕ) (x y : List ℕ) → Accepted false b f c u x y
-    → answer_in false b f c (summand_of u) x y ≡ answer_to b f c u x y
-unfolding sum_answer dot_answer
-accepted-is true f c u x y e = rw e
-accepted-is false f c u x y e = rw e
+  pub sum-told : any (stray f) l ≡ false → sum_accepted f c (summand_of u) l ≡ sum_answer f c u l
+  unfolding sum_answer
+  sum-told t = rw (sum-unstrayed t)
+
+module _ (f : Format) (c : Settings) (x y : List ℕ) (e : dot_numbers f c (length x) (length y) ≡ 0) where
+  pub dot-format : FormatBounds f
+  unfolding dot_numbers
+  dot-format = format-bounds f (valid-of (valid_format f) 2 _ e)
+
+  dot-seventh : (any (stray f) x || any (stray f) y) ≡ true → refused 7 (dot_place f x y) ≡ dot_answer f c x y
+  unfolding dot_numbers dot_answer dot_refusal
+  dot-seventh t = rw t (seventh _ (dot-tests f c (length x) (length y)) (dot_place f x y) (dot_accepted f c (pairs x y)) e)
+
+  pub dot-strayed-left : any (stray f) x ≡ true → refused 7 (first_index (stray f) x) ≡ dot_answer f c x y
+  unfolding dot_place
+  dot-strayed-left t = rw t at (dot-seventh (rw t refl))
+
+  pub dot-strayed-right : any (stray f) x ≡ false → any (stray f) y ≡ true → refused 7 (first_index (stray f) y) ≡ dot_answer f c x y
+  unfolding dot_place
+  dot-strayed-right n t = rw n at (dot-seventh (rw (n, t) refl))
+
+  pub dot-unstrayed : any (stray f) x ≡ false → any (stray f) y ≡ false → dot_refusal f c x y ≡ 0
+  unfolding dot_numbers dot_refusal
+  dot-unstrayed n t = rw (n, t) e
+
+  pub dot-told : any (stray f) x ≡ false → any (stray f) y ≡ false → dot_accepted f c (pairs x y) ≡ dot_answer f c x y
+  unfolding dot_answer
+  dot-told n t = rw (dot-unstrayed n t)

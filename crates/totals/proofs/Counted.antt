@@ -17,9 +17,9 @@ use Rattle.totals_spec.specs.Settings.{no_settings, value, ties_to_away}
 use Rattle.totals_spec.specs.Terms.{top_of}
 use Rattle.totals_spec.specs.Chain.{Run}
 use Rattle.totals_spec.specs.Round.{dropped, rounds_up}
-use Rattle.totals_spec.specs.Totals.{limit, sum_terms}
+use Rattle.totals_spec.specs.Totals.{limit, stray, first_index, sum_terms}
 use Rattle.totals_spec.specs.Settled.{settled}
-use Rattle.totals_spec.specs.Pence.{refused_pence, in_range, not_number, sum_pence}
+use Rattle.totals_spec.specs.Pence.{refused_pence, refused_at, in_range, not_number, sum_pence}
 use Rattle.totals_spec.specs.Pence as spec
 use Rattle.totals_spec.specs.Words.{misnamed, format_by, pence_entry}
 use Rattle.totals_spec.specs.Hundredfold.{hundred_terms, whole_figure}
@@ -39,7 +39,7 @@ use Rattle.scan.specs.Joined.{Scanned}
 use Rattle.reduction.specs.Held.{Sums}
 use Rattle.totals.specs.declared.pence.Pence.{Pence}
 use Rattle.totals.specs.Entered.{EntersFigure}
-use Rattle.totals.specs.PenceRecord.{pence_record, list_figure, list_pence, Countable}
+use Rattle.totals.specs.PenceRecord.{pence_record, list_figure, Countable}
 
 -- what is left of a sum of which 64 digits are decided
 pub left-countable : (x : Signed) (v : Unrounded) → LeftOf 64 x v → 0 < significand_of v → Countable v
@@ -122,9 +122,14 @@ module _ (f : Format) (l : List ℕ) where
     unfolding sum_pence
     too_many h = rw (valid, lt-ltb limit (length l) h)
 
-    pub list-pence : length l ≤ limit → list_pence f l ≡ sum_pence f l
-    unfolding sum_pence
-    list-pence few = rw (valid, le-ltb limit (length l) few)
+    module _ (few : length l ≤ limit) where
+      pub pence-strayed : any (stray f) l ≡ true → refused_at 7 (first_index (stray f) l) ≡ sum_pence f l
+      unfolding sum_pence
+      pence-strayed e = rw (valid, le-ltb limit (length l) few, e)
+
+      pub pence-unstrayed : any (stray f) l ≡ false → list_figure f l ≡ sum_pence f l
+      unfolding sum_pence
+      pence-unstrayed e = rw (valid, le-ltb limit (length l) few, e)
 
 -- ---- and its entry
 

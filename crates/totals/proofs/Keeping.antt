@@ -1,99 +1,81 @@
--- What the walk of a plain sum keeps, by its scan and the end of its chain.
-use mathlib.Core.Path.{◌≡◌, refl, sym, ap, ap₂, ◌∙◌, subst}
-use mathlib.Core.Logic.{◌≢◌}
-use mathlib.Core.Bool.{true, false, ◌||◌, true≢false}
-use mathlib.Core.List.{List, [], ◌∷◌, map}
-use Prim.Native.Nat.{ℕ, ◌<◌}
-use native.Mathlib.Omega.{arith}
-use lib.Dec.{eqb}
-use lib.ListN.{length}
-use borrow.Author.Tests.{ne_eqb}
+-- What is kept of a plain sum, and the pence of a list, by the scan of its values.
+use Rattle.std.proofs.Common.{◌≡◌, ◌≢◌, refl, sym, ap, ◌∙◌, subst, ℕ, true, false, List, [], ◌∷◌, map, length, ◌+◌, ◌^◌, ◌<◌, ◌≤◌, arith, true≢false}
 use Rattle.std.specs.Prelude.{Option, Some, None, is_some}
 use Rattle.totals_spec.specs.Basics.{any}
-use Rattle.totals_spec.specs.Format.{Format, digits}
-use Rattle.totals_spec.specs.Settings.{Settings, value, summand_of}
-use Rattle.totals_spec.specs.Decode.{Unpacked, zero_of, finite, infinity, nan, operand}
-use Rattle.totals_spec.specs.Terms.{Term, item, item_of, terms, is_invalid, top_of}
-use Rattle.totals_spec.specs.Chain.{Run, chain}
-use Rattle.totals_spec.specs.Settled.{settled}
-use Rattle.totals_spec.specs.Totals.{Answer, reported, sum_terms}
+use Rattle.totals_spec.specs.Format as spec
+use Rattle.totals_spec.specs.Settings.{Settings, value, no_settings}
+use Rattle.totals_spec.specs.Terms.{Term, item, terms, top_of}
+use Rattle.totals_spec.specs.Totals.{limit, sum_terms}
 use Rattle.totals_spec.specs.Pence.{not_number}
-use Rattle.totals_spec.proofs.Order.{or_split}
 use Rattle.totals_spec.proofs.SumPence.{odd-items}
-use Rattle.values.specs.Walks.{wide, added_by}
-use Rattle.exact.specs.declared.Unrounded.{Unrounded}
+use Rattle.totals_spec.proofs.Tops.{sum_top}
+use Rattle.format.specs.declared.layout.Layout.{Layout}
+use Rattle.format.specs.Layouts.{layout_of}
+use Rattle.format.proofs.Layouts.{layout_bounds}
 use Rattle.scan.specs.declared.Scan.{Scan}
-use Rattle.scan.specs.declared.Given.{Given}
-use Rattle.scan.specs.Joined.{Scanned, terms_in, leaves_terms}
+use Rattle.scan.specs.Joined.{Scanned}
+use Rattle.scan.specs.Encodings.{of_layout, item_in, ScannedAs}
 use Rattle.window.specs.declared.ExactSum.{ExactSum}
-use Rattle.window.specs.Joined.{outcome_of, run_of, LeftOf}
-use Rattle.reduction.specs.Held.{Sums}
-use Rattle.reduction.specs.Answered.{last_edge_of, products_in, first_in}
-use Rattle.totals.specs.declared.report.Report.{Report}
-use Rattle.totals.specs.Kept.{Seen, walked_of, Ends, Keeps}
-use Rattle.totals.specs.Reported.{DecidesBy, EndTells, odd}
+use Rattle.reduction.specs.Held.{Base, Sums}
+use Rattle.reduction.proofs.Items.{sum-summable}
+use Rattle.reduction.proofs.Loop.{summable-base, top_small}
+use Rattle.totals.specs.declared.lists.Kept.{Kept}
+use Rattle.totals.specs.Kept.{met, KeepsSum, Keeps}
 
--- a value is no invalid product
-none-invalid : (f : Format) (c : Settings) (l : List ℕ) → any is_invalid (map (item f c value) l) ≡ false
-unfolding item
-none-invalid f c [] = refl
-none-invalid f c (b ∷ l) = ap₂ ◌||◌ (each (operand f c b)) (none-invalid f c l)
-  where
-    each : (x : Unpacked) → is_invalid (item_of value x) ≡ false
-    each (zero_of s) = refl
-    each (finite s k m) = refl
-    each (infinity s) = refl
-    each (nan s g m) = refl
+-- ---- what is kept, by whether there is a sum
 
-is-terms : (e : Option Given) → leaves_terms e ≡ true → e ≡ None
-is-terms (Some v) q = absurd (true≢false (sym q))
-is-terms None q = refl
+module _ (f : spec.Format) (c : Settings) (l : List ℕ) (k : Kept) (h : Keeps f c l k) where
+  pub kept-sum : (e : ExactSum) → k.sum ≡ Some e → (met k.scan ≡ false) × (0 < length (sum_terms f c value l)) × Sums (spec.digits f) (sum_terms f c value l) e
+  kept-sum e is = subst (λ (o : Option ExactSum). KeepsSum o (met k.scan) (spec.digits f) (sum_terms f c value l)) is h.sum
+
+  pub kept-none : k.sum ≡ None → met k.scan ≡ false → sum_terms f c value l ≡ []
+  kept-none is = subst (λ (o : Option ExactSum). KeepsSum o (met k.scan) (spec.digits f) (sum_terms f c value l)) is h.sum
+
+-- ---- what is to be kept, by the scan
 
 some-term : (ts : List Term) (n : ℕ) → n ≡ top_of ts → n ≢ 0 → 0 < length ts
 unfolding top_of
 some-term [] n e h = absurd (h e)
 some-term (x ∷ ts) n e h = omega arith
 
-module _ (f : Format) (c : Settings) (l : List ℕ) (s : Scan) (g : Scanned f c value l s) (report : Report) (rest : Unrounded) where
-  odd_is : any (not_number f) l ≡ odd s
-  odd_is = odd-items f c l ∙ sym (rw (g.some, g.positive-infinity, g.negative-infinity))
+module _ (l : Layout) (c : Settings) (xs : List ℕ) (s : Scan) (g : ScannedAs (of_layout l) c value xs s) where
+  abbrev f : spec.Format
+  f = layout_of l
 
-  module _ (e : odd s ≡ false) (h : s.top ≢ 0) where
-    leaves : terms_in s ≡ true
-    leaves =
-        let x = or_split (is_some s.nan) _ e in
-        let y = or_split s.positive_infinity s.negative_infinity x.1 in
-        rw (x.0, g.invalid ∙ none-invalid f c l, y.0, y.1, ne_eqb s.top 0 h)
+  pub scanned : Scanned f c value xs s
+  unfolding item
+  scanned = g
 
-  keeping : (d : Option Given) → leaves_terms d ≡ terms_in s → (d ≡ None → Ends f (sum_terms f c value l) (walked_of s report rest)) → Keeps f c l (walked_of s report rest)
-  keeping d k ends = record {
-    subnormal = g.subnormal;
-    positive-zero = g.positive-zero;
-    negative-zero = g.negative-zero;
-    special = odd_is;
-    none = g.no-term;
-    ends = λ e h. ends (is-terms d (k ∙ leaves e h));
+  -- there is room above T for seven bits more
+  pub top-room : s.top + 7 < 2 ^ 64
+  top-room = omega (arith, top_small f {t = s.top + 7} (layout_bounds l).range (omega (arith, scanned.top, sum_top f c value xs)))
+
+  special-is : any (not_number f) xs ≡ met s
+  special-is = odd-items f c xs ∙ sym (rw (scanned.some, scanned.positive-infinity, scanned.negative-infinity))
+
+  keeping : (sum : Option ExactSum) → KeepsSum sum (met s) (spec.digits f) (sum_terms f c value xs) → Keeps f c xs (record { scan = s; sum = sum })
+  keeping sum k = record {
+    subnormal = scanned.subnormal;
+    positive-zero = scanned.positive-zero;
+    negative-zero = scanned.negative-zero;
+    special = special-is;
+    sum = k;
   }
 
--- of the walk over one list, or two, whose summand is 0
-module _ (f : Format) (c : Settings) (u : ℕ) (x y : List ℕ) (z : u ≡ 0) (n : wide f ≡ false) (s : Scan) (seen : Seen (eqb u 4) f c u x y s) where
-  scanned : Scanned f c value x s
-  scanned = rw (n, z) at seen
+  pub keeps-special : met s ≡ true → Keeps f c xs (record { scan = s; sum = None })
+  keeps-special e = keeping None (λ n. absurd (true≢false (sym e ∙ n)))
 
-  pub keeps : (report : Report) (rest : Unrounded) (d : Option Given) → DecidesBy (eqb u 4) d c (first_in u) s
-      → (d ≡ None → Ends f (sum_terms f c value x) (walked_of s report rest)) → Keeps f c x (walked_of s report rest)
-  keeps report rest d k ends = let q : DecidesBy false d c (first_in 0) s = rw z at k in keeping f c x s scanned report rest d q.1 ends
+  pub keeps-none : s.top ≡ 0 → Keeps f c xs (record { scan = s; sum = None })
+  keeps-none z = keeping None (λ n. scanned.no-term z)
 
-  pub chain-ends : (e : ExactSum) (v : Unrounded) (r : Report) (p : ℕ) → p ≡ digits f
-      → Sums p (terms (added_by (wide f) (eqb u 3) (eqb u 4) f c (summand_of u) x y)) e → LeftOf p (settled (outcome_of e)) v
-      → EndTells (eqb u 4) f c (products_in u) s.subnormal e r → s.top ≢ 0 → Ends f (sum_terms f c value x) (walked_of s r v)
-  unfolding reported
-  chain-ends e v r p is m l t top =
-      let run : run_of e ≡ chain (digits f) (sum_terms f c value x) = rw (n, z, is) at m.run in
-      let told : EndTells false f c false s.subnormal e r = rw z at t in
-      record {
-        some = some-term _ s.top scanned.top top;
-        left = subst (λ (h : Run). LeftOf (digits f) (settled h.outcome) v) run (rw is at l);
-        passes = ap (λ (a : Answer). a.passes) told ∙ ap (λ (h : Run). h.passes) run;
-        edge = ap (λ (a : Answer). a.last_edge) told ∙ ap (λ (h : Run). last_edge_of f false h.edge) run;
-      }
+  module _ (some : s.top ≢ 0) where
+    pub exact-asks : length xs ≤ limit → {p : ℕ} → p ≡ spec.digits f
+        → Base p (terms (map (item_in (of_layout l) c value) xs)) × (s.top ≡ top_of (terms (map (item_in (of_layout l) c value) xs)))
+    exact-asks n {p} e =
+        let b = (layout_bounds l).range in
+        (summable-base {p = p} (omega (arith, b.w-ge, b.p-le, e)) f b _ (sum-summable l c value xs n) (omega (arith, g.top, some)), g.top)
+
+    pub keeps-sum : met s ≡ false → (e : ExactSum) → Sums (spec.digits f) (terms (map (item_in (of_layout l) c value) xs)) e
+        → Keeps f c xs (record { scan = s; sum = Some e })
+    unfolding item
+    keeps-sum n e m = keeping (Some e) (n, some-term _ s.top scanned.top some, m)

@@ -5,7 +5,6 @@ mod Refusals
 pub mod Figures
 mod Counted
 mod Totalled
-mod Listed
 mod Keeping
 mod Targets
 mod Columns

@@ -1,9 +1,13 @@
 -- Refusals by their numbers, and rows of tests by their parts.
-use Rattle.std.proofs.Common.{◌≡◌, ◌≢◌, refl, sym, ℕ, Bool, true, false, not, ◌&&◌, eqb, leb, ltb, arith}
+use Rattle.std.proofs.Common.{◌≡◌, ◌≢◌, ◌<◌, ◌≤◌, refl, sym, ℕ, Bool, true, false, not, ◌&&◌, eqb, leb, ltb, arith, le-leb}
+use borrow.Author.Tests.{lt-leb}
 use Rattle.totals_spec.specs.Format.{Format, valid_format}
-use Rattle.totals_spec.specs.Settings.{Settings, valid_settings}
+use Rattle.totals_spec.specs.Settings.{Settings, summand_of, valid_settings}
 use Rattle.totals_spec.specs.Totals.{limit, refuse_if}
-use Rattle.totals.specs.Refusal.{number_of, place_of, first_numbers, list_numbers, pair_numbers, sum_numbers, dot_numbers}
+use Rattle.totals.specs.Refusal.{number_of, place_of, first_numbers, few_number, sum_numbers, dot_numbers}
+use Rattle.arithmetic.specs.declared.summand.Summand.{Summand}
+use Rattle.arithmetic.specs.declared.summand.Summand.TheVariants.{Value, Magnitude, Square}
+use Rattle.arithmetic.specs.Summands.{summand_in, summand_number}
 use Rattle.totals.specs.declared.refusal.Refusal.{Refusal}
 use Rattle.totals.specs.declared.refusal.Refusal.TheVariants.{UnevenLength, ShortBuffer, NoSuchFormat, SettingOutOfRange, DifferentLengths}
 use Rattle.totals.specs.declared.refusal.Refusal.TheVariants.{TooManyElements, StrayBit, NoPence, BadShape, NoRoom, BadAmount, NotAPage, BadSpan}
@@ -68,16 +72,34 @@ pub and-true : (b : Bool) → (b && true) ≡ b
 and-true true = refl
 and-true false = refl
 
--- ---- sums and dots by their two parts
+-- once these are passed, the tests of a sum: its summand, whether it is in range, and whether the list is too long
+module _ (a b : Bool) (passed : 0 ≡ first-two a b) (t l : Bool) where
+  abbrev sum-row : ℕ
+  sum-row = refuse_if (not a) 3 (refuse_if (not (b && t)) 4 (refuse_if l 6 0))
+
+  pub row-summand : t ≡ false → 4 ≡ sum-row
+  row-summand e = let (x, y) = first-passed a b (sym passed) in rw (x, y, e) refl
+
+  pub row-few : t ≡ true → refuse_if l 6 0 ≡ sum-row
+  row-few e = let (x, y) = first-passed a b (sym passed) in rw (x, y, e) refl
+
+-- and of a dot: whether its lists are alike
+module _ (a b : Bool) (passed : 0 ≡ first-two a b) (t l : Bool) where
+  abbrev dot-row : ℕ
+  dot-row = refuse_if (not a) 3 (refuse_if (not b) 4 (refuse_if (not t) 5 (refuse_if l 6 0)))
+
+  pub row-unlike : t ≡ false → 5 ≡ dot-row
+  row-unlike e = let (x, y) = first-passed a b (sym passed) in rw (x, y, e) refl
+
+  pub row-alike : t ≡ true → refuse_if l 6 0 ≡ dot-row
+  row-alike e = let (x, y) = first-passed a b (sym passed) in rw (x, y, e) refl
+
+-- ---- sums and dots of words
 
 module _ (f : Format) (c : Settings) where
   pub sum-first : (e : Refusal) → number_of e ≡ first_numbers (valid_format f) f c → (u n : ℕ) → number_of e ≡ sum_numbers f c u n
   unfolding sum_numbers
   sum-first e h u n = first-told (valid_format f) (valid_settings f c) (number_of e) (number-some e) h (leb u 2) (refuse_if (ltb limit n) 6 0)
-
-  pub sum-next : 0 ≡ first_numbers (valid_format f) f c → (u n : ℕ) → list_numbers (leb u 2) n ≡ sum_numbers f c u n
-  unfolding sum_numbers
-  sum-next h u n = let (a, b) = first-passed (valid_format f) (valid_settings f c) (sym h) in rw (a, b)
 
   pub dot-first : (e : Refusal) → number_of e ≡ first_numbers (valid_format f) f c → (n m : ℕ) → number_of e ≡ dot_numbers f c n m
   unfolding dot_numbers
@@ -85,6 +107,30 @@ module _ (f : Format) (c : Settings) where
       rw (and-true (valid_settings f c)) at
       (first-told (valid_format f) (valid_settings f c) (number_of e) (number-some e) h true (refuse_if (not (eqb n m)) 5 (refuse_if (ltb limit n) 6 0)))
 
-  pub dot-next : 0 ≡ first_numbers (valid_format f) f c → (n m : ℕ) → pair_numbers n m ≡ dot_numbers f c n m
-  unfolding dot_numbers
-  dot-next h n m = let (a, b) = first-passed (valid_format f) (valid_settings f c) (sym h) in rw (a, b)
+  module _ (passed : 0 ≡ first_numbers (valid_format f) f c) where
+    pub sum-summand : (u n : ℕ) → 2 < u → 4 ≡ sum_numbers f c u n
+    unfolding sum_numbers
+    sum-summand u n h = row-summand (valid_format f) (valid_settings f c) passed (leb u 2) (ltb limit n) (lt-leb u 2 h)
+
+    pub sum-few : (u n : ℕ) → u ≤ 2 → few_number n ≡ sum_numbers f c u n
+    unfolding sum_numbers
+    sum-few u n h = row-few (valid_format f) (valid_settings f c) passed (leb u 2) (ltb limit n) (le-leb u 2 h)
+
+    pub dot-unlike : (n m : ℕ) → eqb n m ≡ false → 5 ≡ dot_numbers f c n m
+    unfolding dot_numbers
+    dot-unlike n m h = row-unlike (valid_format f) (valid_settings f c) passed (eqb n m) (ltb limit n) h
+
+    pub dot-few : (n m : ℕ) → eqb n m ≡ true → few_number n ≡ dot_numbers f c n m
+    unfolding dot_numbers
+    dot-few n m h = row-alike (valid_format f) (valid_settings f c) passed (eqb n m) (ltb limit n) h
+
+-- a summand's number
+pub summand-le : (u : Summand) → summand_number u ≤ 2
+summand-le Value = omega arith
+summand-le Magnitude = omega arith
+summand-le Square = omega arith
+
+pub summand-is : (u : Summand) → summand_of (summand_number u) ≡ summand_in u
+summand-is Value = refl
+summand-is Magnitude = refl
+summand-is Square = refl

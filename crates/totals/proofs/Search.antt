@@ -12,7 +12,7 @@ use Rattle.totals_spec.specs.Basics.{any}
 use Rattle.totals_spec.specs.Totals.{first_index}
 use borrow.Author.Tests.{le-leb, lt-leb}
 use Rattle.totals_spec.proofs.Order.{or_split}
-use Rattle.totals.specs.Stray.{stray_at, Says, FoundIn}
+use Rattle.totals.specs.Stray.{stray_at, FoundIn}
 use Rattle.std.specs.Prelude.{Option, Some, None}
 pub use Rattle.totals_spec.proofs.Walk.{none-next, none-all, first_some}
 
@@ -56,15 +56,6 @@ clear-end {w} {l} {i} k h = none-all (stray_at w) l i (omega arith) k.none
 -- a width of a whole word or more leaves no room for one
 pub word_wide : (w : ℕ) (l : List ℕ) → 64 ≤ w → ((k : ℕ) → get_or l k 0 < 18446744073709551616) → FoundIn None w l
 word_wide w l e = none_below (stray_at w) _ l (λ x h. lt-leb (2 ^ w) x (omega (arith, h, pow_mono {j = w} e)))
-
--- ---- what a search says
-
-module _ (some : Bool) (first : ℕ) (r : Option ℕ) (found : Says r some first) where
-  pub says_at : (i : ℕ) → r ≡ Some i → (some ≡ true) × (first ≡ i)
-  says_at i is = subst (λ (x : Option ℕ). Says x some first) is found
-
-  pub says_nothing : r ≡ None → some ≡ false
-  says_nothing is = subst (λ (x : Option ℕ). Says x some first) is found
 
 -- 2^64 − 1 without its lowest 64 − w bits
 pub ones-shifted : (w : ℕ) → w ≤ 64 → 18446744073709551615 / 2 ^ (64 - w) + 1 ≡ 2 ^ w

@@ -7,7 +7,7 @@ use Prim.Native.Nat.{ℕ, ◌<◌, ◌≤◌}
 use native.Mathlib.Omega.{arith}
 use lib.Dec.{T, leb, ltb}
 use lib.ListN.{length}
-use borrow.Author.Tests.{le-leb, lt-ltb, le-ltb}
+use borrow.Author.Tests.{le-leb, lt-leb, lt-ltb, le-ltb}
 use Rattle.totals_spec.specs.Basics.{any}
 use Rattle.totals_spec.specs.Format.{Format, valid_format, digits}
 use Rattle.totals_spec.specs.Settings.{Settings, valid_settings, value}
@@ -22,15 +22,12 @@ use Rattle.further_spec.specs.Several.{reading_with, rounded_into, printed, prin
 use Rattle.totals_spec.proofs.Valid.{and_left, and_right, format-bounds, settings-bounds}
 use Rattle.totals_spec.proofs.Passes.{valid-of}
 use Rattle.totals_spec.proofs.Order.{first-zero}
-use Rattle.totals_spec.proofs.Refused.{sum-refusal}
 use Rattle.further_spec.proofs.Several.{target-by-chain, target-exact}
-use Rattle.totals.specs.declared.report.Report.{Report}
 use Rattle.totals.specs.declared.refusal.Refusal.{Refusal}
-use Rattle.totals.specs.Refusal.{number_of, place_of, first_numbers, list_numbers, sum_numbers}
-use Rattle.totals.specs.Reported.{answer_in}
+use Rattle.totals.specs.Refusal.{number_of, place_of, first_numbers, few_number, sum_numbers}
 use Rattle.totals.specs.Targets.{target_numbers}
-use Rattle.totals.proofs.Refusals.{number-some, first-passed, and-true}
-use Rattle.totals.proofs.Answers.{Tests, no_test, test, stopped, seventh, stray-number, stray-told}
+use Rattle.totals.proofs.Refusals.{number-some, first-passed}
+use Rattle.totals.proofs.Answers.{Tests, no_test, test, stopped, seventh}
 
 T_true : (b : Bool) → T b → b ≡ true
 T_true true h = refl
@@ -67,10 +64,15 @@ module _ (f : Format) (d n : ℕ) (t : Format) (c : Settings) where
       go true false false q = q
       go false b o q = q
 
-  pub target-next : 0 ≡ first_numbers (valid_format f && valid_format t) t c → list_numbers (leb d 1) n ≡ target_numbers f d n t c
-  unfolding target_numbers
-  target-next h =
-      let (a, b) = first-passed (valid_format f && valid_format t) (valid_settings t c) (sym h) in rw (a, b, and-true (leb d 1))
+  module _ (passed : 0 ≡ first_numbers (valid_format f && valid_format t) t c) where
+    pub target-setting : 1 < d → 4 ≡ target_numbers f d n t c
+    unfolding target_numbers
+    target-setting h =
+        let (a, b) = first-passed (valid_format f && valid_format t) (valid_settings t c) (sym passed) in rw (a, b, lt-leb d 1 h) refl
+
+    pub target-few : d ≤ 1 → few_number n ≡ target_numbers f d n t c
+    unfolding target_numbers
+    target-few h = let (a, b) = first-passed (valid_format f && valid_format t) (valid_settings t c) (sym passed) in rw (a, b, le-leb d 1 h) refl
 
   pub target-valid : target_numbers f d n t c ≡ 0 → TargetValid f d n t c
   unfolding target_numbers sum_numbers
@@ -93,30 +95,9 @@ module _ (f : Format) (d : ℕ) (l : List ℕ) (t : Format) (c : Settings) {n : 
   unfolding target_numbers target_answer target_refusal
   target-stopped e q = rw long (stopped _ (target-tests f d n t c) (first_index (stray f) l) _ e q _)
 
-  module _ (e : target_numbers f d n t c ≡ 0) (r : Report) (told : answer_in false r ≡ sum_answer f (reading_with d) 0 l) where
-    numbers : sum_numbers f (reading_with d) 0 n ≡ 0
-    numbers = (target-valid f d n t c e).numbers
-
-    number : r.refusal ≡ refuse_if (any (stray f) l) 7 0
-    number = ap (λ (a : Answer). a.refusal) told ∙ sum-refusal f (reading_with d) 0 l ∙ stray-number f (reading_with d) l long numbers
-
-    pub target-strayed : r.refusal ≢ 0 → refused r.refusal r.place ≡ target_answer f d l t c
-    unfolding target_numbers target_answer target_refusal
-    target-strayed h = go (any (stray f) l) refl
-      where
-        go : (b : Bool) → any (stray f) l ≡ b → refused r.refusal r.place ≡ target_answer f d l t c
-        go true some =
-            let same = told ∙ sym (stray-told f (reading_with d) l long numbers some) in
-            ap (λ (a : Answer). refused a.refusal a.place) same
-            ∙ rw (long, some) (seventh _ (target-tests f d n t c) (first_index (stray f) l) _ e)
-        go false none = absurd (h (number ∙ ap (λ (b : Bool). refuse_if b 7 0) none))
-
-    pub target-unstrayed : r.refusal ≡ 0 → any (stray f) l ≡ false
-    target-unstrayed z = go (any (stray f) l) refl
-      where
-        go : (b : Bool) → any (stray f) l ≡ b → any (stray f) l ≡ false
-        go true some = let k : ◌≡◌ {A = ℕ} 0 7 = sym z ∙ number ∙ ap (λ (b : Bool). refuse_if b 7 0) some in absurd (omega (arith, k))
-        go false none = none
+  pub target-strayed : target_numbers f d n t c ≡ 0 → any (stray f) l ≡ true → refused 7 (first_index (stray f) l) ≡ target_answer f d l t c
+  unfolding target_numbers target_answer target_refusal
+  target-strayed e some = rw (long, some) (seventh _ (target-tests f d n t c) (first_index (stray f) l) _ e)
 
 -- ---- a list of which all is known but its values
 

@@ -9,114 +9,110 @@ use lib.Dec.{eqb, leb, ltb}
 use lib.IntN.{ℤ}
 use lib.ListN.{length, drop}
 use lib.Seq.{drop-drop}
-use borrow.Author.Tests.{eq-eqb, ne_eqb, eqb-true, lt-ltb, le-ltb}
+use borrow.Author.Tests.{eq-eqb, ne_eqb, lt-ltb, le-ltb, le-leb, lt-leb}
 use Rattle.totals_spec.specs.Basics.{any}
 use Rattle.totals_spec.specs.Alone.{Alone}
 use Rattle.totals_spec.specs.Decode.{Unpacked}
 use Rattle.totals_spec.specs.Format.{Format, kind_of}
 use Rattle.totals_spec.specs.Settings.{Settings, Summand, summand_of, valid_settings}
 use Rattle.totals_spec.specs.Nan.{default_nan_of}
-use Rattle.totals_spec.specs.Totals.{Answer, limit, refuse_if, special}
-use Rattle.totals_spec.specs.Bytes.{to_bytes, wide_from, sum_entry, dot_entry}
+use Rattle.totals_spec.specs.Totals.{Answer, limit, refuse_if, special, pairs}
+use Rattle.totals_spec.specs.Bytes.{to_bytes, sum_entry, dot_entry}
 use Rattle.totals_spec.specs.Halves.{joined}
-use Rattle.totals_spec.specs.Extended.{extended, kind4, valid_extended, unsupported, subnormal_extended, with_spread, tens_in}
+use Rattle.totals_spec.specs.Extended.{extended, kind4, valid_extended, unsupported, subnormal_extended, with_spread, tens_in, both_of, extended_item, extended_pair}
 use Rattle.totals_spec.specs.Extended.{extended_sum, extended_sum_refusal, extended_sum_answer, extended_dot, extended_dot_refusal, extended_dot_answer}
 use Rattle.totals_spec.specs.Extended.{extended_written, extended_entered, extended_sum_entry, extended_dot_entry, sum_call, dot_call}
 use Rattle.totals_spec.proofs.Order.{first-zero}
-use Rattle.totals_spec.proofs.Extended.{extended-sum-refusal, extended-dot-refusal, extended-sum-accepts, extended_fits}
-use Rattle.totals_spec.proofs.ExtendedCalls.{tens-values, sum-extended, dot-extended, other-kinds}
-use Rattle.totals_spec.proofs.ExtendedTerms.{both-any}
-use Rattle.totals_spec.proofs.Halves.{four-words, unsupported-record}
-use Rattle.totals_spec.proofs.Values.{values_length}
+use Rattle.totals_spec.proofs.Extended.{extended-sum-refusal, extended-dot-refusal, extended_fits}
+use Rattle.totals_spec.proofs.ExtendedCalls.{sum-extended, dot-extended, other-kinds}
+use Rattle.totals_spec.proofs.ExtendedTerms.{any-both}
+use Rattle.totals_spec.proofs.Halves.{four-words, unsupported-record, supported-record}
 use Rattle.totals_spec.proofs.Encodable.{default-encodes}
 use Rattle.format.specs.Fits.{Encodes}
 use Rattle.values.specs.Laid.{laid}
-use Rattle.values.specs.declared.Source.{Source}
-use Rattle.values.specs.Sources.{source_of, Within}
-use Rattle.values.specs.Tens.{all_tens}
-use Rattle.values.specs.Walks.{wide, Known, TensThere, read_as}
+use Rattle.scan.specs.Encodings.{of_tens, signaling_in}
 use Rattle.reduction.specs.declared.total.Wide.{Wide}
-use Rattle.reduction.specs.Answered as total
-use Rattle.reduction.specs.Answered.{answer_as, given_as, tens_refusal}
-use Rattle.totals.specs.declared.report.Report.{Report}
-use Rattle.totals.specs.Reported.{answer_in, ListAsks, ListTells}
+use Rattle.reduction.specs.Answered.{wide, Known, answer_as, given_as}
 use Rattle.totals.specs.declared.refusal.Refusal.{Refusal}
-use Rattle.totals.specs.Refusal.{number_of, first_numbers, list_numbers, pair_numbers}
+use Rattle.totals.specs.Refusal.{number_of, first_numbers, few_number}
+use Rattle.totals.specs.Walked.{sum_in, dot_in}
 use Rattle.totals.specs.Entered.{Enters, FitsTens, format_with}
-use Rattle.totals.proofs.Refusals.{number-some, first-told, first-passed, and-true}
+use Rattle.totals.proofs.Refusals.{number-some, first-told, and-true, row-summand, row-few, row-unlike, row-alike}
 
 -- ---- refusals
 
 module _ (f : Format) (c : Settings) where
-  pub sum_first : (e : Refusal) → number_of e ≡ first_numbers (valid_extended f) extended c → (u : ℕ) (bytes : List ℕ)
-      → number_of e ≡ extended_sum_refusal f c u (tens_in bytes)
+  pub sum_first : (e : Refusal) → number_of e ≡ first_numbers (valid_extended f) extended c → (u : ℕ) (l : List ℕ) → number_of e ≡ extended_sum_refusal f c u l
   unfolding extended_sum_refusal
-  sum_first e h u bytes = first-told (valid_extended f) (valid_settings extended c) (number_of e) (number-some e) h (leb u 2) _
+  sum_first e h u l = first-told (valid_extended f) (valid_settings extended c) (number_of e) (number-some e) h (leb u 2) _
 
-  pub sum-next : 0 ≡ first_numbers (valid_extended f) extended c → (u : ℕ) (bytes : List ℕ)
-      → list_numbers (leb u 2) (length bytes / 10) ≡ extended_sum_refusal f c u (tens_in bytes)
-  unfolding extended_sum_refusal
-  sum-next h u bytes = let (a, b) = first-passed (valid_extended f) (valid_settings extended c) (sym h) in rw (a, b, (tens-values bytes).0)
-
-  pub dot-first : (e : Refusal) → number_of e ≡ first_numbers (valid_extended f) extended c → (left right : List ℕ)
-      → number_of e ≡ extended_dot_refusal f c (tens_in left) (tens_in right)
+  pub dot-first : (e : Refusal) → number_of e ≡ first_numbers (valid_extended f) extended c → (x y : List ℕ) → number_of e ≡ extended_dot_refusal f c x y
   unfolding extended_dot_refusal
-  dot-first e h left right =
-      let n = length (tens_in left) in
+  dot-first e h x y =
       rw (and-true (valid_settings extended c)) at
       (first-told (valid_extended f) (valid_settings extended c) (number_of e) (number-some e) h true
-      (refuse_if (not (eqb n (length (tens_in right)))) 5 (refuse_if (ltb limit n) 6 0)))
+      (refuse_if (not (eqb (length x) (length y))) 5 (refuse_if (ltb limit (length x)) 6 0)))
 
-  pub dot-next : 0 ≡ first_numbers (valid_extended f) extended c → (left right : List ℕ)
-      → pair_numbers (length left / 10) (length right / 10) ≡ extended_dot_refusal f c (tens_in left) (tens_in right)
-  unfolding extended_dot_refusal
-  dot-next h left right =
-      let (a, b) = first-passed (valid_extended f) (valid_settings extended c) (sym h) in rw (a, b, (tens-values left).0, (tens-values right).0)
+  module _ (passed : 0 ≡ first_numbers (valid_extended f) extended c) where
+    pub sum-summand : (u : ℕ) (l : List ℕ) → 2 < u → 4 ≡ extended_sum_refusal f c u l
+    unfolding extended_sum_refusal
+    sum-summand u l h = row-summand (valid_extended f) (valid_settings extended c) passed (leb u 2) (ltb limit (length l)) (lt-leb u 2 h)
 
--- what a total may ask for: the refusal in the one format of kind 4
-module _ (f : Format) (c : Settings) (x y : List ℕ) where
-  no-dot : (u : ℕ) → extended_sum_refusal f c u x ≡ 0 → eqb u 3 ≡ false
-  no-dot u e = ne_eqb u 3 (λ z. omega (arith, z, (extended-sum-accepts f c u x e).1))
+    pub sum-few : (u n : ℕ) (l : List ℕ) → length l ≡ n → u ≤ 2 → few_number n ≡ extended_sum_refusal f c u l
+    unfolding extended_sum_refusal
+    sum-few u n l long h = rw (sym long) (row-few (valid_extended f) (valid_settings extended c) passed (leb u 2) (ltb limit (length l)) (le-leb u 2 h))
 
-  pub sum-asked : (u : ℕ) → extended_sum_refusal f c u x ≡ 0 → tens_refusal (eqb u 3) c u x y ≡ 0
+    module _ (n m : ℕ) (x y : List ℕ) (left : length x ≡ n) (right : length y ≡ m) where
+      pub dot-unlike : eqb n m ≡ false → 5 ≡ extended_dot_refusal f c x y
+      unfolding extended_dot_refusal
+      dot-unlike h =
+          rw (left, right) (row-unlike (valid_extended f) (valid_settings extended c) passed (eqb n m) (ltb limit n) h)
+
+      pub dot-few : eqb n m ≡ true → few_number n ≡ extended_dot_refusal f c x y
+      unfolding extended_dot_refusal
+      dot-few h = rw (left, right) (row-alike (valid_extended f) (valid_settings extended c) passed (eqb n m) (ltb limit n) h)
+
+  -- what is accepted is so in the one format of kind 4
+  pub sum-asked : (u : ℕ) (l : List ℕ) → extended_sum_refusal f c u l ≡ 0 → extended_sum_refusal kind4 c u l ≡ 0
   unfolding extended_sum_refusal valid_extended
-  sum-asked u e = rw (no-dot u e) (first-zero (not (valid_extended f)) 2 _ e).1
+  sum-asked u l e = (first-zero (not (valid_extended f)) 2 _ e).1
 
-  pub sum_told : (u : ℕ) → extended_sum_refusal f c u x ≡ 0 → total.answer_in true (eqb u 3) extended c (summand_of u) x y ≡ extended_sum_answer f c u x
+  pub sum_told : (u : ℕ) (l : List ℕ) → extended_sum_refusal f c u l ≡ 0 → extended_sum c (summand_of u) l ≡ extended_sum_answer f c u l
   unfolding extended_sum_answer
-  sum_told u e = rw (no-dot u e, e)
+  sum_told u l e = rw e
 
-  pub dot-asked : extended_dot_refusal f c x y ≡ 0 → tens_refusal true c 3 x y ≡ 0
+  pub dot-asked : (x y : List ℕ) → extended_dot_refusal f c x y ≡ 0 → extended_dot_refusal kind4 c x y ≡ 0
   unfolding extended_dot_refusal valid_extended
-  dot-asked e = (first-zero (not (valid_extended f)) 2 _ e).1
+  dot-asked x y e = (first-zero (not (valid_extended f)) 2 _ e).1
 
-  pub dot-told : (v : Summand) → extended_dot_refusal f c x y ≡ 0 → total.answer_in true true extended c v x y ≡ extended_dot_answer f c x y
+  pub dot-told : (x y : List ℕ) → extended_dot_refusal f c x y ≡ 0 → extended_dot c (pairs x y) ≡ extended_dot_answer f c x y
   unfolding extended_dot_answer
-  dot-told v e = rw e
+  dot-told x y e = rw e
 
--- ---- an unsupported element
+-- ---- the record of an accepted call, by whether an element is unsupported
 
-pub any-tens : (t : ℕ → Bool) (x y : List ℕ) → length x ≡ length y → (b : Bool) → any t (all_tens b x y) ≡ (any t x || (b && any t y))
-any-tens t x y e true = both-any t x y e
-any-tens t x y e false = or-none (any t x)
-  where
-    or-none : (b : Bool) → b ≡ (b || false)
-    or-none true = refl
-    or-none false = refl
+module _ (c : Settings) where
+  pub sum-unsupported : (u : Summand) (l : List ℕ) (sub : Bool) → any unsupported l ≡ true → sub ≡ any subnormal_extended l
+      → with_spread (special extended sub (default_nan_of c) true) ≡ extended_sum c u l
+  unfolding extended_sum
+  sum-unsupported u l sub e s = rw s (sym (unsupported-record c _ _ _ _ e))
 
-pub unsupported-told : (c : Settings) (u : Summand) (x y : List ℕ) (b : Bool) → any unsupported (all_tens b x y) ≡ true
-    → with_spread (special extended (any subnormal_extended (all_tens b x y)) (default_nan_of c) true) ≡ total.answer_in true b extended c u x y
-unfolding extended_sum extended_dot
-unsupported-told c u x y true e = sym (unsupported-record c _ _ _ _ e)
-unsupported-told c u x y false e = sym (unsupported-record c _ _ _ _ e)
+  pub sum-supported : (u : Summand) (l : List ℕ) → any unsupported l ≡ false → with_spread (sum_in of_tens c u l) ≡ extended_sum c u l
+  unfolding extended_sum extended_item
+  sum-supported u l e = sym (supported-record c _ _ _ _ e)
 
-module _ (f : Format) (e : f ≡ extended) where
-  wide-ten : wide f ≡ true
-  unfolding extended
-  wide-ten = ap wide e
+  pub dot-unsupported : (l : List (ℕ × ℕ)) (sub : Bool) → any unsupported (both_of l) ≡ true → sub ≡ any (λ x. subnormal_extended x.0 || subnormal_extended x.1) l
+      → with_spread (special extended sub (default_nan_of c) true) ≡ extended_dot c l
+  unfolding extended_dot
+  dot-unsupported l sub e s = rw (s, ← any-both subnormal_extended l) (sym (unsupported-record c _ _ _ _ e))
 
-  -- its record asks for nothing that the default NaN has not
-  module _ (c : Settings) (v : Unpacked) (d : v ≡ default_nan_of c) where
+  pub dot-supported : (l : List (ℕ × ℕ)) → any unsupported (both_of l) ≡ false → with_spread (dot_in of_tens c l) ≡ extended_dot c l
+  unfolding extended_dot extended_pair
+  dot-supported l e =
+      rw (← any-both subnormal_extended l, ← any-both (signaling_in of_tens) l) (sym (supported-record c _ _ _ _ e))
+
+  -- the record of the default NaN, which asks for nothing
+  module _ (f : Format) (e : f ≡ extended) (v : Unpacked) (d : v ≡ default_nan_of c) where
     pub special-asks : Known (wide f) f × Encodes f v × Alone (kind_of f.kind) v
     unfolding extended default_nan_of
     special-asks =
@@ -125,41 +121,11 @@ module _ (f : Format) (e : f ≡ extended) where
 
     pub special-told : (a : Wide) (sub : Bool) → answer_as (wide f) a ≡ given_as (wide f) (special f sub v true)
         → answer_as true a ≡ with_spread (special extended sub (default_nan_of c) true)
+    unfolding extended
     special-told a sub p =
-        subst₂ (λ (g : Format) (w : Unpacked). answer_as true a ≡ with_spread (special g sub w true)) e d
-        (subst (λ (t : Bool). answer_as t a ≡ given_as t (special f sub v true)) wide-ten p)
-
--- ---- the walk over whole lists
-
-pub tens-all : (n : ℕ) (bytes : List ℕ) → n ≡ length bytes / 10 → wide_from 10 n bytes ≡ tens_in bytes
-unfolding tens_in
-tens-all n bytes e = ap (λ (m : ℕ). wide_from 10 m bytes) e
-
-pub tens-within : (n : ℕ) (words bytes : List ℕ) → n ≡ length bytes / 10 → n < 2 ^ 64 → Within (source_of 1 0 1 n) words bytes
-tens-within n words bytes e h = record { there = λ i k. omega (arith, k, e, values_length bytes); onward = omega arith; room = omega (arith, h) }
-
-module _ (f : Format) (e : f ≡ extended) (c : Settings) (u : ℕ) (left right : List ℕ) (same : length right / 10 ≡ length left / 10) where
-  abbrev source : Source
-  source = source_of 1 0 1 (length left / 10)
-
-  pub tens-there : Known (wide f) f × TensThere (wide f) source left right
-  tens-there = rw (wide-ten f e) (e, (omega arith, omega (arith, same)))
-
-  no-pence : (b : Bool) → eqb u 3 ≡ b → tens_refusal b c u (tens_in left) (tens_in right) ≡ 0 → eqb u 4 ≡ false
-  no-pence true q r = let z = eqb-true u 3 q in rw z
-  no-pence false q r = ne_eqb u 4 (λ z. omega (arith, z, (extended-sum-accepts kind4 c u (tens_in left) r).1))
-
-  module _ (words : List ℕ) (r : tens_refusal (eqb u 3) c u (tens_in left) (tens_in right) ≡ 0) where
-    pub tens-asked : any unsupported (all_tens (eqb u 3) (tens_in left) (tens_in right)) ≡ false
-        → ListAsks (eqb u 4) (wide f) (eqb u 3) f c u (length left / 10) (read_as (wide f) source words left) (read_as (wide f) source words right)
-    tens-asked h = rw (no-pence (eqb u 3) refl r, wide-ten f e, tens-all _ left refl, tens-all _ right (sym same)) (e, h, r)
-
-    pub tens-told : (p : Report)
-        → ListTells (eqb u 4) (wide f) (eqb u 3) f c u (read_as (wide f) source words left) (read_as (wide f) source words right) p
-        → answer_in true p ≡ total.answer_in true (eqb u 3) extended c (summand_of u) (tens_in left) (tens_in right)
-    tens-told p t =
-        subst (λ (g : Format). answer_in true p ≡ total.answer_in true (eqb u 3) g c (summand_of u) (tens_in left) (tens_in right)) e
-        (rw (no-pence (eqb u 3) refl r, wide-ten f e, tens-all _ left refl, tens-all _ right (sym same)) at t)
+        let p' : answer_as (wide extended) a ≡ given_as (wide extended) (special extended sub (default_nan_of c) true) =
+        subst₂ (λ (g : Format) (w : Unpacked). answer_as (wide g) a ≡ given_as (wide g) (special g sub w true)) e d p in
+        p'
 
 -- ---- what an entry leaves behind
 

@@ -1,140 +1,79 @@
--- A walk over two lists without a stray bit, by whether it is for pence: what its scan, its chain and its record ask and tell.
-use mathlib.Core.Path.{◌≡◌, refl, sym, ap, ◌∙◌, subst, subst₂}
-use mathlib.Core.Bool.{Bool, true, false, not, cond}
-use mathlib.Core.List.{List}
-use Prim.Native.Nat.{ℕ, ◌+◌, ◌^◌, ◌≤◌, ◌<◌}
-use native.Mathlib.Nat.{le_refl}
-use native.Mathlib.Omega.{arith}
-use lib.Dec.{eqb}
-use lib.IntN.{pos}
-use lib.ListN.{length}
-use borrow.Author.Tests.{eqb-true}
+-- The total of a list of items: what its scan and its chain ask and tell; and the totals of numbers in the definitions' words.
+use Rattle.std.proofs.Common.{◌≡◌, refl, sym, ap, ◌∙◌, ℕ, Bool, true, false, List, [], ◌∷◌, map, ◌<◌, ◌≤◌, arith}
 use Rattle.std.specs.Prelude.{Option, Some, None}
 use Rattle.totals_spec.specs.Format as spec
 use Rattle.totals_spec.specs.Settings as env
-use Rattle.totals_spec.specs.Decode as dec
-use Rattle.totals_spec.specs.Terms as terms
+use Rattle.totals_spec.specs.Bounds.{SettingsBounds}
+use Rattle.totals_spec.specs.Alone.{Alone}
+use Rattle.totals_spec.specs.Decode.{decode}
+use Rattle.totals_spec.specs.Terms.{Item, item, pair_item, terms, top_of}
 use Rattle.totals_spec.specs.Totals as totals
+use Rattle.totals_spec.specs.Extended.{both_of}
 use Rattle.totals_spec.specs.Settled.{settled}
-use Rattle.totals_spec.specs.Pence.{refused_pence}
-use Rattle.format.specs.declared.unpacked.Unpacked.{Unpacked}
+use Rattle.totals_spec.proofs.ByChain.{finite-by-chain}
+use Rattle.format.specs.declared.shape.Shape.{Shape}
+use Rattle.format.specs.declared.layout.Layout.{Layout}
+use Rattle.format.specs.Shapes.{shape_of}
+use Rattle.format.specs.Layouts.{layout_of}
 use Rattle.format.specs.Joined.{unpacked_of}
-use Rattle.exact.specs.declared.Unrounded.{Unrounded}
+use Rattle.format.specs.Fits.{Encodes}
+use Rattle.format.proofs.Shapes.{range_bounds}
 use Rattle.scan.specs.declared.Scan.{Scan}
 use Rattle.scan.specs.declared.Given.{Given}
-use Rattle.scan.specs.Joined.{Scanned}
-use Rattle.scan.specs.Walked.{GatheredIn}
-use Rattle.values.specs.declared.Walk.{Walk}
-use Rattle.values.specs.Walks.{wide, Known, Orderly, is_hundred, added_by}
-use Rattle.values.proofs.Walks.{known-range}
+use Rattle.scan.specs.Joined.{Decides}
+use Rattle.scan.specs.Encodings.{of_layout}
 use Rattle.window.specs.declared.ExactSum.{ExactSum}
-use Rattle.window.specs.Joined.{outcome_of, LeftOf}
+use Rattle.window.specs.Joined.{outcome_of, run_of}
 use Rattle.reduction.specs.declared.total.Wide.{Wide}
-use Rattle.reduction.specs.Held.{Sums}
-use Rattle.reduction.specs.Answered.{words_as, answer_of, answer_as, given_as, products_in, first_in}
+use Rattle.reduction.specs.Held.{Base, Summable, Sums}
+use Rattle.reduction.specs.Answered.{wide, answer_as, given_as}
+use Rattle.reduction.proofs.Loop.{summable-base, summable-few}
 use Rattle.reduction.proofs.Reduce.{given, given_is, top-is, finish-is}
-use Rattle.reduction.proofs.Items.{items_give, items-top, accepts, added-items, by_chain, answer-is}
-use Rattle.reduction.proofs.Loop.{top_small}
-use Rattle.totals.specs.declared.report.Report.{Report}
-use Rattle.totals.specs.PenceRecord.{list_figure}
-use Rattle.totals.specs.Kept.{seen_as, Seen}
-use Rattle.totals.specs.Reported.{answer_in, odd, PenceDecides, DecidesBy, EarlyAsks, EarlyTells, EndAsks, EndTells, TotalAsks, TotalTells}
-use Rattle.totals.proofs.Counted.{met-figure, zero-figure, chain-figure, raised-top}
+use Rattle.totals.specs.Walked.{Scans, Totals, sum_in, dot_in}
 
--- what a report and a record share
-pub heads-alike : (w : Bool) (r : Report) (a : Wide) → answer_in false r ≡ answer_of a.answer → r.head ≡ a.head → answer_in w r ≡ answer_as w a
-heads-alike w r a e h = λ i. record {
-  result = words_as w (h i) (e i).result;
-  flags = (e i).flags;
-  passes = (e i).passes;
-  last_edge = (e i).last_edge;
-  refusal = (e i).refusal;
-  place = (e i).place;
-  side = (e i).side;
-}
+module _ (s : Shape) (c : env.Settings) (products first : Bool) (l : List Item) (n : Scan) (d : Option Given) (h : Decides d c first n) where
+  abbrev f : spec.Format
+  f = shape_of s
 
--- the walk that a scan takes is of values, where the walk is for pence
-pub scanned-orderly : (k r : Walk) → r.source ≡ k.source → r.summand ≡ cond (is_hundred k) 0 k.summand → Orderly k → Orderly r
-scanned-orderly k r e g h = go (is_hundred k) g
-  where
-    go : (b : Bool) → r.summand ≡ cond b 0 k.summand → Orderly r
-    go true q m = absurd (omega (arith, q, m))
-    go false q m = rw e (h (omega (arith, q, m)))
+  -- where the scan decides
+  module _ (v : Given) (is : d ≡ Some v) where
+    pub early-asks : Summable f l → Scans f c l n → Encodes f (unpacked_of v.value) × Alone (spec.kind_of f.kind) (unpacked_of v.value)
+    early-asks a g = let t = given g.gathered products first d h v is in (t.encodes, t.alone a.gives)
 
-module _ (f : spec.Format) (c : env.Settings) (u : ℕ) (x y : List ℕ) where
-  pub asks-few : (h b : Bool) → TotalAsks h (wide f) b f c u x y → length x ≤ totals.limit
-  asks-few true b a = a.1.2
-  asks-few false b a = (accepts f c u x y (wide f) b a).few
+    pub early-told : (r : Wide) → answer_as (wide f) r ≡ given_as (wide f) (totals.special f n.subnormal (unpacked_of v.value) v.invalid)
+        → Totals f c products first l n r
+    early-told r t sub sig ops g = t ∙ ap (given_as (wide f)) (given_is g products first d h v is _ refl)
 
-  -- pence are of formats of a word
-  pub pence-narrow : (h b : Bool) → TotalAsks h (wide f) b f c u x y → h ≡ true → wide f ≡ false
-  pence-narrow h b a e = (subst (λ (t : Bool). TotalAsks t (wide f) b f c u x y) e a).0
+  -- and where it leaves terms
+  module _ (is : d ≡ None) (a : Summable f l) where
+    pub exact-asks : Scans f c l n → {p : ℕ} → p ≡ spec.digits f → Base p (terms l) × (n.top ≡ top_of (terms l))
+    exact-asks g {p} e =
+        let b = range_bounds s in
+        let t = top-is g.gathered products first d h is in
+        (summable-base {p = p} (omega (arith, b.w-ge, b.p-le, e)) f b l a (rw t.0 at t.1), t.0)
 
-  module _ (q : Known (wide f) f) where
-    pub end-asks : (h : Bool) {e : ExactSum} {ts : List terms.Term} {v : Unrounded} → TotalAsks h (wide f) (eqb u 3) f c u x y
-        → Sums (cond h 64 (spec.digits f)) ts e → LeftOf (cond h 64 (spec.digits f)) (settled (outcome_of e)) v → EndAsks h f c e v
-    end-asks true a m l = l
-    end-asks false a m l = (q, (accepts f c u x y (wide f) (eqb u 3) a).settings, m.ended, l)
+    pub end-told : SettingsBounds f c → (e : ExactSum) → Sums (spec.digits f) (terms l) e → (r : Wide)
+        → answer_as (wide f) r
+        ≡ given_as (wide f)
+        (totals.reported f n.subnormal products (totals.on_grid f products (settled (outcome_of e)))
+        (totals.sum_rounded f c (spec.grid f products) (totals.towards_negative c) (totals.on_grid f products (settled (outcome_of e)))) (run_of e))
+        → Totals f c products first l n r
+    end-told k e m r t sub sig ops g =
+        t
+        ∙ ap (given_as (wide f))
+        (finish-is g products first d h is e m.run (finite-by-chain f c sub products false (terms l) (range_bounds s) k a.good (summable-few f l a)) _ refl)
 
-    pub digits-most : (h : Bool) → cond h 64 (spec.digits f) ≤ 64
-    digits-most true = le_refl 64
-    digits-most false = let g = known-range f (wide f) q in omega (arith, g.w-ge, g.p-le)
+-- ---- the totals of numbers of an offered format
 
-    -- there is room above T for seven bits more
-    pub top-room : (s : Scan) (h : Bool) → Seen h f c u x y s → s.top + 7 < 2 ^ 64
-    top-room s h g =
-        let m = items-top f c (env.summand_of (seen_as h u)) x y (wide f) (eqb (seen_as h u) 3) q in
-        omega (arith, top_small f {t = s.top + 7} (known-range f (wide f) q) (omega (arith, g.top, m)))
+both-operands : (f : spec.Format) (l : List (ℕ × ℕ)) → map (decode f) (both_of l) ≡ totals.operands f l
+both-operands f [] = refl
+both-operands f (x ∷ l) = ap (λ r. decode f x.0 ∷ decode f x.1 ∷ r) (both-operands f l)
 
-  module _ (s : Scan) where
-    -- for pence the settings are all 0
-    pence-seen : Seen true f c u x y s → wide f ≡ false → c ≡ env.no_settings → Scanned f env.no_settings env.value x s
-    pence-seen g n e = subst₂ (λ (w : Bool) (d : env.Settings). GatheredIn w false f d env.value x y s) n e g
+module _ (l : Layout) (c : env.Settings) where
+  pub sum-is : (u : env.Summand) (xs : List ℕ) → sum_in (of_layout l) c u xs ≡ totals.sum_accepted (layout_of l) c u xs
+  unfolding totals.sum_accepted item
+  sum-is u xs = refl
 
-    module _ (d : Option Given) (v : Given) (is : d ≡ Some v) where
-      pub early-asks : (h : Bool) → Known (wide f) f → Seen h f c u x y s → DecidesBy h d c (first_in u) s → EarlyAsks h f (unpacked_of v.value)
-      early-asks true q g k = tt
-      early-asks false q g k =
-          let t = given g (products_in u) (first_in u) d k.0 v is in
-          (q, t.encodes, t.alone (items_give f c (env.summand_of u) x y (wide f) (eqb u 3) q))
-
-      pub early-told : (h : Bool) → Seen h f c u x y s → TotalAsks h (wide f) (eqb u 3) f c u x y → DecidesBy h d c (first_in u) s → (r : Report)
-          → EarlyTells h f s.subnormal (unpacked_of v.value) v.invalid r → TotalTells h (wide f) (eqb u 3) f c u x y r
-      early-told true g a k r t = t ∙ go (dec.is_number (unpacked_of v.value)) met.0 met.1
-        where
-          met : PenceDecides (Some v) s
-          met = subst (λ (z : Option Given). PenceDecides z s) is k
-
-          go : (n : Bool) → odd s ≡ not n → (n ≡ true → s.top ≡ 0)
-              → cond n (record { figure = pos 0; refusal = 0; place = 0 }) (refused_pence 8) ≡ list_figure f x
-          go true o z = zero-figure f x (pence-seen g a.0 a.1.1) (sym o) refl (z refl)
-          go false o z = met-figure f x (pence-seen g a.0 a.1.1) (sym o) refl
-      early-told false g a k r t =
-          t ∙ ap (given_as (wide f)) (given_is g (products_in u) (first_in u) d k.0 v is _ refl) ∙ answer-is f c u x y (wide f) (eqb u 3) refl a
-
-    module _ (d : Option Given) (is : d ≡ None) where
-      abbrev top_by : Bool → ℕ
-      top_by h = cond h (s.top + 7) s.top
-
-      no-dot : u ≡ 4 → eqb u 3 ≡ false
-      no-dot e = rw e
-
-      pub exact-asks : (h : Bool) → eqb u 4 ≡ h → Seen h f c u x y s → TotalAsks h (wide f) (eqb u 3) f c u x y → DecidesBy h d c (first_in u) s
-          → (top_by h ≡ terms.top_of (terms.terms (added_by (wide f) (eqb u 3) h f c (env.summand_of u) x y))) × (0 < top_by h)
-      exact-asks true e g a k =
-          let t = raised-top f x (pence-seen g a.0 a.1.1) (subst (λ (z : Option Given). PenceDecides z s) is k).1 in
-          (t.0 ∙ sym (rw (a.0, no-dot (eqb-true u 4 e), a.1.1)), t.1)
-      exact-asks false e g a k = rw (added-items f c u x y (wide f) (eqb u 3)) (top-is g (products_in u) (first_in u) d k.0 is)
-
-      pub end-told : (h : Bool) → eqb u 4 ≡ h → Seen h f c u x y s → TotalAsks h (wide f) (eqb u 3) f c u x y → DecidesBy h d c (first_in u) s → (e : ExactSum)
-          → Sums (cond h 64 (spec.digits f)) (terms.terms (added_by (wide f) (eqb u 3) h f c (env.summand_of u) x y)) e
-          → (r : Report) → EndTells h f c (products_in u) s.subnormal e r → TotalTells h (wide f) (eqb u 3) f c u x y r
-      end-told true q g a k e m r t =
-          t ∙ chain-figure f x (pence-seen g a.0 a.1.1) (sym (subst (λ (z : Option Given). PenceDecides z s) is k).0) refl a.1.2 e
-          (rw (a.0, no-dot (eqb-true u 4 q), a.1.1) at m)
-      end-told false q g a k e m r t =
-          t
-          ∙ ap (given_as (wide f))
-          (finish-is g (products_in u) (first_in u) d k.0 is e (rw (added-items f c u x y (wide f) (eqb u 3)) at m.run)
-          (by_chain f c u x y (wide f) (eqb u 3) a _ (products_in u) false) _ refl)
-          ∙ answer-is f c u x y (wide f) (eqb u 3) refl a
+  pub dot-is : (ps : List (ℕ × ℕ)) → dot_in (of_layout l) c ps ≡ totals.dot_accepted (layout_of l) c ps
+  unfolding totals.dot_accepted pair_item
+  dot-is ps = rw (both-operands (layout_of l) ps) refl

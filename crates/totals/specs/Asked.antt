@@ -1,5 +1,5 @@
 -- What a total is asked with, once it is in its ranges, or the refusal's number; and the record of what may be refused.
-use Rattle.std.specs.Prelude.{◌≡◌, false, ℕ, ◌<◌, Result, Ok, Err}
+use Rattle.std.specs.Prelude.{◌≡◌, Bool, true, false, ℕ, ◌<◌, Result, Ok, Err}
 use Rattle.totals_spec.specs.Format.{Format}
 use Rattle.totals_spec.specs.Settings.{Settings, valid_settings}
 use Rattle.totals_spec.specs.Totals.{Answer, refused}
@@ -14,6 +14,10 @@ use Rattle.totals.specs.declared.refusal.Refusal.{Refusal}
 use Rattle.totals.specs.declared.refusal.Refusal.TheVariants.{SettingOutOfRange}
 use Rattle.totals.specs.declared.refusal.Asked.{Asked}
 use Rattle.totals.specs.Refusal.{number_of, place_of}
+
+abbrev pub RefusesIf : Bool → Refusal → Result (Unit {0}) Refusal → Type 0
+RefusesIf holds r (Ok x) = holds ≡ false
+RefusesIf holds r (Err e) = (holds ≡ true) × (e ≡ r)
 
 abbrev pub SetFor : Format → Settings → Result Env Refusal → Type 0
 SetFor f c (Ok e) = IsEnv f c e

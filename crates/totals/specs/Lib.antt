@@ -3,7 +3,6 @@ pub mod Stray
 pub mod Walked
 pub mod Entered
 pub mod PenceRecord
-pub mod Reported
 pub mod Kept
 pub mod Targets
 pub mod Tables

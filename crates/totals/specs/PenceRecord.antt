@@ -18,10 +18,6 @@ pence_record r = record { figure = r.figure; refusal = r.refusal; place = r.plac
 abbrev pub list_figure : Format → List ℕ → spec.Pence
 list_figure f l = cond (any (spec.not_number f) l) (spec.refused_pence 8) (spec.sum_figure f (exact_sum (sum_terms f env.no_settings env.value l)))
 
--- and one of which number 7 is left too
-abbrev pub list_pence : Format → List ℕ → spec.Pence
-list_pence f l = cond (any (stray f) l) (spec.refused_at 7 (first_index (stray f) l)) (list_figure f l)
-
 -- a value of which whole pence can be counted: not 0, well above the unit, and a sticky bit below its first 64 digits
 pub record Countable (v : Unrounded) : Type 0 where
   pub some : 0 < significand_of v

@@ -6,9 +6,9 @@ use Rattle.totals_spec.specs.Settings.{Settings, valid_settings}
 use Rattle.totals_spec.specs.Bounds.{SettingsBounds}
 use Rattle.totals_spec.specs.Totals.{Answer, refuse_if, limit, stray}
 use Rattle.further_spec.specs.Several.{reading_with, target_answer}
-use Rattle.totals.specs.declared.lists.Walked.{Walked}
+use Rattle.totals.specs.declared.lists.Kept.{Kept}
 use Rattle.totals.specs.Refusal.{number_of, sum_numbers}
-use Rattle.totals.specs.Kept.{Keeps, ListKept}
+use Rattle.totals.specs.Kept.{Keeps, KeptIn}
 use Rattle.format.specs.Layouts.{layout_of}
 use Rattle.format.specs.Environments.{env_of}
 use Rattle.totals.specs.declared.refusal.Refusal.{Refusal}
@@ -26,24 +26,24 @@ abbrev pub Aims : Format → Format → Settings → ℕ → Result Aim Refusal 
 Aims f t c n (Ok a) = (layout_of a.list ≡ f) × (layout_of a.layout ≡ t) × (env_of a.env ≡ c) × (n ≡ 0)
 Aims f t c n (Err r) = number_of r ≡ n
 
--- what the walk of some values keeps, and a target that its tests let pass
-pub record Printable (f t : Format) (c : Settings) (w : Walked) : Type 0 where
+-- what is kept of some values, and a target that its tests let pass
+pub record Printable (f t : Format) (c : Settings) (k : Kept) : Type 0 where
   pub settings : SettingsBounds t c
   pub reading : ℕ
   pub values : List ℕ
-  pub keeps : Keeps f (reading_with reading) values w
+  pub keeps : Keeps f (reading_with reading) values k
 
--- the record of a target, whatever values were walked
-abbrev pub Prints : Format → Format → Settings → Walked → Answer → Type 0
-Prints f t c w a =
-    (d : ℕ) (l : List ℕ) → target_numbers f d (length l) t c ≡ 0 → any (stray f) l ≡ false → Keeps f (reading_with d) l w → a ≡ target_answer f d l t c
+-- the record of a target, whatever values it was kept of
+abbrev pub Prints : Format → Format → Settings → Kept → Answer → Type 0
+Prints f t c k a =
+    (d : ℕ) (l : List ℕ) → target_numbers f d (length l) t c ≡ 0 → any (stray f) l ≡ false → Keeps f (reading_with d) l k → a ≡ target_answer f d l t c
 
 -- where the list itself is not refused by these tests, values that were walked, n of them
-pub record Listed (f : Format) (d n : ℕ) (w : Walked) : Type 0 where
+pub record Listed (f : Format) (d n : ℕ) (r : Result Kept Refusal) : Type 0 where
   pub values : List ℕ
-  pub kept : ListKept f (reading_with d) values w
+  pub kept : KeptIn f (reading_with d) values r
   pub many : n ≡ length values
 
-abbrev pub Answers : Format → ℕ → ℕ → Format → Settings → Walked → Answer → Type 0
-Answers f d n t c w a =
-    (l : List ℕ) → n ≡ length l → (sum_numbers f (reading_with d) 0 n ≡ 0 → ListKept f (reading_with d) l w) → a ≡ target_answer f d l t c
+abbrev pub Answers : Format → ℕ → ℕ → Format → Settings → Result Kept Refusal → Answer → Type 0
+Answers f d n t c r a =
+    (l : List ℕ) → n ≡ length l → (sum_numbers f (reading_with d) 0 n ≡ 0 → KeptIn f (reading_with d) l r) → a ≡ target_answer f d l t c

@@ -1,5 +1,5 @@
 -- The total of a list of items, by its scan.
-use Rattle.std.specs.Prelude.{◌≡◌, Bool, true, false, not, List, map, ℕ}
+use Rattle.std.specs.Prelude.{◌≡◌, Bool, true, false, not, ◌||◌, List, map, ℕ}
 use Rattle.totals_spec.specs.Basics.{any}
 use Rattle.totals_spec.specs.Format.{Format}
 use Rattle.totals_spec.specs.Settings.{Settings, Summand}
@@ -8,7 +8,7 @@ use Rattle.totals_spec.specs.Nan.{select_all}
 use Rattle.totals_spec.specs.Terms.{Item}
 use Rattle.totals_spec.specs.Totals.{Answer, accepted, is_value, is_square}
 use Rattle.totals_spec.specs.Extended.{both_of}
-use Rattle.values.specs.Walks.{wide}
+use Rattle.reduction.specs.Answered.{wide}
 use Rattle.scan.specs.declared.Scan.{Scan}
 use Rattle.scan.specs.Joined.{Gathered}
 use Rattle.scan.specs.Encodings.{Encoding, signaling_in, item_in, pair_in}
@@ -35,4 +35,5 @@ sum_in e c u l =
 
 abbrev pub dot_in : Encoding → Settings → List (ℕ × ℕ) → Answer
 dot_in e c l =
-    accepted e.format c (any e.subnormal (both_of l)) true false (any (signaling_in e) (both_of l)) (select_all c (map e.decode (both_of l))) (map (pair_in e c) l)
+    accepted e.format c (any (λ x. e.subnormal x.0 || e.subnormal x.1) l) true false (any (λ x. signaling_in e x.0 || signaling_in e x.1) l)
+    (select_all c (map e.decode (both_of l))) (map (pair_in e c) l)

@@ -1,5 +1,6 @@
 // The totals of lists that pass the tests that do not look at the elements: wherever these stand, and however they are encoded.
-ghost use Rattle.std.specs.Prelude.{◌≡◌, ◌≤◌, Bool, List, map, length};
+ghost use Rattle.std.specs.Prelude.{◌≡◌, map, length};
+ghost use Rattle.std.specs.Result.{ForOk};
 ghost use Rattle.totals_spec.specs.Bounds.{SettingsBounds};
 ghost use Rattle.totals_spec.specs.Bytes.{values_in};
 ghost use Rattle.totals_spec.specs.Totals as totals;
@@ -7,7 +8,7 @@ ghost use Rattle.format.specs.Shapes.{shape_of};
 ghost use Rattle.format.specs.Layouts.{layout_of};
 ghost use Rattle.format.specs.Environments.{env_of};
 ghost use Rattle.arithmetic.specs.Summands.{summand_in, summand_number};
-ghost use Rattle.values.specs.Walks.{wide, Known};
+ghost use Rattle.reduction.specs.Answered.{wide, Known};
 ghost use Rattle.scan.specs.Encodings.{item_in, pair_in};
 ghost use Rattle.reduction.specs.Held.{Summable};
 ghost use Rattle.reduction.specs.Answered.{answer_as, given_as};
@@ -82,15 +83,27 @@ pub fn dot_of<N: Numbers>(c: Env, left: &N, right: &N) -> Wide
     ensures { answer_as (wide (N.encoding left.now).format) result ≡ given_as (wide (N.encoding left.now).format) (dot_in (N.encoding left.now) (env_of c) (totals.pairs (N.codes left.now) (N.codes right.now))) }
 {
     let s = scan_pairs(left, right, c);
-    total(left.shape(), c, true, false, s, &Paired { left, right, env: c })
+    total(
+        left.shape(),
+        c,
+        true,
+        false,
+        s,
+        &Paired {
+            left,
+            right,
+            env: c,
+        },
+    )
 }
 
 // The sum of the elements of a list, unless one of them has a stray bit.
-pub fn sum<E: Elements>(f: Layout, c: Env, u: Summand, elements: E) -> Result<Answer, Refusal>
-    requires { sum_numbers (layout_of f) (env_of c) (summand_number u) (length (E.list elements)) ≡ 0 }
-    ensures { answer_in result ≡ totals.sum_answer (layout_of f) (env_of c) (summand_number u) (E.list elements) }
+pub fn sum<E: Elements>(f: Layout, c: Env, u: Summand, elements: &E) -> Result<Answer, Refusal>
+    requires { sum_numbers (layout_of f) (env_of c) (summand_number u) (length (E.list elements.now)) ≡ 0 }
+    ensures told { answer_in result ≡ totals.sum_answer (layout_of f) (env_of c) (summand_number u) (E.list elements.now) }
+    ensures accepted { ForOk result (λ a. totals.sum_refusal (layout_of f) (env_of c) (summand_number u) (E.list elements.now) ≡ 0) }
 {
-    if let Some(i) = find_stray(f.shape.width, &elements) {
+    if let Some(i) = find_stray(f.shape.width, elements) {
         return Err(Refusal::StrayBit(i));
     }
     let w = sum_of(
@@ -105,15 +118,15 @@ pub fn sum<E: Elements>(f: Layout, c: Env, u: Summand, elements: E) -> Result<An
 }
 
 // The sum of the products of the pairs, likewise: a stray bit is looked for in the left list first.
-pub fn dot<E: Elements>(f: Layout, c: Env, left: E, right: E) -> Result<Answer, Refusal>
-    requires { dot_numbers (layout_of f) (env_of c) (length (E.list left)) (length (E.list right)) ≡ 0 }
-    ensures { answer_in result ≡ totals.dot_answer (layout_of f) (env_of c) (E.list left) (E.list right) }
+pub fn dot<E: Elements>(f: Layout, c: Env, left: &E, right: &E) -> Result<Answer, Refusal>
+    requires { dot_numbers (layout_of f) (env_of c) (length (E.list left.now)) (length (E.list right.now)) ≡ 0 }
+    ensures { answer_in result ≡ totals.dot_answer (layout_of f) (env_of c) (E.list left.now) (E.list right.now) }
 {
     let width = f.shape.width;
-    if let Some(i) = find_stray(width, &left) {
+    if let Some(i) = find_stray(width, left) {
         return Err(Refusal::StrayBit(i));
     }
-    if let Some(i) = find_stray(width, &right) {
+    if let Some(i) = find_stray(width, right) {
         return Err(Refusal::StrayBit(i));
     }
     let w = dot_of(
@@ -155,7 +168,7 @@ pub fn keep(f: Layout, c: Env, values: &[u8]) -> Result<Kept, Refusal>
     }
     let numbers = Encoded {
         layout: f,
-        elements,
+        elements: &elements,
     };
     let scan = scan_list(&numbers, c, Summand::Value);
     let sum = if met_special(scan) || scan.top == 0 {

@@ -178,9 +178,9 @@ pub fn whole_pence(f: Shape, v: Unrounded) -> Pence
 }
 
 // The pence of a list without a stray bit.
-fn hundredfold<E: Elements>(f: Layout, elements: E) -> Pence
-    requires { length (E.list elements) ≤ limit }
-    ensures { pence_record result ≡ list_figure (layout_of f) (E.list elements) }
+fn hundredfold<E: Elements>(f: Layout, elements: &E) -> Pence
+    requires { length (E.list elements.now) ≤ limit }
+    ensures { pence_record result ≡ list_figure (layout_of f) (E.list elements.now) }
 {
     let numbers = Encoded {
         layout: f,
@@ -195,7 +195,7 @@ fn hundredfold<E: Elements>(f: Layout, elements: E) -> Pence
     }
     let list = Hundreds {
         layout: f,
-        elements: &numbers.elements,
+        elements,
     };
     let e = exact(&list, DIGITS, s.top + HUNDRED_BITS);
     whole_pence(f.shape, left(DIGITS, e))
@@ -215,5 +215,5 @@ pub fn pence_of_sum(f: Format, values: &[u64]) -> Pence
     if let Some(i) = find_stray(layout.shape.width, &elements) {
         return Pence::from(Refusal::StrayBit(i));
     }
-    hundredfold(layout, elements)
+    hundredfold(layout, &elements)
 }

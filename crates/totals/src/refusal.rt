@@ -1,12 +1,12 @@
 // Why a call is refused, and the refusals that do not look at the elements, in the order of their numbers.
-ghost use Rattle.std.specs.Prelude.{◌≡◌, cond};
+ghost use Rattle.std.specs.Prelude.{◌≡◌};
 ghost use Rattle.totals_spec.specs.Format.{valid_format};
 ghost use Rattle.totals_spec.specs.Totals as spec;
 ghost use Rattle.format.specs.Shapes.{shape_of};
 ghost use Rattle.format.specs.Joined.{format_of, settings_of};
 ghost use Rattle.reduction.specs.Answered.{answer_of};
 ghost use Rattle.totals.specs.Refusal.{number_of, place_of, refusal_number, first_numbers, few_number, sum_numbers, dot_numbers};
-ghost use Rattle.totals.specs.Asked.{SetFor, SummandFor, Asks, AsksSum, answer_in};
+ghost use Rattle.totals.specs.Asked.{RefusesIf, SetFor, SummandFor, Asks, AsksSum, answer_in};
 
 use arithmetic::summand::Summand;
 use format::Format;
@@ -87,7 +87,7 @@ impl From<Refusal> for Answer {
 
 // A refusal where the test holds.
 pub(crate) fn refuse_if(holds: bool, refusal: Refusal) -> Result<(), Refusal>
-    ensures { result ≡ cond holds (Err refusal) (Ok tt) }
+    ensures { RefusesIf holds refusal result }
 {
     if holds { Err(refusal) } else { Ok(()) }
 }

@@ -123,7 +123,7 @@ fn into_target(
 
 // The walk of a list that is not refused as it stands.
 fn walk_once(f: Format, denormals_are_zero: u64, values: &[u8]) -> Result<Kept, Refusal>
-    ensures { sum_numbers (format_of f) (spec.reading_with denormals_are_zero) 0 (length (values_in values.now)) ≡ 0 → KeptIn (format_of f) (spec.reading_with denormals_are_zero) (values_in values.now) result }
+    ensures { sum_numbers (format_of f) (spec.reading_with denormals_are_zero) 0 (length values.now / 8) ≡ 0 → KeptIn (format_of f) (spec.reading_with denormals_are_zero) (values_in values.now) result }
 {
     let (asked, _) = sum_refusal(f, reading(denormals_are_zero), 0, values.len() / 8)?;
     keep(asked.layout, asked.env, values)

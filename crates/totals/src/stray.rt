@@ -17,11 +17,12 @@ pub fn find_stray<E: Elements>(width: u64, elements: &E) -> Option<usize>
     requires { 0 < width }
     ensures { FoundIn result width (E.list elements.now) }
 {
+    let n = elements.count();
     if width >= 64 {
         return None;
     }
     let most = greatest(width);
-    for i in 0..elements.count() {
+    for i in 0..n {
         if elements.at(i) > most {
             return Some(i);
         }

@@ -1,11 +1,12 @@
 -- The cells of a column among those of its table.
 use mathlib.Core.Path.{◌≡◌, sym, ap, ◌∙◌}
 use mathlib.Core.List.{List}
-use Prim.Native.Nat.{ℕ, ◌+◌, ◌*◌, ◌<◌, ◌≤◌}
+use Prim.Native.Nat.{ℕ, zero, suc, ◌+◌, ◌*◌, ◌^◌, ◌<◌, ◌≤◌}
 use native.Mathlib.Nat.{mul-le-mul_right, mul_comm}
 use native.Mathlib.Numerals.{add-one-le}
 use native.Mathlib.Omega.{arith}
-use lib.ListN.{length, get_or}
+use lib.ListN.{length, get_or, drop}
+use lib.Seq.{get_or-drop}
 use Rattle.totals_spec.specs.Table.{column_of}
 use Rattle.totals_spec.proofs.Table.{column-length, column-cell}
 
@@ -21,3 +22,9 @@ module _ (count step first : ℕ) (cells : List ℕ) (i : ℕ) (h : i < length (
   cell-is =
       let place : first + step * i ≡ i * step + first = omega (arith, mul_comm step i) in
       ap (λ (k : ℕ). get_or cells k 0) place ∙ sym (column-cell count step cells first i row)
+
+-- each fits a word, as those of the table do
+pub cells-fit : (count step first : ℕ) (cells : List ℕ) → ((k : ℕ) → get_or cells k 0 < 2 ^ 64) → (i : ℕ) → get_or (column_of count step cells first) i 0 < 2 ^ 64
+cells-fit zero step first cells h i = omega arith
+cells-fit (suc n) step first cells h zero = h first
+cells-fit (suc n) step first cells h (suc i) = cells-fit n step first (drop step cells) (λ k. rw (get_or-drop step cells k 0) (h (step + k))) i

@@ -1,4 +1,2 @@
 pub mod Chunks
 pub mod Columns
-pub mod Sources
-pub mod Walks

@@ -1,4 +1,2 @@
 pub mod Laid
-pub mod Sources
 pub mod Tens
-pub mod Walks

@@ -1,21 +1,40 @@
 // The elements of a list, wherever they stand.
-ghost use Rattle.std.specs.Prelude.{◌≡◌, List, ℕ, ◌*◌, ◌<◌, ◌≤◌, length, get_or};
+ghost use Rattle.std.specs.Prelude.{◌≡◌, List, ℕ, ◌*◌, ◌^◌, ◌<◌, ◌≤◌, length, get_or};
 ghost use Rattle.totals_spec.specs.Bytes.{values_in};
 ghost use Rattle.totals_spec.specs.Table.{column_of};
-ghost use Rattle.values.specs.Sources.{Within, elements};
 
-use crate::{Source, element, word_at};
+use crate::word_at;
 
 // Elements that are read one after another. A walk has a copy of its own for each such list, with these methods inlined.
 pub trait Elements {
     ghost list: { Self → List ℕ };
 
+    // How many they are. Each fits a word.
     fn count(&self) -> usize
-        ensures { result ≡ length (list self.now) };
+        ensures value { result ≡ length (list self.now) }
+        ensures fit { (i : ℕ) → get_or (list self.now) i 0 < 2 ^ 64 };
 
     fn at(&self, i: usize) -> u64
         requires { i < length (list self.now) }
         ensures { result ≡ get_or (list self.now) i 0 };
+}
+
+// How many words there are. Each fits one.
+#[inline(always)]
+fn words_in(words: &[u64]) -> usize
+    ensures value { result ≡ length words.now }
+    ensures fit { (i : ℕ) → get_or words.now i 0 < 2 ^ 64 }
+{
+    words.len()
+}
+
+// The same of bytes.
+#[inline(always)]
+fn bytes_in(bytes: &[u8]) -> usize
+    ensures value { result ≡ length bytes.now }
+    ensures fit { (i : ℕ) → get_or bytes.now i 0 < 2 ^ 8 }
+{
+    bytes.len()
 }
 
 // Words.
@@ -29,7 +48,7 @@ impl Elements for Words<'_> {
 
     #[inline(always)]
     fn count(&self) -> usize {
-        self.values.len()
+        words_in(self.values)
     }
 
     #[inline(always)]
@@ -50,7 +69,7 @@ impl Elements for Bytes<'_> {
 
     #[inline(always)]
     fn count(&self) -> usize {
-        self.values.len() / 8
+        bytes_in(self.values) / 8
     }
 
     #[inline(always)]
@@ -74,35 +93,12 @@ impl Elements for Column<'_> {
 
     #[inline(always)]
     fn count(&self) -> usize {
+        let _cells = words_in(self.cells);
         self.count
     }
 
     #[inline(always)]
     fn at(&self, i: usize) -> u64 {
         self.cells[self.first + self.step * i]
-    }
-}
-
-// The elements of a source.
-#[derive(Clone, Copy)]
-pub struct Sourced<'a> {
-    pub source: Source,
-    pub words: &'a [u64],
-    pub bytes: &'a [u8],
-    pub ghost within: { Within source words.now bytes.now },
-}
-
-impl Elements for Sourced<'_> {
-    ghost list = { λ s. elements s.source s.words.now s.bytes.now };
-
-    #[inline(always)]
-    fn count(&self) -> usize {
-        self.source.count
-    }
-
-    #[inline(always)]
-    fn at(&self, i: usize) -> u64 {
-        let place = self.source.start + i * self.source.step;
-        element(self.source, self.words, self.bytes, place)
     }
 }

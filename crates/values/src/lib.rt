@@ -7,7 +7,6 @@ ghost use Rattle.std.specs.Prelude.{◌≡◌, ◌+◌, ◌/◌, ◌<◌, ◌≤
 ghost use Rattle.totals_spec.specs.Bytes.{values_in};
 ghost use Rattle.totals_spec.specs.Extended.{tens_in};
 ghost use Rattle.values.specs.Laid.{laid};
-ghost use Rattle.values.specs.Sources.{values};
 ghost use Rattle.values.specs.Tens.{ten_of};
 
 // The value i.
@@ -47,38 +46,3 @@ pub fn put_word(buffer: &mut [u8], at: usize, x: u64)
 
 // The most elements of a list, or pairs of a dot (totals_spec, `limit`): refusal 6.
 pub const LIMIT: usize = 268435456;
-
-// Where the elements of a list stand: `count` of them, every `step`-th value from the value `start` on, among words (layout 0) or among values in
-// bytes.
-#[derive(Clone, Copy)]
-pub struct Source {
-    pub layout: u64,
-    pub start: usize,
-    pub step: usize,
-    pub count: usize,
-}
-
-// What a total walks over: the values (summand 0), the magnitudes (1) or the squares (2) of the elements of one list, or the products (3) of those of
-// two, which stand alike; or, for pence, the values a hundred times each (4). The last three are taken from a source that is read straight on, value
-// after value.
-#[derive(Clone, Copy)]
-pub struct Walk {
-    pub summand: u64,
-    pub source: Source,
-}
-
-// The summand of pence.
-pub const HUNDREDFOLD: u64 = 4;
-
-// The value at a place among the words or bytes of a source. A walk keeps count of the place beside the index: their product in each turn takes up to
-// a fifth off the speed of a sum.
-pub fn element(s: Source, words: &[u64], bytes: &[u8], at: usize) -> u64
-    requires { at < length (values s words.now bytes.now) }
-    ensures { result ≡ get_or (values s words.now bytes.now) at 0 }
-{
-    if s.layout == 0 {
-        words[at]
-    } else {
-        word_at(bytes, at)
-    }
-}

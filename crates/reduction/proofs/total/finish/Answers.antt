@@ -9,7 +9,7 @@ use Rattle.totals_spec.specs.Totals.{Answer, on_grid, reported}
 use Rattle.format.specs.Shapes.{shape_of}
 use Rattle.format.specs.Environments.{env_of}
 use Rattle.format.proofs.Shapes.{range_bounds}
-use Rattle.values.specs.Walks.{wide}
+use Rattle.reduction.specs.Answered.{wide}
 use Rattle.window.specs.Joined.{outcome_of}
 use Rattle.reduction.specs.Answered.{words_as, written_as, RoundedSum}
 use Rattle.reduction.proofs.Records.{leans, moved, edge-is}

@@ -1,8 +1,5 @@
 -- By the tests of the lengths, the refusal, and the total. The bias is the number that its 64 bits are read as.
 use Rattle.std.proofs.Common.{sym, ap, ◌∙◌}
-use Rattle.totals_spec.specs.Settings.{summand_of}
-use Rattle.totals_spec.proofs.Extended.{extended-dot-accepts}
-use Rattle.totals_spec.proofs.ExtendedCalls.{tens-values}
 use Rattle.limbs.proofs.Signs.{read}
 use Rattle.format.specs.Joined.{format_of, settings_of}
 use Rattle.totals.specs.Entered.{format_with}
@@ -28,23 +25,20 @@ returns-in-Err c =
     c.if-left-ne0.false c.if-right-ne0.false c.if-answer-lt32.false _
     (c.number.ensures ∙ c.in-Err.ensures) (λ z. number-some c.in-Err.refusal (sym c.number.ensures ∙ z)))
 
-pub total-requires : goal.total-requires
-total-requires c =
-    let a = c.args in
-    let (env, passed) = c.in-Ok.ensures in
-    let same = (extended-dot-accepts _ _ _ _ passed).1 in
-    (sym (tens-values a.right.now).0 ∙ sym same ∙ (tens-values a.left.now).0, rw env (dot-asked _ _ _ _ passed))
+pub dot-requires : goal.dot-requires
+dot-requires c = let (env, passed) = c.in-Ok.ensures in rw env (dot-asked _ _ _ _ passed)
 
 pub enter_tens-requires : goal.enter_tens-requires
 enter_tens-requires c =
     let (env, passed) = c.in-Ok.ensures in
-    dot-fits _ _ _ _ _ c.if-left-ne0.false c.if-right-ne0.false _ (rw env at c.total.ensures ∙ dot-told _ _ _ _ (summand_of 3) passed) c.if-answer-lt32.false
+    let told = rw env at c.dot.ensures ∙ dot-told _ _ _ _ passed in
+    dot-fits _ _ _ _ _ c.if-left-ne0.false c.if-right-ne0.false _ told c.if-answer-lt32.false
 
 pub returns : goal.returns
 returns c =
     let a = c.args in
     let (env, passed) = c.in-Ok.ensures in
+    let told = rw env at c.dot.ensures ∙ dot-told _ _ _ _ passed in
     let format = c.format_with-f.ensures ∙ ap (format_with 4 a.exponent_bits a.width a.named) (read a.bias c.ranges.bias.sfits) in
     rw (format, c.settings-c.ensures) at
-    (dot-written _ _ _ _ _ c.if-left-ne0.false c.if-right-ne0.false _
-    (rw env at c.total.ensures ∙ dot-told _ _ _ _ (summand_of 3) passed) c.if-answer-lt32.false passed _ c.enter_tens.ensures)
+    (dot-written _ _ _ _ _ c.if-left-ne0.false c.if-right-ne0.false _ told c.if-answer-lt32.false passed _ c.enter_tens.ensures)

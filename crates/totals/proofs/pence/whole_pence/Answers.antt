@@ -1,5 +1,5 @@
 -- Where nothing is left the figure is 0, and else that of the magnitude, with its sign.
-use Rattle.std.proofs.Common.{Bool, sym, ap, ◌∙◌, eqb-true}
+use Rattle.std.proofs.Common.{sym, ap, ◌∙◌, eqb-true}
 use Rattle.totals_spec.specs.Hundredfold.{whole_figure}
 use Rattle.totals_spec.proofs.Nearest.{figure-none}
 use Rattle.format.specs.Shapes.{shape_of}

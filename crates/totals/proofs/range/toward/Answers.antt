@@ -40,19 +40,21 @@ sign-lost b e = ap (λ (z : Bool). cond z 0 b) (sym (eq-eqb b (2 ^ 63) e))
 number-kept : (b : ℕ) → b ≢ 2 ^ 63 → b ≡ plus_zero b
 number-kept b e = ap (λ (z : Bool). cond z 0 b) (sym (ne_eqb b (2 ^ 63) e))
 
-pub words-a-requires-clause-left_value : goal.words-a-requires-clause-left_value
+pub sum-requires : goal.sum-requires
 unfolding with_rounding
-words-a-requires-clause-left_value c =
+sum-requires c =
     rw (c.layout.ensures, rounded c.args.rounding c.default-c.result c.default-c.ensures) (passes c.args.rounding _ c.requires)
 
 pub returns-then-a : goal.returns-then-a
 unfolding with_rounding
 returns-then-a c =
-    let is = rw (c.layout.ensures, rounded c.args.rounding c.default-c.result c.default-c.ensures) at (ap (λ (a : Answer). a.result) c.words-a.ensures) in
+    let told = c.answered-a.ensures ∙ c.sum.ensures.told in
+    let is = rw (c.layout.ensures, rounded c.args.rounding c.default-c.result c.default-c.ensures) at (ap (λ (a : Answer). a.result) told) in
     sign-lost _ (sym is ∙ c.if-a.true)
 
 pub returns-else-a : goal.returns-else-a
 unfolding with_rounding
 returns-else-a c =
-    let is = rw (c.layout.ensures, rounded c.args.rounding c.default-c.result c.default-c.ensures) at (ap (λ (a : Answer). a.result) c.words-a.ensures) in
+    let told = c.answered-a.ensures ∙ c.sum.ensures.told in
+    let is = rw (c.layout.ensures, rounded c.args.rounding c.default-c.result c.default-c.ensures) at (ap (λ (a : Answer). a.result) told) in
     is ∙ number-kept _ (λ z. c.if-a.false (is ∙ z))

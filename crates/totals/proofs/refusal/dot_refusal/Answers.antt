@@ -1,20 +1,30 @@
--- By the two parts of the tests.
-use Rattle.std.proofs.Common.{sym, ◌∙◌}
+-- Test by test.
+use Rattle.std.proofs.Common.{ap, sym, ◌∙◌}
 use Rattle.std.proofs.lemmas.Result.{err_from_is_err_and}
-use Rattle.totals.proofs.Refusals.{dot-first, dot-next}
+use borrow.Author.Tests.{not-true, not-false}
+use Rattle.totals.specs.Refusal.{number_of}
+use Rattle.totals.proofs.Refusals.{dot-first, dot-unlike, dot-few}
 use Rattle.totals.proofs.refusal.dot_refusal.Goals as goal
 
-pub returns-in_err-a : goal.returns-in_err-a
-returns-in_err-a c =
+pub returns-in_err-asked : goal.returns-in_err-asked
+returns-in_err-asked c =
     let p = err_from_is_err_and c.from_residual.result c.from_residual.ensures.1 in
-    rw (p.1, p.2) (dot-first _ _ _ c.in_err-a.ensures c.args.n c.args.m)
+    rw (p.1, p.2) (dot-first _ _ _ c.in_err-asked.ensures c.args.n c.args.m)
 
-pub returns-in_err-pair_refusal : goal.returns-in_err-pair_refusal
-returns-in_err-pair_refusal c =
-    let p = err_from_is_err_and c.from_residual-in_err-pair_refusal.result c.from_residual-in_err-pair_refusal.ensures.1 in
-    rw (p.1, p.2) (c.in_err-pair_refusal.ensures {u = tt} ∙ dot-next _ _ (sym c.in_ok-a.ensures.2) c.args.n c.args.m)
+pub returns-in_err-refuse_if : goal.returns-in_err-refuse_if
+returns-in_err-refuse_if c =
+    let p = err_from_is_err_and c.from_residual-in_err-refuse_if.result c.from_residual-in_err-refuse_if.ensures.1 in
+    let (other, is) = c.in_err-refuse_if.ensures {u = tt} in
+    rw (p.1, p.2) (ap number_of is ∙ dot-unlike _ _ (sym c.in_ok-asked.ensures.2) c.args.n c.args.m (not-true _ other))
+
+pub returns-in_err-few : goal.returns-in_err-few
+returns-in_err-few c =
+    let p = err_from_is_err_and c.from_residual-in_err-few.result c.from_residual-in_err-few.ensures.1 in
+    let same = not-false _ (c.in_ok-refuse_if.ensures {u = tt}) in
+    rw (p.1, p.2) (c.in_err-few.ensures {u = tt} ∙ dot-few _ _ (sym c.in_ok-asked.ensures.2) c.args.n c.args.m same)
 
 pub returns : goal.returns
 returns c =
-    let a = c.in_ok-a.ensures in
-    (a.0, a.1, sym (dot-next _ _ (sym a.2) c.args.n c.args.m) ∙ sym (c.in_ok-pair_refusal.ensures {u = tt}))
+    let a = c.in_ok-asked.ensures in
+    let same = not-false _ (c.in_ok-refuse_if.ensures {u = tt}) in
+    (a.0, a.1, sym (dot-few _ _ (sym a.2) c.args.n c.args.m same) ∙ sym (c.in_ok-few.ensures {u = tt}))

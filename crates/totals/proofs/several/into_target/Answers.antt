@@ -1,39 +1,54 @@
 -- By the tests, and by what the walk of the list keeps.
-use Rattle.std.proofs.Common.{◌≡◌, ℕ, sym, ◌∙◌, subst}
+use Rattle.std.proofs.Common.{◌≡◌, ℕ, sym, ap, ◌∙◌, subst}
+use Rattle.std.specs.Prelude.{Result}
 use Rattle.format.specs.Joined.{format_of, settings_of}
-use Rattle.totals.specs.Targets.{target_numbers}
-use Rattle.totals.proofs.Targets.{target-valid, target-stopped, target-strayed, target-unstrayed}
+use Rattle.further_spec.specs.Several.{reading_with}
+use Rattle.totals_spec.specs.Totals.{refused}
+use Rattle.totals.specs.declared.lists.Kept.{Kept}
+use Rattle.totals.specs.declared.refusal.Refusal.{Refusal}
+use Rattle.totals.specs.declared.several.Aim.{Aim}
+use Rattle.totals.specs.Kept.{KeptIn}
+use Rattle.totals.specs.Refusal.{number_of, place_of}
+use Rattle.totals.specs.Targets.{target_numbers, Aims}
+use Rattle.totals.proofs.Targets.{target-valid, target-stopped, target-strayed}
 use Rattle.totals.proofs.several.into_target.Goals as goal
 
 pub print_one-requires : goal.print_one-requires
 print_one-requires c =
-    let (list, target, env, passed) = c.in-Ok-2.ensures in
+    let a = c.args in
+    let w = c.in-Ok-Ok in
+    let d = a.denormals_are_zero in
+    let (list, target, env, passed) =
+    subst (Aims (format_of a.f) (format_of a.target.format) (settings_of a.target.settings) _) w.is-0 c.target_refusal.ensures in
     let v = target-valid _ _ _ _ _ passed in
     let k = c.requires v.numbers in
-    rw (list, target, env) (record {
-      settings = v.settings;
-      reading = c.args.denormals_are_zero;
-      values = k.values;
-      keeps = k.kept.keeps c.if-r-ne0.false;
-    })
+    let kept = subst (KeptIn (format_of a.f) (reading_with d) k.values) w.is-1 k.kept in
+    rw (list, target, env) (record { settings = v.settings; reading = d; values = k.values; keeps = kept.1 })
 
-pub returns-in-Err : goal.returns-in-Err
-returns-in-Err c = λ l many asked. c.from.ensures ∙ target-stopped _ _ l _ _ (sym many) _ c.in-Err.ensures
+pub returns-in-Err-default : goal.returns-in-Err-default
+returns-in-Err-default c = λ l many asked. c.from.ensures ∙ target-stopped _ _ l _ _ (sym many) _ c.in-Err-default.ensures
 
-pub returns-in-Ok : goal.returns-in-Ok
-returns-in-Ok c = λ l many asked.
-    let passed = c.in-Ok.ensures.3 in
-    let v = target-valid _ _ _ _ _ passed in
-    c.refused.ensures ∙ target-strayed _ _ l _ _ (sym many) passed c.args.w.report (asked v.numbers).told c.if-r-ne0.true
-
-pub returns-in-Ok-2 : goal.returns-in-Ok-2
-returns-in-Ok-2 c = λ l many asked.
+pub returns-in-Ok-Err : goal.returns-in-Ok-Err
+returns-in-Ok-Err c = λ l many asked.
     let a = c.args in
+    let w = c.in-Ok-Err in
+    let (list, target, env, passed) =
+    subst (Aims (format_of a.f) (format_of a.target.format) (settings_of a.target.settings) _) w.is-0 c.target_refusal.ensures in
+    let v = target-valid _ _ _ _ _ passed in
+    let kept = subst (KeptIn (format_of a.f) (reading_with a.denormals_are_zero) l) w.is-1 (asked v.numbers) in
+    c.from-in-Ok-Err.ensures ∙ ap (λ (e : Refusal). refused (number_of e) (place_of e)) kept.1
+    ∙ target-strayed _ a.denormals_are_zero l _ _ (sym many) passed kept.0
+
+pub returns-in-Ok-Ok : goal.returns-in-Ok-Ok
+returns-in-Ok-Ok c = λ l many asked.
+    let a = c.args in
+    let w = c.in-Ok-Ok in
+    let d = a.denormals_are_zero in
     let f = format_of a.f in
     let t = format_of a.target.format in
     let s = settings_of a.target.settings in
-    let (list, target, env, passed) = c.in-Ok-2.ensures in
-    let r = asked (target-valid _ _ _ _ _ passed).numbers in
+    let (list, target, env, passed) = subst (Aims f t s _) w.is-0 c.target_refusal.ensures in
+    let v = target-valid _ _ _ _ _ passed in
+    let kept = subst (KeptIn f (reading_with d) l) w.is-1 (asked v.numbers) in
     let printed = rw (list, target, env) at c.print_one.ensures in
-    printed a.denormals_are_zero l (subst (λ (n : ℕ). target_numbers f a.denormals_are_zero n t s ≡ 0) many passed)
-    (target-unstrayed f a.denormals_are_zero l t s (sym many) passed a.w.report r.told c.if-r-ne0.false) (r.keeps c.if-r-ne0.false)
+    printed d l (subst (λ (n : ℕ). target_numbers f d n t s ≡ 0) many passed) kept.0 kept.1

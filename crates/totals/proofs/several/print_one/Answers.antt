@@ -1,34 +1,48 @@
--- By what the walk keeps.
-use Rattle.std.proofs.Common.{◌∙◌, arith, rules, w64, to_z-of_z}
-use Rattle.totals_spec.specs.Chain.{chain}
+-- By what is kept.
+use Rattle.std.proofs.Common.{◌∙◌, arith, sym, ap}
+use Rattle.totals_spec.specs.Chain.{Run, chain}
 use Rattle.totals_spec.specs.Format.{digits}
 use Rattle.totals_spec.specs.Settings.{value}
+use Rattle.totals_spec.specs.Settled.{settled}
 use Rattle.totals_spec.specs.Totals.{sum_terms}
-use Rattle.further_spec.specs.Several.{reading_with}
+use Rattle.further_spec.specs.Several.{reading_with, printed, rounded_into}
 use Rattle.format.specs.Layouts.{layout_of}
+use Rattle.format.specs.Environments.{env_of}
+use Rattle.totals.proofs.Keeping.{kept-sum, kept-none}
 use Rattle.totals.proofs.Targets.{too_wide, not_finite, no-term, by_chain}
 use Rattle.totals.proofs.several.print_one.Goals as goal
-use Rattle.totals.proofs.several.print_one.Goals.{then-digits-via-then-digits, then-digits-via-else-digits+then-w}
+use Rattle.totals.proofs.several.print_one.Goals.{then-digits-via-then-digits, then-digits-via-else-digits+then-met_special}
 
 pub returns-then-digits : goal.returns-then-digits
 returns-then-digits c = λ d l a n k.
     elim c.then-digits.branch [
       | then-digits-via-then-digits w ↦
           c.from.ensures ∙ too_wide _ d l _ _ a n (omega (arith, c.digits.ensures, c.digits-2.ensures, w.if-digits.true))
-      | then-digits-via-else-digits+then-w w ↦
-          c.from.ensures ∙ not_finite _ d l _ _ a n (omega (arith, c.digits.ensures, c.digits-2.ensures, w.if-digits.false)) (k.special ∙ w.if-w.true)
+      | then-digits-via-else-digits+then-met_special w ↦
+          c.from.ensures
+          ∙ not_finite _ d l _ _ a n (omega (arith, c.digits.ensures, c.digits-2.ensures, w.if-digits.false))
+          (k.special ∙ sym w.met_special.ensures ∙ w.if-met_special.true)
     ]
 
-pub returns-then-w-eq0 : goal.returns-then-w-eq0
-returns-then-w-eq0 c = λ d l a n k.
-    c.print_zero.ensures
-    ∙ no-term _ d l _ _ a n (omega (arith, c.digits.ensures, c.digits-2.ensures, c.if-digits.false)) (k.special ∙ c.if-w.false)
-    (k.none c.if-w-eq0.true) _ _ _ k.subnormal k.positive-zero k.negative-zero
+pub print-requires : goal.print-requires
+print-requires c =
+    let k = c.requires in
+    let o = kept-sum _ _ _ _ k.keeps c.in-Some.e c.in-Some.is in
+    record { ended = o.2.ended; settings = k.settings; digits_le = omega (arith, c.digits.ensures, c.digits-2.ensures, c.if-digits.false) }
 
-pub returns : goal.returns
-returns c = λ d l a n k.
-    let o = k.ends c.if-w.false c.if-w-eq0.false in
+pub returns-in-Some : goal.returns-in-Some
+returns-in-Some c = λ d l a n k.
     let f = layout_of c.args.aim.list in
-    c.print.ensures _ (chain (digits f) (sum_terms f (reading_with d) value l)) o.left o.passes
-    (to_z-of_z {w = w64} {z = c.args.w.report.last_edge} (search rules) ∙ o.edge)
-    ∙ by_chain _ d l _ _ a n (omega (arith, c.digits.ensures, c.digits-2.ensures, c.if-digits.false)) (k.special ∙ c.if-w.false) o.some _ k.subnormal
+    let t = layout_of c.args.aim.layout in
+    let e = env_of c.args.aim.env in
+    let o = kept-sum _ _ _ _ k c.in-Some.e c.in-Some.is in
+    let run = ap (λ (r : Run). printed f t c.args.kept.scan.subnormal (settled r.outcome) (rounded_into f t e (settled r.outcome)) r) o.2.run in
+    c.print.ensures ∙ run
+    ∙ by_chain f d l t e a n (omega (arith, c.digits.ensures, c.digits-2.ensures, c.if-digits.false)) (k.special ∙ o.0) o.1 _ k.subnormal
+
+pub returns-in-None : goal.returns-in-None
+returns-in-None c = λ d l a n k.
+    let finite = sym c.met_special.ensures ∙ c.if-met_special.false in
+    c.print_zero.ensures
+    ∙ no-term _ d l _ _ a n (omega (arith, c.digits.ensures, c.digits-2.ensures, c.if-digits.false)) (k.special ∙ finite)
+    (kept-none _ _ _ _ k c.in-None.is finite) _ _ _ k.subnormal k.positive-zero k.negative-zero

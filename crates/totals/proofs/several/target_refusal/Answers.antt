@@ -1,7 +1,9 @@
--- By the two parts of the tests.
-use Rattle.std.proofs.Common.{sym, ◌∙◌}
+-- Test by test.
+use Rattle.std.proofs.Common.{ap, sym, ◌∙◌}
 use Rattle.std.proofs.lemmas.Result.{err_from_is_err_and}
-use Rattle.totals.proofs.Targets.{target-first, target-next}
+use borrow.Author.Tests.{ltb-true, ltb-false}
+use Rattle.totals.specs.Refusal.{number_of}
+use Rattle.totals.proofs.Targets.{target-first, target-setting, target-few}
 use Rattle.totals.proofs.several.target_refusal.Goals as goal
 
 pub returns-in_err-a : goal.returns-in_err-a
@@ -9,12 +11,20 @@ returns-in_err-a c =
     let p = err_from_is_err_and c.from_residual.result c.from_residual.ensures.1 in
     rw (p.1, p.2) (target-first _ _ _ _ _ _ c.in_err-a.ensures)
 
-pub returns-in_err-list_refusal : goal.returns-in_err-list_refusal
-returns-in_err-list_refusal c =
-    let p = err_from_is_err_and c.from_residual-in_err-list_refusal.result c.from_residual-in_err-list_refusal.ensures.1 in
-    rw (p.1, p.2) (c.in_err-list_refusal.ensures {u = tt} ∙ target-next _ _ _ _ _ (sym c.in_ok-a.ensures.3))
+pub returns-in_err-refuse_if : goal.returns-in_err-refuse_if
+returns-in_err-refuse_if c =
+    let p = err_from_is_err_and c.from_residual-in_err-refuse_if.result c.from_residual-in_err-refuse_if.ensures.1 in
+    let (large, is) = c.in_err-refuse_if.ensures {u = tt} in
+    rw (p.1, p.2) (ap number_of is ∙ target-setting _ _ _ _ _ (sym c.in_ok-a.ensures.3) (ltb-true _ _ large))
+
+pub returns-in_err-few : goal.returns-in_err-few
+returns-in_err-few c =
+    let p = err_from_is_err_and c.from_residual-in_err-few.result c.from_residual-in_err-few.ensures.1 in
+    let small = ltb-false _ _ (c.in_ok-refuse_if.ensures {u = tt}) in
+    rw (p.1, p.2) (c.in_err-few.ensures {u = tt} ∙ target-few _ _ _ _ _ (sym c.in_ok-a.ensures.3) small)
 
 pub returns : goal.returns
 returns c =
     let a = c.in_ok-a.ensures in
-    (a.0, a.1, a.2, sym (target-next _ _ _ _ _ (sym a.3)) ∙ sym (c.in_ok-list_refusal.ensures {u = tt}))
+    let small = ltb-false _ _ (c.in_ok-refuse_if.ensures {u = tt}) in
+    (a.0, a.1, a.2, sym (target-few _ _ _ _ _ (sym a.3) small) ∙ sym (c.in_ok-few.ensures {u = tt}))

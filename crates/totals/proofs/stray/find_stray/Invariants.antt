@@ -1,8 +1,6 @@
--- The first i elements have no stray bit, and the next one stands at the place that is kept beside i.
-use Rattle.std.proofs.Common.{◌≡◌, ◌+◌, ◌*◌}
-use Rattle.values.specs.Sources.{elements}
+-- The first i elements have no stray bit.
 use Rattle.totals.proofs.Search.{Clear}
 use Rattle.totals.proofs.stray.find_stray.Given as goal
 
 abbrev pub invariant-loop-i : goal.invariant-loop-i
-invariant-loop-i l = Clear l.width (elements l.source l.words l.bytes) l.i × (l.place ≡ l.source.start + l.i * l.source.step)
+invariant-loop-i g l = Clear l.width (g.E.Elements.list l.elements) l.i

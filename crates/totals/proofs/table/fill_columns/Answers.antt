@@ -3,17 +3,17 @@ use Rattle.std.proofs.Common.{◌≤◌, ◌*◌, ℕ, set, map, sym, ap, ◌∙
 use Rattle.std.proofs.Math.Nat.{mul-le-mul_left}
 use Rattle.totals_spec.specs.Totals.{Answer}
 use Rattle.totals_spec.specs.Table.{columns_from, plain_total, filled}
-use Rattle.totals_spec.proofs.Table.{columns-filled}
+use Rattle.totals_spec.proofs.Table.{columns-filled, column-length}
 use Rattle.format.specs.Layouts.{layout_of}
 use Rattle.format.specs.Environments.{env_of}
 use Rattle.totals.proofs.Columns.{fewer-pass}
 use Rattle.totals.proofs.table.fill_columns.Goals as goal
 
-pub column-a-requires-clause-count_value : goal.column-a-requires-clause-count_value
-column-a-requires-clause-count_value c =
+pub sum-requires : goal.sum-requires
+sum-requires c =
     let a = c.args in
     let some : a.rows * 1 ≤ a.rows * a.columns = mul-le-mul_left a.rows (omega (arith, c.loop-j-test.true)) in
-    fewer-pass (layout_of a.f) (env_of a.c) 0 a.rows _ (omega (arith, some, c.requires.0)) c.requires.2
+    rw (column-length a.rows a.columns a.cells.now c.loop-j.j) (fewer-pass (layout_of a.f) (env_of a.c) 0 a.rows _ (omega (arith, some, c.requires.0)) c.requires.2)
 
 pub loop-j-preserved : goal.loop-j-preserved
 loop-j-preserved c =
@@ -21,6 +21,6 @@ loop-j-preserved c =
     let l = c.loop-j in
     let g = plain_total (layout_of a.f) (env_of a.c) in
     let old = a.totals.now in
-    ap (λ (x : ℕ). set l.totals l.j x) (ap (λ (r : Answer). r.result) c.column-a.ensures)
+    ap (λ (x : ℕ). set l.totals l.j x) (ap (λ (r : Answer). r.result) (c.answered-a.ensures ∙ c.sum.ensures.told))
     ∙ columns-filled g a.columns a.cells.now l.totals old l.j (omega arith) a.rows l.invariant
     ∙ ap (λ (k : ℕ). filled (map g (columns_from a.rows a.columns a.cells.now 0 k)) old) (sym (add-one l.j))

@@ -17,12 +17,12 @@ loop-i-preserved c =
     let row = drop (l.i * a.columns) a.cells.now in
     let old = a.totals.now in
     let wide : l.i * a.columns + a.columns - l.i * a.columns ≡ a.columns = omega arith in
-    ap (λ (x : ℕ). set l.totals l.i x) (ap (λ (r : Answer). r.result) c.words-a.ensures ∙ ap (λ (n : ℕ). g (take n row)) wide)
+    ap (λ (x : ℕ). set l.totals l.i x) (ap (λ (r : Answer). r.result) (c.answered-a.ensures ∙ c.sum.ensures.told) ∙ ap (λ (n : ℕ). g (take n row)) wide)
     ∙ rows-filled g a.columns a.cells.now l.totals old l.i (omega arith) l.invariant
     ∙ ap (λ (k : ℕ). filled (map g (rows_of k a.columns a.cells.now)) old) (sym (add-one l.i))
 
-pub words-a-requires-clause-left_value : goal.words-a-requires-clause-left_value
-words-a-requires-clause-left_value c =
+pub sum-requires : goal.sum-requires
+sum-requires c =
     let a = c.args in
     let wide : c.loop-i.i * a.columns + a.columns - c.loop-i.i * a.columns ≡ a.columns = omega arith in
     let some : 1 * a.columns ≤ a.rows * a.columns = mul-le-mul_right a.columns (omega (arith, c.loop-i-test.true)) in

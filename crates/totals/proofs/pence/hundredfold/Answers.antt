@@ -1,0 +1,39 @@
+-- By what the scan has met, and else by the chain over the values a hundred times each.
+use Rattle.std.proofs.Common.{◌∙◌, arith, ◌≤◌, le_refl}
+use Rattle.totals_spec.specs.Settings.{no_settings, value}
+use Rattle.format.specs.Layouts.{layout_of}
+use Rattle.format.proofs.Layouts.{layout_bounds}
+use Rattle.scan.specs.Joined.{Scanned}
+use Rattle.scan.specs.Encodings.{of_layout, ScannedAs}
+use Rattle.reduction.proofs.Loop.{hundred-base}
+use Rattle.totals.proofs.Counted.{met-figure, zero-figure, chain-figure, raised-top, left-countable}
+use Rattle.totals.proofs.Keeping.{scanned, top-room}
+use Rattle.totals.proofs.pence.hundredfold.Goals as goal
+
+pub returns-then-met_special : goal.returns-then-met_special
+returns-then-met_special g c =
+    let seen = scanned c.args.f no_settings _ _ (rw c.default.ensures at c.scan_list-s.ensures) in
+    c.from.ensures ∙ met-figure _ _ seen c.met_special.ensures c.if-met_special.true
+
+pub returns-then-s-eq0 : goal.returns-then-s-eq0
+returns-then-s-eq0 g c =
+    let seen = scanned c.args.f no_settings _ _ (rw c.default.ensures at c.scan_list-s.ensures) in
+    c.in_range.ensures ∙ zero-figure _ _ seen c.met_special.ensures c.if-met_special.false c.if-s-eq0.true
+
+pub overflow_add-s : goal.overflow_add-s
+overflow_add-s g c = record { fits = omega (arith, top-room c.args.f _ _ _ c.scan_list-s.ensures) }
+
+pub exact-e-requires : goal.exact-e-requires
+exact-e-requires g c =
+    let seen = scanned c.args.f no_settings _ _ (rw c.default.ensures at c.scan_list-s.ensures) in
+    let t = raised-top _ _ seen c.if-s-eq0.false in
+    (hundred-base (omega arith) (layout_of c.args.f) (layout_bounds c.args.f).range no_settings _ c.requires (rw t.0 at t.1), t.0)
+
+pub whole_pence-requires : goal.whole_pence-requires
+whole_pence-requires g c = left-countable _ _ c.left.ensures
+
+pub returns : goal.returns
+returns g c =
+    let seen = scanned c.args.f no_settings _ _ (rw c.default.ensures at c.scan_list-s.ensures) in
+    c.whole_pence.ensures _ c.left.ensures
+    ∙ chain-figure _ _ seen c.met_special.ensures c.if-met_special.false c.requires _ c.exact-e.ensures

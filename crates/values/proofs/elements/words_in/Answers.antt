@@ -1,0 +1,5 @@
+use Rattle.std.proofs.Common.{arith}
+use Rattle.values.proofs.elements.words_in.Goals as goal
+
+pub returns-clause-fit : goal.returns-clause-fit
+returns-clause-fit c i = omega (arith, c.type_inv.words i)
