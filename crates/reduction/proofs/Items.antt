@@ -1,8 +1,8 @@
 -- The items of numbers, one by one, and what a total may count on.
 use mathlib.Core.Path.{◌≡◌, refl, ap, ◌∙◌, subst, sym}
 use mathlib.Core.List.{List, [], ◌∷◌, map}
-use Prim.Native.Nat.{ℕ, zero, suc, ◌+◌, ◌≤◌, ◌<◌}
-use native.Mathlib.Nat.{le_of_suc-le-suc, not-suc-le-zero, zero-lt-suc, le_trans}
+use Prim.Native.Nat.{ℕ, zero, suc, ◌+◌, ◌≤◌, ◌<◌, min}
+use native.Mathlib.Nat.{le_of_suc-le-suc, not-suc-le-zero, suc-min-suc}
 use native.Mathlib.Omega.{arith}
 use lib.ListN.{length, get_or, length-map}
 use Rattle.totals_spec.specs.Format.{Format}
@@ -21,7 +21,6 @@ use Rattle.totals_spec.proofs.Tops.{sum_top, dot-top}
 use Rattle.format.specs.declared.layout.Layout.{Layout}
 use Rattle.format.specs.Layouts.{layout_of}
 use Rattle.format.proofs.Layouts.{layout_bounds}
-use Rattle.arithmetic.proofs.Pairs.{pairs-at}
 use Rattle.scan.specs.Encodings.{of_layout, of_tens, item_in, pair_in}
 use Rattle.reduction.specs.Held.{Base, Summable}
 
@@ -30,13 +29,21 @@ mapped g [] i d e h = absurd (not-suc-le-zero h)
 mapped g (x ∷ l) zero d e h = refl
 mapped g (x ∷ l) (suc i) d e h = mapped g l i d e (le_of_suc-le-suc h)
 
--- of the pairs of two lists of one length
-module _ {B : Type 0} (g : ℕ × ℕ → B) (l r : List ℕ) (alike : length r ≡ length l) where
-  pub pairs-many : length (map g (pairs l r)) ≡ length l
-  pairs-many = length-map (pairs l r) g ∙ pairs-length l r (sym alike)
+-- of the pairs of two lists
+module _ {B : Type 0} (g : ℕ × ℕ → B) where
+  pub pairs-count : (l r : List ℕ) → length (map g (pairs l r)) ≡ min (length l) (length r)
+  pairs-count [] r = omega arith
+  pairs-count (x ∷ l) [] = omega arith
+  pairs-count (x ∷ l) (y ∷ r) = ap suc (pairs-count l r) ∙ sym (suc-min-suc (length l) (length r))
 
-  pub pairs-mapped : (i : ℕ) (e : B) → i < length l → get_or (map g (pairs l r)) i e ≡ g (get_or l i 0, get_or r i 0)
-  pairs-mapped i e h = mapped g (pairs l r) i (0, 0) e (rw (pairs-length l r (sym alike)) h) ∙ ap g (pairs-at l r i alike h)
+  pub pairs-mapped : (l r : List ℕ) (i : ℕ) (e : B) → i < length l → i < length r → get_or (map g (pairs l r)) i e ≡ g (get_or l i 0, get_or r i 0)
+  pairs-mapped [] r i e h k = absurd (not-suc-le-zero h)
+  pairs-mapped (x ∷ l) [] i e h k = absurd (not-suc-le-zero k)
+  pairs-mapped (x ∷ l) (y ∷ r) zero e h k = refl
+  pairs-mapped (x ∷ l) (y ∷ r) (suc i) e h k = pairs-mapped l r i e (le_of_suc-le-suc h) (le_of_suc-le-suc k)
+
+  pub pairs-many : (l r : List ℕ) → length r ≡ length l → length (map g (pairs l r)) ≡ length l
+  pairs-many l r alike = length-map (pairs l r) g ∙ pairs-length l r (sym alike)
 
 -- ---- what can be added up: sums and dots of an offered format
 

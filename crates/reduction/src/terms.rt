@@ -41,14 +41,14 @@ pub trait Terms {
 
 // The values, the magnitudes or the squares of some numbers.
 #[derive(Clone, Copy)]
-pub struct Summed<'a, N> {
-    pub numbers: &'a N,
+pub struct Summed<N> {
+    pub numbers: N,
     pub env: Env,
     pub summand: Summand,
 }
 
-impl<N: Numbers> Terms for Summed<'_, N> {
-    ghost items = { λ s. map (item_in (N.encoding s.numbers.now) (env_of s.env) (summand_in s.summand)) (N.codes s.numbers.now) };
+impl<N: Numbers> Terms for Summed<N> {
+    ghost items = { λ s. map (item_in (N.encoding s.numbers) (env_of s.env) (summand_in s.summand)) (N.codes s.numbers) };
 
     ghost single = { λ s. is_single s.summand };
 
@@ -68,23 +68,22 @@ impl<N: Numbers> Terms for Summed<'_, N> {
     }
 }
 
-// The products of the pairs of two lists of one length.
-#[derive(Drop)]
-pub struct Paired<'a, N: Numbers> {
-    pub left: &'a N,
-    pub right: &'a N,
+// The products of the pairs of two lists.
+#[derive(Clone, Copy)]
+pub struct Paired<N> {
+    pub left: N,
+    pub right: N,
     pub env: Env,
-    pub ghost alike: { length (N.codes right.now) ≡ length (N.codes left.now) },
 }
 
-impl<N: Numbers> Terms for Paired<'_, N> {
-    ghost items = { λ s. map (pair_in (N.encoding s.left.now) (env_of s.env)) (pairs (N.codes s.left.now) (N.codes s.right.now)) };
+impl<N: Numbers> Terms for Paired<N> {
+    ghost items = { λ s. map (pair_in (N.encoding s.left) (env_of s.env)) (pairs (N.codes s.left) (N.codes s.right)) };
 
     ghost single = { λ s. false };
 
     #[inline(always)]
     fn count(&self) -> usize {
-        self.left.count()
+        self.left.count().min(self.right.count())
     }
 
     #[inline(always)]
@@ -94,19 +93,19 @@ impl<N: Numbers> Terms for Paired<'_, N> {
 
     #[inline(always)]
     fn term(&self, i: usize) -> Option<Term> {
-        self.left.pair_term(self.right, self.env, i)
+        self.left.pair_term(&self.right, self.env, i)
     }
 }
 
 // A hundred times each value of a list, for pence.
 #[derive(Clone, Copy)]
-pub struct Hundreds<'a, E> {
+pub struct Hundreds<E> {
     pub layout: Layout,
-    pub elements: &'a E,
+    pub elements: E,
 }
 
-impl<E: Elements> Terms for Hundreds<'_, E> {
-    ghost items = { λ s. map (hundred_item (layout_of s.layout) no_settings) (E.list s.elements.now) };
+impl<E: Elements> Terms for Hundreds<E> {
+    ghost items = { λ s. map (hundred_item (layout_of s.layout) no_settings) (E.list s.elements) };
 
     ghost single = { λ s. false };
 

@@ -21,7 +21,7 @@ use values::elements::Elements;
 use values::ten_at;
 
 // A list of numbers. A walk has a copy of its own for each such list, with these methods inlined.
-pub trait Numbers {
+pub trait Numbers: Copy {
     // How the codes of the list are read.
     ghost encoding: { Self → Encoding };
 
@@ -73,15 +73,15 @@ pub trait Numbers {
 
 // Numbers of an offered format.
 #[derive(Clone, Copy)]
-pub struct Encoded<'a, E> {
+pub struct Encoded<E> {
     pub layout: Layout,
-    pub elements: &'a E,
+    pub elements: E,
 }
 
-impl<E: Elements> Numbers for Encoded<'_, E> {
+impl<E: Elements> Numbers for Encoded<E> {
     ghost encoding = { λ s. of_layout s.layout };
 
-    ghost codes = { λ s. E.list s.elements.now };
+    ghost codes = { λ s. E.list s.elements };
 
     #[inline(always)]
     fn shape(&self) -> Shape {

@@ -90,7 +90,7 @@ pub fn sum(c: Env, u: Summand, values: &[u8]) -> Wide
     if any_unsupported(values) {
         return unsupported(c, scan_list(&numbers, c, u));
     }
-    sum_of(c, u, &numbers)
+    sum_of(c, u, numbers)
 }
 
 // The dot of two lists that is not refused.
@@ -103,5 +103,5 @@ pub fn dot(c: Env, left: &[u8], right: &[u8]) -> Wide
     if any_unsupported(left) || any_unsupported(right) {
         return unsupported(c, scan_pairs(&left_tens, &right_tens, c));
     }
-    dot_of(c, &left_tens, &right_tens)
+    dot_of(c, left_tens, right_tens)
 }

@@ -55,12 +55,12 @@ fn total<T: Terms>(
 }
 
 // The sum of some numbers.
-pub fn sum_of<N: Numbers>(c: Env, u: Summand, numbers: &N) -> Wide
-    requires known { Known (wide (N.encoding numbers.now).format) (N.encoding numbers.now).format × SettingsBounds (N.encoding numbers.now).format (env_of c) }
-    requires summable { Summable (N.encoding numbers.now).format (map (item_in (N.encoding numbers.now) (env_of c) (summand_in u)) (N.codes numbers.now)) }
-    ensures { answer_as (wide (N.encoding numbers.now).format) result ≡ given_as (wide (N.encoding numbers.now).format) (sum_in (N.encoding numbers.now) (env_of c) (summand_in u) (N.codes numbers.now)) }
+pub fn sum_of<N: Numbers>(c: Env, u: Summand, numbers: N) -> Wide
+    requires known { Known (wide (N.encoding numbers).format) (N.encoding numbers).format × SettingsBounds (N.encoding numbers).format (env_of c) }
+    requires summable { Summable (N.encoding numbers).format (map (item_in (N.encoding numbers) (env_of c) (summand_in u)) (N.codes numbers)) }
+    ensures { answer_as (wide (N.encoding numbers).format) result ≡ given_as (wide (N.encoding numbers).format) (sum_in (N.encoding numbers) (env_of c) (summand_in u) (N.codes numbers)) }
 {
-    let s = scan_list(numbers, c, u);
+    let s = scan_list(&numbers, c, u);
     total(
         numbers.shape(),
         c,
@@ -76,13 +76,13 @@ pub fn sum_of<N: Numbers>(c: Env, u: Summand, numbers: &N) -> Wide
 }
 
 // The sum of the products of the pairs of two lists.
-pub fn dot_of<N: Numbers>(c: Env, left: &N, right: &N) -> Wide
-    requires alike { (N.encoding right.now ≡ N.encoding left.now) × (length (N.codes right.now) ≡ length (N.codes left.now)) }
-    requires known { Known (wide (N.encoding left.now).format) (N.encoding left.now).format × SettingsBounds (N.encoding left.now).format (env_of c) }
-    requires summable { Summable (N.encoding left.now).format (map (pair_in (N.encoding left.now) (env_of c)) (totals.pairs (N.codes left.now) (N.codes right.now))) }
-    ensures { answer_as (wide (N.encoding left.now).format) result ≡ given_as (wide (N.encoding left.now).format) (dot_in (N.encoding left.now) (env_of c) (totals.pairs (N.codes left.now) (N.codes right.now))) }
+pub fn dot_of<N: Numbers>(c: Env, left: N, right: N) -> Wide
+    requires alike { (N.encoding right ≡ N.encoding left) × (length (N.codes right) ≡ length (N.codes left)) }
+    requires known { Known (wide (N.encoding left).format) (N.encoding left).format × SettingsBounds (N.encoding left).format (env_of c) }
+    requires summable { Summable (N.encoding left).format (map (pair_in (N.encoding left) (env_of c)) (totals.pairs (N.codes left) (N.codes right))) }
+    ensures { answer_as (wide (N.encoding left).format) result ≡ given_as (wide (N.encoding left).format) (dot_in (N.encoding left) (env_of c) (totals.pairs (N.codes left) (N.codes right))) }
 {
-    let s = scan_pairs(left, right, c);
+    let s = scan_pairs(&left, &right, c);
     total(
         left.shape(),
         c,
@@ -98,18 +98,18 @@ pub fn dot_of<N: Numbers>(c: Env, left: &N, right: &N) -> Wide
 }
 
 // The sum of the elements of a list, unless one of them has a stray bit.
-pub fn sum<E: Elements>(f: Layout, c: Env, u: Summand, elements: &E) -> Result<Answer, Refusal>
-    requires { sum_numbers (layout_of f) (env_of c) (summand_number u) (length (E.list elements.now)) ≡ 0 }
-    ensures told { answer_in result ≡ totals.sum_answer (layout_of f) (env_of c) (summand_number u) (E.list elements.now) }
-    ensures accepted { ForOk result (λ a. totals.sum_refusal (layout_of f) (env_of c) (summand_number u) (E.list elements.now) ≡ 0) }
+pub fn sum<E: Elements>(f: Layout, c: Env, u: Summand, elements: E) -> Result<Answer, Refusal>
+    requires { sum_numbers (layout_of f) (env_of c) (summand_number u) (length (E.list elements)) ≡ 0 }
+    ensures told { answer_in result ≡ totals.sum_answer (layout_of f) (env_of c) (summand_number u) (E.list elements) }
+    ensures accepted { ForOk result (λ a. totals.sum_refusal (layout_of f) (env_of c) (summand_number u) (E.list elements) ≡ 0) }
 {
-    if let Some(i) = find_stray(f.shape.width, elements) {
+    if let Some(i) = find_stray(f.shape.width, &elements) {
         return Err(Refusal::StrayBit(i));
     }
     let w = sum_of(
         c,
         u,
-        &Encoded {
+        Encoded {
             layout: f,
             elements,
         },
@@ -118,24 +118,24 @@ pub fn sum<E: Elements>(f: Layout, c: Env, u: Summand, elements: &E) -> Result<A
 }
 
 // The sum of the products of the pairs, likewise: a stray bit is looked for in the left list first.
-pub fn dot<E: Elements>(f: Layout, c: Env, left: &E, right: &E) -> Result<Answer, Refusal>
-    requires { dot_numbers (layout_of f) (env_of c) (length (E.list left.now)) (length (E.list right.now)) ≡ 0 }
-    ensures { answer_in result ≡ totals.dot_answer (layout_of f) (env_of c) (E.list left.now) (E.list right.now) }
+pub fn dot<E: Elements>(f: Layout, c: Env, left: E, right: E) -> Result<Answer, Refusal>
+    requires { dot_numbers (layout_of f) (env_of c) (length (E.list left)) (length (E.list right)) ≡ 0 }
+    ensures { answer_in result ≡ totals.dot_answer (layout_of f) (env_of c) (E.list left) (E.list right) }
 {
     let width = f.shape.width;
-    if let Some(i) = find_stray(width, left) {
+    if let Some(i) = find_stray(width, &left) {
         return Err(Refusal::StrayBit(i));
     }
-    if let Some(i) = find_stray(width, right) {
+    if let Some(i) = find_stray(width, &right) {
         return Err(Refusal::StrayBit(i));
     }
     let w = dot_of(
         c,
-        &Encoded {
+        Encoded {
             layout: f,
             elements: left,
         },
-        &Encoded {
+        Encoded {
             layout: f,
             elements: right,
         },
@@ -168,14 +168,14 @@ pub fn keep(f: Layout, c: Env, values: &[u8]) -> Result<Kept, Refusal>
     }
     let numbers = Encoded {
         layout: f,
-        elements: &elements,
+        elements,
     };
     let scan = scan_list(&numbers, c, Summand::Value);
     let sum = if met_special(scan) || scan.top == 0 {
         None
     } else {
         let list = Summed {
-            numbers: &numbers,
+            numbers,
             env: c,
             summand: Summand::Value,
         };

@@ -178,9 +178,9 @@ pub fn whole_pence(f: Shape, v: Unrounded) -> Pence
 }
 
 // The pence of a list without a stray bit.
-fn hundredfold<E: Elements>(f: Layout, elements: &E) -> Pence
-    requires { length (E.list elements.now) ≤ limit }
-    ensures { pence_record result ≡ list_figure (layout_of f) (E.list elements.now) }
+fn hundredfold<E: Elements>(f: Layout, elements: E) -> Pence
+    requires { length (E.list elements) ≤ limit }
+    ensures { pence_record result ≡ list_figure (layout_of f) (E.list elements) }
 {
     let numbers = Encoded {
         layout: f,
@@ -215,5 +215,5 @@ pub fn pence_of_sum(f: Format, values: &[u64]) -> Pence
     if let Some(i) = find_stray(layout.shape.width, &elements) {
         return Pence::from(Refusal::StrayBit(i));
     }
-    hundredfold(layout, &elements)
+    hundredfold(layout, elements)
 }

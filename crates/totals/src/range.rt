@@ -148,7 +148,7 @@ fn toward(rounding: Rounding, l: &[u64]) -> u64
 {
     let mut c = Env::default();
     c.rounding = rounding;
-    let a = answered(sum(layout(), c, Summand::Value, &Words { values: l }));
+    let a = answered(sum(layout(), c, Summand::Value, Words { values: l }));
     if a.result == SIGN { 0 } else { a.result }
 }
 

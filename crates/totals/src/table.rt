@@ -32,7 +32,7 @@ fn fill_rows(f: Layout, c: Env, rows: usize, columns: usize, cells: &[u64], tota
     for i in 0..rows {
         let at = i * columns;
         let row = &cells[at..at + columns];
-        let a = answered(sum(f, c, Summand::Value, &Words { values: row }));
+        let a = answered(sum(f, c, Summand::Value, Words { values: row }));
         totals[i] = a.result;
     }
 }
@@ -49,7 +49,7 @@ fn fill_columns(f: Layout, c: Env, rows: usize, columns: usize, cells: &[u64], t
             step: columns,
             count: rows,
         };
-        let a = answered(sum(f, c, Summand::Value, &column));
+        let a = answered(sum(f, c, Summand::Value, column));
         totals[j] = a.result;
     }
 }
@@ -77,7 +77,7 @@ pub fn table(
         return Answer::from(Refusal::NoRoom);
     }
     let all = Words { values: cells };
-    let grand = match sum(asked.layout, asked.env, Summand::Value, &all) {
+    let grand = match sum(asked.layout, asked.env, Summand::Value, all) {
         Ok(grand) => grand,
         Err(refusal) => return Answer::from(refusal),
     };

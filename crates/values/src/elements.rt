@@ -6,7 +6,7 @@ ghost use Rattle.totals_spec.specs.Table.{column_of};
 use crate::word_at;
 
 // Elements that are read one after another. A walk has a copy of its own for each such list, with these methods inlined.
-pub trait Elements {
+pub trait Elements: Copy {
     ghost list: { Self → List ℕ };
 
     // How many they are. Each fits a word.
