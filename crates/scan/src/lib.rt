@@ -155,15 +155,15 @@ impl Scan {
 }
 
 // Whether a NaN decides. Where infinities come first, a quiet NaN yields to one of them and a signaling NaN does not.
-fn nan_decides(infinity_first: bool, s: Scan) -> bool
-    ensures { result ≡ nan_decides infinity_first s }
+fn nan_decides(infinity_first: bool, s: &Scan) -> bool
+    ensures { result ≡ nan_decides infinity_first s.now }
 {
     s.nan.is_some() && !(infinity_first && !s.signaling && s.positive_infinity)
 }
 
 // What a scan decides: a NaN, an invalid product, infinities, or zeros alone. Where it decides nothing there are terms, and all is finite.
-pub fn decided(c: Env, infinity_first: bool, s: Scan) -> Option<Given>
-    ensures { Decides result (env_of c) infinity_first s × (leaves_terms result ≡ terms_in s) }
+pub fn decided(c: Env, infinity_first: bool, s: &Scan) -> Option<Given>
+    ensures { Decides result (env_of c) infinity_first s.now × (leaves_terms result ≡ terms_in s.now) }
 {
     if nan_decides(infinity_first, s) {
         Some(Given {

@@ -38,12 +38,12 @@ fn total<T: Terms>(
     c: Env,
     products: bool,
     infinity_first: bool,
-    s: Scan,
+    s: &Scan,
     list: &T,
 ) -> Wide
     requires known { Known (wide (shape_of f)) (shape_of f) × SettingsBounds (shape_of f) (env_of c) }
-    requires summable { Summable (shape_of f) (T.items list.now) × Scans (shape_of f) (env_of c) (T.items list.now) s }
-    ensures { Totals (shape_of f) (env_of c) products infinity_first (T.items list.now) s result }
+    requires summable { Summable (shape_of f) (T.items list.now) × Scans (shape_of f) (env_of c) (T.items list.now) s.now }
+    ensures { Totals (shape_of f) (env_of c) products infinity_first (T.items list.now) s.now result }
 {
     match decided(c, infinity_first, s) {
         Some(given) => special(f, s.subnormal, given.value, given.invalid),
@@ -66,7 +66,7 @@ pub fn sum_of<N: Numbers>(c: Env, u: Summand, numbers: N) -> Wide
         c,
         u == Summand::Square,
         u != Summand::Value,
-        s,
+        &s,
         &Summed {
             numbers,
             env: c,
@@ -88,7 +88,7 @@ pub fn dot_of<N: Numbers>(c: Env, left: N, right: N) -> Wide
         c,
         true,
         false,
-        s,
+        &s,
         &Paired {
             left,
             right,
@@ -144,8 +144,8 @@ pub fn dot<E: Elements>(f: Layout, c: Env, left: E, right: E) -> Result<Answer, 
 }
 
 // Whether a scan met a NaN or an infinity.
-pub fn met_special(s: Scan) -> bool
-    ensures { result ≡ met s }
+pub fn met_special(s: &Scan) -> bool
+    ensures { result ≡ met s.now }
 {
     s.nan.is_some() || s.positive_infinity || s.negative_infinity
 }
@@ -171,7 +171,7 @@ pub fn keep(f: Layout, c: Env, values: &[u8]) -> Result<Kept, Refusal>
         elements,
     };
     let scan = scan_list(&numbers, c, Summand::Value);
-    let sum = if met_special(scan) || scan.top == 0 {
+    let sum = if met_special(&scan) || scan.top == 0 {
         None
     } else {
         let list = Summed {

@@ -187,7 +187,7 @@ fn hundredfold<E: Elements>(f: Layout, elements: E) -> Pence
         elements,
     };
     let s = scan_list(&numbers, Env::default(), Summand::Value);
-    if met_special(s) {
+    if met_special(&s) {
         return Pence::from(Refusal::NoPence);
     }
     if s.top == 0 {

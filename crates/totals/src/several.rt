@@ -88,7 +88,7 @@ fn print_one(aim: Aim, kept: Kept) -> Answer
 {
     let list = aim.list.shape;
     let s = kept.scan;
-    if aim.layout.shape.digits() > list.digits() || met_special(s) {
+    if aim.layout.shape.digits() > list.digits() || met_special(&s) {
         return Answer::from(Refusal::TargetOutOfReach);
     }
     match kept.sum {
