@@ -145,6 +145,7 @@ pub fn special(f: Shape, subnormal: bool, v: Unpacked, invalid: bool) -> Wide
 }
 
 // What the end of a chain of p digits leaves to round; nothing where the terms cancel.
+#[inline(always)]
 pub fn left(p: u64, e: ExactSum) -> Unrounded
     requires { (p ≤ 64) × Ended p e }
     ensures { LeftOf p (settled.settled (outcome_of e)) result }
@@ -194,6 +195,7 @@ fn recorded(subnormal: bool, res: u64, r: Rounded, passes: u64, last_edge: i64) 
 }
 
 // The record of a chain of passes.
+#[inline(always)]
 pub fn finish(f: Shape, c: Env, products: bool, subnormal: bool, e: ExactSum) -> Wide
     requires { Known (wide (shape_of f)) (shape_of f) × SettingsBounds (shape_of f) (env_of c) × Ended (spec.digits (shape_of f)) e }
     ensures { answer_as (wide (shape_of f)) result ≡ given_as (wide (shape_of f)) (totals.reported (shape_of f) subnormal products (totals.on_grid (shape_of f) products (settled.settled (outcome_of e))) (totals.sum_rounded (shape_of f) (env_of c) (spec.grid (shape_of f) products) (totals.towards_negative (env_of c)) (totals.on_grid (shape_of f) products (settled.settled (outcome_of e)))) (run_of e)) }

@@ -13,6 +13,7 @@ use window::{Chain, ExactSum, Pass, window_part};
 
 // One pass at the edge w over a list of terms of one word, which reach two words of the window: of that, an array of the loop, only these are stored, unless a
 // carry goes on.
+#[inline(always)]
 fn pass_singles<T: Terms>(list: &T, w: u64) -> Pass
     requires { T.single list.now ≡ true }
     ensures { Passed (terms.terms (T.items list.now)) w result }
@@ -47,6 +48,7 @@ fn pass_singles<T: Terms>(list: &T, w: u64) -> Pass
 }
 
 // And over terms of two words, which reach three.
+#[inline(always)]
 fn pass_doubles<T: Terms>(list: &T, w: u64) -> Pass
     ensures { Passed (terms.terms (T.items list.now)) w result }
 {
@@ -81,6 +83,7 @@ fn pass_doubles<T: Terms>(list: &T, w: u64) -> Pass
     finished(total, lost)
 }
 
+#[inline(always)]
 fn pass<T: Terms>(list: &T, w: u64) -> Pass
     ensures { Passed (terms.terms (T.items list.now)) w result }
 {
@@ -92,6 +95,7 @@ fn pass<T: Terms>(list: &T, w: u64) -> Pass
 }
 
 // The exact sum of the terms, the highest of whose bits lies at `top`: pass after pass until one of them decides its first p digits.
+#[inline(always)]
 pub fn exact<T: Terms>(list: &T, p: u64, top: u64) -> ExactSum
     requires { Base p (terms.terms (T.items list.now)) × (top ≡ terms.top_of (terms.terms (T.items list.now))) }
     ensures { Sums p (terms.terms (T.items list.now)) result }

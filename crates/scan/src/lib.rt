@@ -162,6 +162,7 @@ fn nan_decides(infinity_first: bool, s: &Scan) -> bool
 }
 
 // What a scan decides: a NaN, an invalid product, infinities, or zeros alone. Where it decides nothing there are terms, and all is finite.
+#[inline(always)]
 pub fn decided(c: Env, infinity_first: bool, s: &Scan) -> Option<Given>
     ensures { Decides result (env_of c) infinity_first s.now × (leaves_terms result ≡ terms_in s.now) }
 {

@@ -12,6 +12,7 @@ use arithmetic::summand::Summand;
 use format::environment::Env;
 
 // The elements of one list.
+#[inline(always)]
 pub fn scan_list<N: Numbers>(numbers: &N, c: Env, u: Summand) -> Scan
     ensures { ScannedAs (N.encoding numbers.now) (env_of c) (summand_in u) (N.codes numbers.now) result }
 {
@@ -30,6 +31,7 @@ pub fn scan_list<N: Numbers>(numbers: &N, c: Env, u: Summand) -> Scan
 }
 
 // The pairs of two, of one encoding and one length.
+#[inline(always)]
 pub fn scan_pairs<N: Numbers>(left: &N, right: &N, c: Env) -> Scan
     requires alike { N.encoding right.now ≡ N.encoding left.now }
     requires as_long { length (N.codes right.now) ≡ length (N.codes left.now) }

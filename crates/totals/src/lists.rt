@@ -33,6 +33,7 @@ use values::elements::{Bytes, Elements};
 use window::ExactSum;
 
 // The record of a list of terms, of which s is the scan: what that decides alone, or the sum of the terms.
+#[inline(always)]
 fn total<T: Terms>(
     f: Shape,
     c: Env,
@@ -55,6 +56,7 @@ fn total<T: Terms>(
 }
 
 // The sum of some numbers.
+#[inline(always)]
 pub fn sum_of<N: Numbers>(c: Env, u: Summand, numbers: N) -> Wide
     requires known { Known (wide (N.encoding numbers).format) (N.encoding numbers).format × SettingsBounds (N.encoding numbers).format (env_of c) }
     requires summable { Summable (N.encoding numbers).format (map (item_in (N.encoding numbers) (env_of c) (summand_in u)) (N.codes numbers)) }
@@ -76,6 +78,7 @@ pub fn sum_of<N: Numbers>(c: Env, u: Summand, numbers: N) -> Wide
 }
 
 // The sum of the products of the pairs of two lists.
+#[inline(always)]
 pub fn dot_of<N: Numbers>(c: Env, left: N, right: N) -> Wide
     requires alike { (N.encoding right ≡ N.encoding left) × (length (N.codes right) ≡ length (N.codes left)) }
     requires known { Known (wide (N.encoding left).format) (N.encoding left).format × SettingsBounds (N.encoding left).format (env_of c) }

@@ -289,6 +289,7 @@ impl Chain {
     }
 
     // What follows from a pass at the chain's edge: how the sum came out, or the chain that goes on.
+    #[inline(always)]
     pub fn advance(self, p: u64, seen: Pass) -> ControlFlow<Outcome, Chain>
         requires { (p ≤ 64) × Ready self seen.lost }
         ensures { Steps p self seen result }
