@@ -135,6 +135,7 @@ impl Scan {
     }
 
     // One more element of a list, of which the operand was read.
+    #[inline(always)]
     pub fn take(&mut self, c: Env, u: Summand, o: Read)
         requires { Bounded (unpacked_of o.value) }
         ensures { Takes (env_of c) (summand_in u) o.subnormal (unpacked_of o.value) self.old self.new }
