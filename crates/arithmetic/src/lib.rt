@@ -20,7 +20,7 @@ ghost use Rattle.arithmetic.specs.Summands.{summand_in};
 ghost use Rattle.arithmetic.specs.Joined.{item_of, StandsFor, Bounded, plain_number, plain_product, both_plain, plain_field, plain_fields, field_top, fields_top};
 
 use crate::summand::Summand;
-use binary::{field_of, fraction_of, is_plain, operand, sign_of};
+use binary::{Read, field_of, fraction_of, is_plain, operand, sign_of};
 use format::ROOM;
 use format::environment::Env;
 use format::layout::Layout;
@@ -114,6 +114,14 @@ fn plain_significand(f: Layout, b: u64) -> u64
     power(f.shape.fraction_bits()) + fraction_of(f, b)
 }
 
+// An operand, for the passes: a call and not a copy in each loop, which few elements reach.
+#[inline(never)]
+fn closer(f: Layout, c: Env, b: u64) -> Read
+    ensures { (unpacked_of result.value ≡ dec.operand (layout_of f) (env_of c) b) × (result.subnormal ≡ dec.is_subnormal (layout_of f) b) }
+{
+    operand(f, c, b)
+}
+
 // The term of an operand. This and `operand_pair` are inlined into the loops over elements that take a closer look.
 #[inline(always)]
 #[tactic(auto, unfolding(crate::specs::Joined::magnitude))]
@@ -138,7 +146,7 @@ pub fn looked_term(f: Layout, c: Env, u: Summand, b: u64) -> Term
     ensures stands_for { StandsFor result (terms.item (layout_of f) (env_of c) (summand_in u) b) }
     ensures high_value { u ≢ Square → result.high ≡ 0 }
 {
-    operand_term(u, operand(f, c, b).value)
+    operand_term(u, closer(f, c, b).value)
 }
 
 // The term of a normal number.
@@ -160,7 +168,7 @@ pub fn plain_term(f: Layout, u: Summand, b: u64) -> Term
 pub fn looked_hundred(f: Layout, c: Env, b: u64) -> Term
     ensures { StandsFor result (hundred_item (layout_of f) (env_of c) b) }
 {
-    match operand(f, c, b).value {
+    match closer(f, c, b).value {
         Unpacked::Finite {
             negative,
             shift,
@@ -215,7 +223,7 @@ fn operand_pair(v: Unpacked, w: Unpacked) -> Term
 pub fn looked_pair(f: Layout, c: Env, x: u64, y: u64) -> Term
     ensures { StandsFor result (terms.pair_item (layout_of f) (env_of c) (x, y)) }
 {
-    operand_pair(operand(f, c, x).value, operand(f, c, y).value)
+    operand_pair(closer(f, c, x).value, closer(f, c, y).value)
 }
 
 // The term of two normal numbers.

@@ -141,6 +141,7 @@ pub struct Read {
 
 // An operand: the decoded number, or under denormals-are-zero a signed zero in place of a subnormal one.
 #[tactic(auto, unfolding(totals_spec::specs::Decode::operand, totals_spec::specs::Decode::is_subnormal))]
+#[inline(always)]
 pub fn operand(f: Layout, c: Env, b: u64) -> Read
     ensures { (unpacked_of result.value ≡ dec.operand (layout_of f) (env_of c) b) × (result.subnormal ≡ dec.is_subnormal (layout_of f) b) }
 {

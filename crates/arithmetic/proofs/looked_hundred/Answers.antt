@@ -11,5 +11,5 @@ pub product-requires : goal.product-requires
 product-requires c =
     let n = c.in-Finite in
     let b : Bounded (finite n.negative n.shift n.significand) =
-    operand-bounded _ (layout_bounds c.args.f) _ c.args.b _ (sym c.operand.ensures.0 ∙ ap unpacked_of n.is) in
+    operand-bounded _ (layout_bounds c.args.f) _ c.args.b _ (sym c.closer.ensures.0 ∙ ap unpacked_of n.is) in
     (b.0, omega arith, b.1, omega arith)
