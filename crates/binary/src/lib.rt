@@ -139,7 +139,8 @@ pub struct Read {
     pub subnormal: bool,
 }
 
-// An operand: the decoded number, or under denormals-are-zero a signed zero in place of a subnormal one.
+// An operand: the decoded number, or under denormals-are-zero a signed zero in place of a subnormal one. Inlined by name into scans: of dots with many zeros
+// a call for each takes half again as long.
 #[tactic(auto, unfolding(totals_spec::specs::Decode::operand, totals_spec::specs::Decode::is_subnormal))]
 #[inline(always)]
 pub fn operand(f: Layout, c: Env, b: u64) -> Read

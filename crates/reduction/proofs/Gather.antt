@@ -21,21 +21,15 @@ use Rattle.limbs.specs.contracts.word.Sum.{the_type}
 use Rattle.limbs.proofs.word.Sum.TheLaws.{the_laws}
 use Rattle.limbs_term.proofs.Stored.{past-moved}
 use Rattle.totals_spec.specs.Basics.{total, greatest, keep}
-use Rattle.totals_spec.specs.Format as spec
-use Rattle.totals_spec.specs.Settings as env
 use Rattle.totals_spec.specs.Terms as terms
-use Rattle.totals_spec.specs.Hundredfold.{hundred_of, hundred_item}
 use Rattle.totals_spec.specs.Chain.{residue, half, look_at, lost_end, lost_of, cut_plus, cut_minus}
 use Rattle.totals_spec.proofs.Window.{residue-zero, residue-plus, residue-minus, residue-cancel}
 use Rattle.totals_spec.proofs.Walk.{total-append, greatest-append, picked-append}
 use Rattle.arithmetic.specs.declared.Term.{Term}
-use Rattle.binary.specs.Joined.{is_plain}
-use Rattle.binary.proofs.Plain.{plainly}
 use Rattle.window.specs.declared.Part.{Part}
 use Rattle.window.specs.declared.Pass.{Pass}
-use Rattle.arithmetic.specs.Joined.{magnitude, StandsFor, plain_number, plain_product, both_plain}
-use Rattle.arithmetic.proofs.Elements.{no-magnitude, plain-item, plain-hundred}
-use Rattle.arithmetic.proofs.Pairs.{both-plainly, plain-pair}
+use Rattle.arithmetic.specs.Joined.{magnitude, StandsFor}
+use Rattle.arithmetic.proofs.Elements.{no-magnitude}
 use Rattle.window.specs.Joined.{PartAt, Passed}
 use Rattle.window.proofs.Numbers.{window}
 use Rattle.window.proofs.Parted.{lost-of-zero}

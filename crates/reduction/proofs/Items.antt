@@ -1,28 +1,24 @@
 -- The items of numbers, one by one, and what a total may count on.
-use mathlib.Core.Path.{◌≡◌, refl, ap, ◌∙◌, subst, sym}
+use mathlib.Core.Path.{◌≡◌, refl, ap, ◌∙◌, sym}
 use mathlib.Core.List.{List, [], ◌∷◌, map}
-use Prim.Native.Nat.{ℕ, zero, suc, ◌+◌, ◌≤◌, ◌<◌, min}
+use Prim.Native.Nat.{ℕ, zero, suc, ◌≤◌, ◌<◌, min}
 use native.Mathlib.Nat.{le_of_suc-le-suc, not-suc-le-zero, suc-min-suc}
 use native.Mathlib.Omega.{arith}
 use lib.ListN.{length, get_or, length-map}
-use Rattle.totals_spec.specs.Format.{Format}
-use Rattle.totals_spec.specs.Settings.{Settings, Summand, no_settings}
-use Rattle.totals_spec.specs.Bounds.{RangeBounds}
-use Rattle.totals_spec.specs.Terms.{Item, Term, item, pair_item, term_of, terms, top_of}
-use Rattle.totals_spec.specs.Hundredfold.{hundred_item, hundred_terms}
-use Rattle.totals_spec.specs.Totals.{limit, pairs, sum_terms}
+use Rattle.totals_spec.specs.Settings.{Settings, Summand}
+use Rattle.totals_spec.specs.Terms.{item, pair_item}
+use Rattle.totals_spec.specs.Totals.{limit, pairs}
 use Rattle.totals_spec.specs.Extended.{extended, extended_item, extended_pair}
 use Rattle.totals_spec.proofs.Alone.{list-gives, pairs-give}
 use Rattle.totals_spec.proofs.ExtendedTerms.{extended-good, extended-good-pairs, extended-top, extended-dot-top}
-use Rattle.totals_spec.proofs.Good.{AllGood, good-terms, good-pairs, picked-length}
+use Rattle.totals_spec.proofs.Good.{good-terms, good-pairs}
 use Rattle.totals_spec.proofs.Halves.{ieee-give}
 use Rattle.totals_spec.proofs.Order.{pairs-length}
 use Rattle.totals_spec.proofs.Tops.{sum_top, dot-top}
 use Rattle.format.specs.declared.layout.Layout.{Layout}
 use Rattle.format.specs.Layouts.{layout_of}
-use Rattle.format.proofs.Layouts.{layout_bounds}
 use Rattle.scan.specs.Encodings.{of_layout, of_tens, item_in, pair_in}
-use Rattle.reduction.specs.Held.{Base, Summable}
+use Rattle.reduction.specs.Held.{Summable}
 
 pub mapped : {A B : Type 0} (g : A → B) (l : List A) (i : ℕ) (d : A) (e : B) → i < length l → get_or (map g l) i e ≡ g (get_or l i d)
 mapped g [] i d e h = absurd (not-suc-le-zero h)

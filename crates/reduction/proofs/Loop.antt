@@ -1,27 +1,22 @@
 -- What the loop of passes may count on, for the terms of an accepted list, of words or of bytes.
-use mathlib.Core.Path.{◌≡◌, sym, ◌∙◌}
-use mathlib.Core.Bool.{Bool, true, false}
-use mathlib.Core.List.{List, [], ◌∷◌, map}
+use mathlib.Core.Path.{◌≡◌}
+use mathlib.Core.List.{List, [], ◌∷◌}
 use Prim.Native.Nat.{ℕ, ◌+◌, ◌≤◌, ◌<◌}
 use native.Mathlib.Nat.{le_trans, not-suc-le-zero, zero-lt-suc}
 use native.Mathlib.Omega.{arith}
 use lib.Dec.{lit≤}
-use lib.ListN.{length, length-map}
+use lib.ListN.{length}
 use lib.Pow.{pow_mono}
 use Rattle.std.specs.declared.ops.ControlFlow.TheVariants.{Continue, Break}
 use Rattle.totals_spec.specs.Format.{Format}
-use Rattle.totals_spec.specs.Settings.{Settings, Summand}
+use Rattle.totals_spec.specs.Settings.{Settings}
 use Rattle.totals_spec.specs.Bounds.{RangeBounds}
 use Rattle.totals_spec.specs.Terms.{Item, Term, term_of, terms, top_of}
-use Rattle.totals_spec.specs.Totals.{limit, sum_terms, pairs, dot_terms}
+use Rattle.totals_spec.specs.Totals.{limit}
 use Rattle.totals_spec.specs.Hundredfold.{hundred_terms}
-use Rattle.totals_spec.specs.Extended.{extended, extended_item, extended_pair}
-use Rattle.totals_spec.proofs.Spread.{extended-bounds}
-use Rattle.totals_spec.proofs.ExtendedTerms.{extended-good, extended-good-pairs, extended-top, extended-dot-top}
-use Rattle.totals_spec.proofs.Good.{AllGood, good-terms, good-pairs, picked-length}
+use Rattle.totals_spec.proofs.Good.{AllGood, picked-length}
 use Rattle.totals_spec.proofs.Hundredfold.{good-hundred, few-hundred}
 use Rattle.totals_spec.proofs.HundredTop.{top-most}
-use Rattle.totals_spec.proofs.Order.{pairs-length}
 use Rattle.totals_spec.proofs.Margin.{terms-max}
 use Rattle.totals_spec.proofs.Edges.{first_edge}
 use Rattle.window.specs.declared.Pass.{Pass}
@@ -30,7 +25,7 @@ use Rattle.window.specs.declared.Outcome.{Outcome}
 use Rattle.window.specs.Joined.{Passed, Ready, Steps, started}
 use Rattle.window.proofs.Walked.{Walked, Lower, walked_start, walked-ready, walked_next, walked-done}
 use Rattle.reduction.specs.Held.{Base, Summable, Sums}
-use Rattle.totals_spec.proofs.Tops.{top_most, top_product, sum_top, dot-top}
+use Rattle.totals_spec.proofs.Tops.{top_most, top_product}
 
 some_of : (ts : List Term) → 0 < top_of ts → 0 < length ts
 unfolding top_of

@@ -1,4 +1,5 @@
-// A chain of passes over a list of terms.
+// A chain of passes over a list of terms. All of a walk is inlined by name, down from its scan: calls that hand a scan, a window or a sum over in memory cost
+// a total of one element two fifths.
 ghost use Rattle.std.specs.Prelude.{◌≡◌, true};
 ghost use Rattle.totals_spec.specs.Terms as terms;
 ghost use Rattle.window.specs.Joined.{Passed};

@@ -4,7 +4,7 @@ ghost use Rattle.std.specs.Prelude.{◌≤◌};
 
 use format::Format;
 use format::env::Settings;
-use totals::refusal::{Asked, Refusal, dot_refusal, sum_refusal};
+use totals::refusal::{Refusal, dot_refusal, sum_refusal};
 
 // binary64, or of a kind that there is not
 fn double(kind: u64) -> Format {
@@ -25,7 +25,7 @@ fn plain(rounding: u64) -> Settings {
 }
 
 // The number of a refusal, 0 where there is none.
-fn number_of(refusal: Result<Asked, Refusal>) -> u64 {
+fn number_of<T: Drop>(refusal: Result<T, Refusal>) -> u64 {
     match refusal {
         Ok(_) => 0,
         Err(refusal) => refusal.number(),

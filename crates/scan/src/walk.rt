@@ -1,5 +1,5 @@
 // The scan of a list, and of the pairs of two. Of plainly normal elements only the greatest exponent field counts: it is kept apart from the scan, and gives
-// a position at the end.
+// a position at the end. Inlined by name, as all of a walk is (reduction::walk).
 ghost use Rattle.std.specs.Prelude.{◌≡◌, length};
 ghost use Rattle.totals_spec.specs.Totals as totals;
 ghost use Rattle.format.specs.Environments.{env_of};

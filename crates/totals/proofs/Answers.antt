@@ -5,7 +5,7 @@ use mathlib.Core.Bool.{Bool, true, false, not, ◌&&◌, ◌||◌}
 use mathlib.Core.List.{List}
 use Prim.Native.Nat.{ℕ, ◌<◌, ◌≤◌}
 use native.Mathlib.Omega.{arith}
-use lib.Dec.{leb, ltb, eqb, leb→le, eqb→eq}
+use lib.Dec.{leb, ltb, eqb, eqb→eq}
 use lib.ListN.{length}
 use borrow.Author.Tests.{ne_eqb}
 use Rattle.totals_spec.specs.Basics.{any}
@@ -14,7 +14,7 @@ use Rattle.totals_spec.specs.Settings.{Settings, valid_settings, summand_of}
 use Rattle.totals_spec.specs.Bounds.{FormatBounds}
 use Rattle.totals_spec.specs.Totals.{Answer, limit, refuse_if, refused, answered, stray, first_index, pairs}
 use Rattle.totals_spec.specs.Totals.{sum_refusal, sum_accepted, sum_answer, dot_refusal, dot_place, dot_accepted, dot_answer}
-use Rattle.totals_spec.proofs.Valid.{and_right, format-bounds}
+use Rattle.totals_spec.proofs.Valid.{format-bounds}
 use Rattle.totals_spec.proofs.Passes.{valid-of}
 use Rattle.totals_spec.proofs.Order.{first-zero}
 use Rattle.totals.specs.declared.refusal.Refusal.{Refusal}

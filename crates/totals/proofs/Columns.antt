@@ -1,19 +1,13 @@
 -- The rows and columns of a table, which have no more elements than the table.
-use mathlib.Core.Path.{◌≡◌, refl, sym, ap, ◌∙◌}
+use mathlib.Core.Path.{◌≡◌, refl}
 use mathlib.Core.Bool.{Bool, true, false, not, ◌&&◌}
-use mathlib.Core.List.{List}
-use Prim.Native.Nat.{ℕ, zero, suc, ◌+◌, ◌*◌, ◌^◌, ◌<◌, ◌≤◌}
-use native.Mathlib.Nat.{mul-le-mul_right, add_comm, zero-mul, suc-mul}
+use Prim.Native.Nat.{ℕ, ◌≤◌}
 use native.Mathlib.Omega.{arith}
 use lib.Dec.{leb, ltb}
-use lib.ListN.{length, get_or}
-use lib.Seq.{ext_get_or}
 use borrow.Author.Tests.{ltb-false, le-ltb}
 use Rattle.totals_spec.specs.Format.{Format, valid_format}
 use Rattle.totals_spec.specs.Settings.{Settings, valid_settings}
 use Rattle.totals_spec.specs.Totals.{limit, refuse_if}
-use Rattle.totals_spec.specs.Table.{column_of}
-use Rattle.totals_spec.proofs.Table.{column-length, column-cell}
 use Rattle.totals.specs.Refusal.{sum_numbers}
 
 -- what passes the tests passes them with fewer elements

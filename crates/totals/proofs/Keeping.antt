@@ -1,9 +1,9 @@
 -- What is kept of a plain sum, and the pence of a list, by the scan of its values.
-use Rattle.std.proofs.Common.{◌≡◌, ◌≢◌, refl, sym, ap, ◌∙◌, subst, ℕ, true, false, List, [], ◌∷◌, map, length, ◌+◌, ◌^◌, ◌<◌, ◌≤◌, arith, true≢false}
-use Rattle.std.specs.Prelude.{Option, Some, None, is_some}
+use Rattle.std.proofs.Common.{◌≡◌, ◌≢◌, sym, ◌∙◌, subst, ℕ, true, false, List, [], ◌∷◌, map, length, ◌+◌, ◌^◌, ◌<◌, ◌≤◌, arith, true≢false}
+use Rattle.std.specs.Prelude.{Option, Some, None}
 use Rattle.totals_spec.specs.Basics.{any}
 use Rattle.totals_spec.specs.Format as spec
-use Rattle.totals_spec.specs.Settings.{Settings, value, no_settings}
+use Rattle.totals_spec.specs.Settings.{Settings, value}
 use Rattle.totals_spec.specs.Terms.{Term, item, terms, top_of}
 use Rattle.totals_spec.specs.Totals.{limit, sum_terms}
 use Rattle.totals_spec.specs.Pence.{not_number}

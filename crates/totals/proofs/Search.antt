@@ -1,5 +1,5 @@
 -- The search for an element with a stray bit: what a walk knows of the elements before i, and what it finds.
-use mathlib.Core.Path.{◌≡◌, refl, sym, ap, ap₂, ◌∙◌, subst}
+use mathlib.Core.Path.{◌≡◌, refl, sym, ap, ap₂, ◌∙◌}
 use mathlib.Core.Bool.{Bool, true, false, ◌||◌, cond}
 use mathlib.Core.List.{List, [], ◌∷◌}
 use Prim.Native.Nat.{ℕ, zero, suc, ◌+◌, ◌-◌, ◌*◌, ◌/◌, ◌^◌, ◌≤◌, ◌<◌}
@@ -13,7 +13,7 @@ use Rattle.totals_spec.specs.Totals.{first_index}
 use borrow.Author.Tests.{le-leb, lt-leb}
 use Rattle.totals_spec.proofs.Order.{or_split}
 use Rattle.totals.specs.Stray.{stray_at, FoundIn}
-use Rattle.std.specs.Prelude.{Option, Some, None}
+use Rattle.std.specs.Prelude.{Some, None}
 pub use Rattle.totals_spec.proofs.Walk.{none-next, none-all, first_some}
 
 module _ (t : ℕ → Bool) where

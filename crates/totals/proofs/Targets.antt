@@ -1,6 +1,5 @@
 -- The record of a target (document 02, A.14) by the tests that do not look at the elements, and by what the walk of its list has found and keeps.
 use mathlib.Core.Path.{◌≡◌, refl, sym, ap, ◌∙◌}
-use mathlib.Core.Logic.{◌≢◌}
 use mathlib.Core.Bool.{Bool, true, false, not, ◌&&◌, ◌||◌}
 use mathlib.Core.List.{List, [], map}
 use Prim.Native.Nat.{ℕ, ◌<◌, ◌≤◌}
@@ -16,7 +15,7 @@ use Rattle.totals_spec.specs.Decode.{zero_of, is_subnormal}
 use Rattle.totals_spec.specs.Terms.{item, is_zero}
 use Rattle.totals_spec.specs.Chain.{chain}
 use Rattle.totals_spec.specs.Settled.{settled}
-use Rattle.totals_spec.specs.Totals.{Answer, refused, special, towards_negative, zero_sign, limit, stray, refuse_if, first_index, sum_terms, sum_answer}
+use Rattle.totals_spec.specs.Totals.{refused, special, towards_negative, zero_sign, limit, stray, refuse_if, first_index, sum_terms}
 use Rattle.totals_spec.specs.Pence.{not_number}
 use Rattle.further_spec.specs.Several.{reading_with, rounded_into, printed, printed_items, target_refusal, target_answer}
 use Rattle.totals_spec.proofs.Valid.{and_left, and_right, format-bounds, settings-bounds}

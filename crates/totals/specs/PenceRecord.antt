@@ -5,7 +5,7 @@ use Rattle.totals_spec.specs.Basics.{any}
 use Rattle.totals_spec.specs.Format.{Format}
 use Rattle.totals_spec.specs.Settings as env
 use Rattle.totals_spec.specs.Terms.{exact_sum}
-use Rattle.totals_spec.specs.Totals.{stray, first_index, sum_terms}
+use Rattle.totals_spec.specs.Totals.{sum_terms}
 use Rattle.totals_spec.specs.Pence as spec
 use Rattle.exact.specs.declared.Unrounded.{Unrounded}
 use Rattle.exact.specs.Joined.{significand_of}

@@ -1,5 +1,5 @@
 -- The total where no test refuses it, and the refusal that a test gives.
-use Rattle.std.proofs.Common.{sym, ◌∙◌}
+use Rattle.std.proofs.Common.{sym}
 use Rattle.std.proofs.lemmas.Result.{err_from_is_err_and}
 use Rattle.totals.proofs.Answers.{dot-stopped}
 use Rattle.totals.proofs.dot_of.Goals as goal

@@ -1,5 +1,5 @@
 -- By the search for a stray bit, in the left list first.
-use Rattle.std.proofs.Common.{refl, sym, ◌∙◌}
+use Rattle.std.proofs.Common.{refl, ◌∙◌}
 use Rattle.format.proofs.Layouts.{layout_bounds}
 use Rattle.totals_spec.proofs.Accepts.{dot-accepts}
 use Rattle.reduction.proofs.Items.{dot-summable}

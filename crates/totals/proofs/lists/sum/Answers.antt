@@ -1,5 +1,5 @@
 -- By the search for a stray bit.
-use Rattle.std.proofs.Common.{sym, ◌∙◌, ap}
+use Rattle.std.proofs.Common.{◌∙◌}
 use Rattle.format.proofs.Layouts.{layout_bounds}
 use Rattle.totals_spec.proofs.Accepts.{sum-accepts}
 use Rattle.reduction.proofs.Items.{sum-summable}

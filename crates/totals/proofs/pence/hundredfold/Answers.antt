@@ -1,10 +1,8 @@
 -- By what the scan has met, and else by the chain over the values a hundred times each.
-use Rattle.std.proofs.Common.{◌∙◌, arith, ◌≤◌, le_refl}
-use Rattle.totals_spec.specs.Settings.{no_settings, value}
+use Rattle.std.proofs.Common.{◌∙◌, arith}
+use Rattle.totals_spec.specs.Settings.{no_settings}
 use Rattle.format.specs.Layouts.{layout_of}
 use Rattle.format.proofs.Layouts.{layout_bounds}
-use Rattle.scan.specs.Joined.{Scanned}
-use Rattle.scan.specs.Encodings.{of_layout, ScannedAs}
 use Rattle.reduction.proofs.Loop.{hundred-base}
 use Rattle.totals.proofs.Counted.{met-figure, zero-figure, chain-figure, raised-top, left-countable}
 use Rattle.totals.proofs.Keeping.{scanned, top-room}

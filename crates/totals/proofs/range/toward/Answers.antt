@@ -1,5 +1,5 @@
 -- A sum of finite doubles passes the tests, and its zero loses its sign.
-use Rattle.std.proofs.Common.{◌≡◌, ◌≢◌, ℕ, Bool, cond, ◌^◌, ◌≤◌, ◌<◌, refl, sym, ap, ◌∙◌, arith, le-leb, le-ltb, eq-eqb, ne_eqb}
+use Rattle.std.proofs.Common.{◌≡◌, ◌≢◌, ℕ, Bool, cond, ◌^◌, ◌≤◌, refl, sym, ap, ◌∙◌, le-ltb, eq-eqb, ne_eqb}
 use Rattle.totals_spec.specs.Format.{binary64, valid_format}
 use Rattle.totals_spec.specs.Settings.{Settings, no_settings, with_rounding, valid_settings}
 use Rattle.totals_spec.specs.Totals.{Answer, limit}

@@ -1,5 +1,5 @@
 -- The list is walked once, and its walk serves each target.
-use Rattle.std.proofs.Common.{◌≡◌, ◌/◌, length, sym}
+use Rattle.std.proofs.Common.{sym}
 use Rattle.totals_spec.specs.Bytes.{values_in}
 use Rattle.totals_spec.proofs.Values.{values_length}
 use Rattle.totals.proofs.several.in_three.Goals as goal

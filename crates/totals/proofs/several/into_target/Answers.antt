@@ -1,12 +1,9 @@
 -- By the tests, and by what the walk of the list keeps.
 use Rattle.std.proofs.Common.{◌≡◌, ℕ, sym, ap, ◌∙◌, subst}
-use Rattle.std.specs.Prelude.{Result}
 use Rattle.format.specs.Joined.{format_of, settings_of}
 use Rattle.further_spec.specs.Several.{reading_with}
 use Rattle.totals_spec.specs.Totals.{refused}
-use Rattle.totals.specs.declared.lists.Kept.{Kept}
 use Rattle.totals.specs.declared.refusal.Refusal.{Refusal}
-use Rattle.totals.specs.declared.several.Aim.{Aim}
 use Rattle.totals.specs.Kept.{KeptIn}
 use Rattle.totals.specs.Refusal.{number_of, place_of}
 use Rattle.totals.specs.Targets.{target_numbers, Aims}

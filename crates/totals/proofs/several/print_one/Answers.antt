@@ -1,11 +1,8 @@
 -- By what is kept.
 use Rattle.std.proofs.Common.{◌∙◌, arith, sym, ap}
-use Rattle.totals_spec.specs.Chain.{Run, chain}
-use Rattle.totals_spec.specs.Format.{digits}
-use Rattle.totals_spec.specs.Settings.{value}
+use Rattle.totals_spec.specs.Chain.{Run}
 use Rattle.totals_spec.specs.Settled.{settled}
-use Rattle.totals_spec.specs.Totals.{sum_terms}
-use Rattle.further_spec.specs.Several.{reading_with, printed, rounded_into}
+use Rattle.further_spec.specs.Several.{printed, rounded_into}
 use Rattle.format.specs.Layouts.{layout_of}
 use Rattle.format.specs.Environments.{env_of}
 use Rattle.totals.proofs.Keeping.{kept-sum, kept-none}

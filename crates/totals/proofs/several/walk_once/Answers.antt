@@ -1,5 +1,5 @@
 -- The values are as many as their bytes make.
-use Rattle.std.proofs.Common.{sym, ◌∙◌}
+use Rattle.std.proofs.Common.{◌∙◌}
 use Rattle.totals_spec.proofs.Values.{values_length}
 use Rattle.totals.proofs.Refusals.{number-some}
 use Rattle.totals.proofs.several.walk_once.Goals as goal

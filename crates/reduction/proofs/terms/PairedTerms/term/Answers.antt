@@ -1,5 +1,5 @@
 -- Both elements of the pair are there, and its term stands for its item.
-use Rattle.std.proofs.Common.{◌<◌, subst, sym, arith}
+use Rattle.std.proofs.Common.{subst, sym, arith}
 use Rattle.format.specs.Environments.{env_of}
 use Rattle.arithmetic.specs.Gives.{Gives}
 use Rattle.scan.specs.Encodings.{pair_in}
