@@ -1,3 +1,2 @@
 pub mod Held
-pub mod Listed
 pub mod Answered

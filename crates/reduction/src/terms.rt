@@ -9,7 +9,6 @@ ghost use Rattle.format.specs.Environments.{env_of};
 ghost use Rattle.arithmetic.specs.Summands.{summand_in};
 ghost use Rattle.arithmetic.specs.Gives.{Gives};
 ghost use Rattle.scan.specs.Encodings.{item_in, pair_in};
-ghost use Rattle.reduction.specs.Listed.{is_single};
 
 use arithmetic::Term;
 use arithmetic::element::hundred_term;
@@ -28,7 +27,7 @@ pub trait Terms {
     fn count(&self) -> usize
         ensures { result ≡ length (items self.now) };
 
-    // Whether each term has one word.
+    // Whether each term has one word, and a pass is to reach two with it.
     fn is_single(&self) -> bool
         ensures { result ≡ single self.now };
 
@@ -50,7 +49,7 @@ pub struct Summed<N> {
 impl<N: Numbers> Terms for Summed<N> {
     ghost items = { λ s. map (item_in (N.encoding s.numbers) (env_of s.env) (summand_in s.summand)) (N.codes s.numbers) };
 
-    ghost single = { λ s. is_single s.summand };
+    ghost single = { λ s. N.single s.numbers s.summand };
 
     #[inline(always)]
     fn count(&self) -> usize {
@@ -59,7 +58,7 @@ impl<N: Numbers> Terms for Summed<N> {
 
     #[inline(always)]
     fn is_single(&self) -> bool {
-        self.summand != Summand::Square
+        self.numbers.is_single(self.summand)
     }
 
     #[inline(always)]

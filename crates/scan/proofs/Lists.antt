@@ -16,13 +16,15 @@ use Rattle.totals_spec.specs.Extended.{both_of}
 use Rattle.totals_spec.proofs.Good.{AllGood, good-items, good-item_of, good-pair_of}
 use Rattle.totals_spec.proofs.Tops.{top-high}
 use Rattle.totals_spec.proofs.Order.{item_of-nan, pair_of-nan}
+use Rattle.format.specs.Joined.{unpacked_of}
+use Rattle.binary.specs.declared.Read.{Read}
 use Rattle.binary.specs.Joined.{nan_of, if_nan}
 use Rattle.arithmetic.specs.Joined.{Bounded, item_of}
 use Rattle.arithmetic.proofs.Elements.{bounded}
 use Rattle.arithmetic.proofs.Pairs.{pairs-at}
 use Rattle.scan.specs.declared.Scan.{Scan}
 use Rattle.scan.specs.Joined.{top_of_item, with_item, with_top, seen, Reads, Takes, TakesPair}
-use Rattle.scan.specs.Encodings.{Encoding, signaling_in, item_in, pair_in, FieldIn, FieldsIn}
+use Rattle.scan.specs.Encodings.{Encoding, signaling_in, item_in, pair_in, ReadAs, TakesPairIn, FieldIn, FieldsIn}
 use Rattle.scan.proofs.Choice.{if-nan, if-left, if-right, if-signaling, none-signaling}
 use Rattle.scan.proofs.Step.{Reading, Plainly, Over, over-taken}
 
@@ -156,13 +158,17 @@ module _ (e : Encoding) (c : env.Settings) where
     };
   }
 
+  -- a pair of operands that were read
+  pub both-read : (x y : ℕ) (a b : Read) (s r : Scan) → ReadAs e c x a → ReadAs e c y b
+      → TakesPair c a.subnormal b.subnormal (unpacked_of a.value) (unpacked_of b.value) s r → TakesPairIn e c (x, y) s r
+  both-read x y a b s r (p, q) (m, n) h = rw (p, q, m, n) at h
+
   -- what `take_pair` gives
-  pub pair-taken : (x y : ℕ) (sub sub₁ : Bool) (v w : dec.Unpacked) (s r : Scan) → (v ≡ e.operand c x) × (sub ≡ e.subnormal x)
-      → (w ≡ e.operand c y) × (sub₁ ≡ e.subnormal y) → TakesPair c sub sub₁ v w s r
-      → (l : List (ℕ × ℕ)) (apart : ℕ) → Over e.format c dot l (with_top apart s) → Over e.format c dot (l ++ ((x, y) ∷ [])) (with_top apart r)
-  pair-taken x y sub sub₁ v w s r (p, q) (m, n) h =
+  pub pair-taken : (x y : ℕ) (s r : Scan) → TakesPairIn e c (x, y) s r → (l : List (ℕ × ℕ)) (apart : ℕ) → Over e.format c dot l (with_top apart s)
+      → Over e.format c dot (l ++ ((x, y) ∷ [])) (with_top apart r)
+  pair-taken x y s r h =
       two-taken e.format c dot (x, y) s r (e.subnormal x) (e.subnormal y) (e.operand c x) (e.decode x) (e.operand c y) (e.decode y)
-      h.between h.next refl refl refl (e.held c x) (e.held c y) (rw (p, q) at h.left) (rw (m, n) at h.right) (rw (p, m) at h.noted)
+      h.between h.next refl refl refl (e.held c x) (e.held c y) h.left h.right h.noted
 
   -- what `plain_fields` says
   pub pair-plainly : (x y n : ℕ) → FieldsIn e x y n → 0 < n → Plainly e.format c dot (x, y) n

@@ -22,7 +22,7 @@ use Rattle.arithmetic.specs.declared.Item.TheVariants as item
 use Rattle.arithmetic.specs.Joined.{item_of, field_top, fields_top}
 use Rattle.arithmetic.proofs.Elements.{field-none, field-max, fields-max}
 use Rattle.scan.specs.declared.Scan.{Scan}
-use Rattle.scan.specs.Joined.{Gathered}
+use Rattle.scan.specs.Joined.{TakesPair, Gathered}
 
 -- ---- an encoding
 
@@ -100,6 +100,10 @@ pair_in e c x = terms.pair_of (e.operand c x.0) (e.operand c x.1)
 -- o is the operand of a code
 abbrev pub ReadAs : Encoding → env.Settings → ℕ → Read → Type 0
 ReadAs e c b o = (unpacked_of o.value ≡ e.operand c b) × (o.subnormal ≡ e.subnormal b)
+
+-- r is the scan s with the operands of two codes, and their pair
+abbrev pub TakesPairIn : Encoding → env.Settings → ℕ × ℕ → Scan → Scan → Type 0
+TakesPairIn e c x s r = TakesPair c (e.subnormal x.0) (e.subnormal x.1) (e.operand c x.0) (e.operand c x.1) s r
 
 -- n is the exponent field of a code that is plainly normal, or 0
 pub record FieldIn (e : Encoding) (b n : ℕ) : Type 0 where

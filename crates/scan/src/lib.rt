@@ -145,6 +145,7 @@ impl Scan {
     }
 
     // One more pair of a dot, of which both were read.
+    #[inline(always)]
     pub fn take_pair(&mut self, c: Env, a: Read, b: Read)
         requires { Bounded (unpacked_of a.value) × Bounded (unpacked_of b.value) }
         ensures { TakesPair (env_of c) a.subnormal b.subnormal (unpacked_of a.value) (unpacked_of b.value) self.old self.new }

@@ -1,13 +1,15 @@
 // Numbers in some encoding, one after another.
-ghost use Rattle.std.specs.Prelude.{◌≡◌, ◌≢◌, List, ℕ, ◌<◌, length, get_or, IfSome};
+ghost use Rattle.std.specs.Prelude.{◌≡◌, Bool, true, false, List, ℕ, ◌<◌, length, get_or, IfSome};
 ghost use Rattle.totals_spec.specs.Extended.{tens_in};
 ghost use Rattle.format.specs.Shapes.{shape_of};
 ghost use Rattle.format.specs.Environments.{env_of};
 ghost use Rattle.arithmetic.specs.Summands.{summand_in};
-ghost use Rattle.arithmetic.specs.declared.summand.Summand.TheVariants.{Square};
+ghost use Rattle.arithmetic.specs.declared.summand.Summand.{Summand};
 ghost use Rattle.arithmetic.specs.Gives.{Gives};
-ghost use Rattle.scan.specs.Encodings.{Encoding, of_layout, of_tens, ReadAs, FieldIn, FieldsIn, item_in, pair_in};
+ghost use Rattle.scan.specs.Encodings.{Encoding, of_layout, of_tens, ReadAs, TakesPairIn, FieldIn, FieldsIn, item_in, pair_in};
+ghost use Rattle.scan.specs.Singles.{is_single};
 
+use crate::Scan;
 use arithmetic::element::{element_term, pair_term};
 use arithmetic::extended::{ten_pair, ten_term};
 use arithmetic::summand::Summand;
@@ -27,6 +29,8 @@ pub trait Numbers: Copy {
 
     ghost codes: { Self → List ℕ };
 
+    ghost single: { Self → Summand → Bool };
+
     // The format of the numbers.
     fn shape(&self) -> Shape
         ensures { shape_of result ≡ (encoding self.now).format };
@@ -38,6 +42,11 @@ pub trait Numbers: Copy {
     fn operand(&self, c: Env, i: usize) -> Read
         requires { i < length (codes self.now) }
         ensures { ReadAs (encoding self.now) (env_of c) (get_or (codes self.now) i 0) result };
+
+    // A scan goes on with the pair i, as numbers of this list's format.
+    fn take_pair(&self, right: &Self, c: Env, i: usize, s: &mut Scan)
+        requires { (i < length (codes self.now)) × (i < length (codes right.now)) }
+        ensures { TakesPairIn (encoding self.now) (env_of c) (get_or (codes self.now) i 0, get_or (codes right.now) i 0) s.old s.new };
 
     // The exponent field of an element that is plainly a normal number, and 0 for one that takes a closer look.
     fn plain_field(&self, i: usize) -> u64
@@ -59,11 +68,15 @@ pub trait Numbers: Copy {
         requires { fields < 536870912 }
         ensures { result ≡ (encoding self.now).pair_top fields };
 
-    // The term of the number i, where it has one: a zero may be told at once, and has none. That of a value or a magnitude has one word.
+    // Whether terms have one word, and few of their sums a carry beyond the two words that they reach.
+    fn is_single(&self, u: Summand) -> bool
+        ensures { result ≡ single self.now u };
+
+    // The term of the number i, where it has one: a zero may be told at once, and has none.
     fn term(&self, c: Env, u: Summand, i: usize) -> Option<Term>
         requires { i < length (codes self.now) }
         ensures gives { Gives result (item_in (encoding self.now) (env_of c) (summand_in u) (get_or (codes self.now) i 0)) }
-        ensures high_value { IfSome result (λ t. u ≢ Square → t.high ≡ 0) };
+        ensures high_value { IfSome result (λ t. single self.now u ≡ true → t.high ≡ 0) };
 
     // The term of the pair i.
     fn pair_term(&self, right: &Self, c: Env, i: usize) -> Option<Term>
@@ -83,6 +96,8 @@ impl<E: Elements> Numbers for Encoded<E> {
 
     ghost codes = { λ s. E.list s.elements };
 
+    ghost single = { λ s u. is_single u };
+
     #[inline(always)]
     fn shape(&self) -> Shape {
         self.layout.shape
@@ -96,6 +111,14 @@ impl<E: Elements> Numbers for Encoded<E> {
     #[inline(always)]
     fn operand(&self, c: Env, i: usize) -> Read {
         operand(self.layout, c, self.elements.at(i))
+    }
+
+    // A call, out of a loop over pairs that are plainly normal.
+    #[inline(never)]
+    fn take_pair(&self, right: &Self, c: Env, i: usize, s: &mut Scan) {
+        let a = operand(self.layout, c, self.elements.at(i));
+        let b = operand(self.layout, c, right.elements.at(i));
+        s.take_pair(c, a, b);
     }
 
     #[inline(always)]
@@ -116,6 +139,11 @@ impl<E: Elements> Numbers for Encoded<E> {
     #[inline(always)]
     fn plain_pair_top(&self, fields: u64) -> u64 {
         plain_pair_top(self.layout, fields)
+    }
+
+    #[inline(always)]
+    fn is_single(&self, u: Summand) -> bool {
+        u != Summand::Square
     }
 
     #[inline(always)]
@@ -140,6 +168,8 @@ impl Numbers for Tens<'_> {
 
     ghost codes = { λ s. tens_in s.values.now };
 
+    ghost single = { λ s u. false };
+
     #[inline(always)]
     fn shape(&self) -> Shape {
         extended()
@@ -153,6 +183,13 @@ impl Numbers for Tens<'_> {
     #[inline(always)]
     fn operand(&self, c: Env, i: usize) -> Read {
         ten_operand(c, ten_at(self.values, i))
+    }
+
+    #[inline(always)]
+    fn take_pair(&self, right: &Self, c: Env, i: usize, s: &mut Scan) {
+        let a = self.operand(c, i);
+        let b = right.operand(c, i);
+        s.take_pair(c, a, b);
     }
 
     #[inline(always)]
@@ -173,6 +210,12 @@ impl Numbers for Tens<'_> {
     #[inline(always)]
     fn plain_pair_top(&self, _fields: u64) -> u64 {
         0
+    }
+
+    // The 64 digits of the greatest values fill the upper of two words but for a bit.
+    #[inline(always)]
+    fn is_single(&self, _u: Summand) -> bool {
+        false
     }
 
     #[inline(always)]

@@ -30,11 +30,10 @@ pub fn scan_list<N: Numbers>(numbers: &N, c: Env, u: Summand) -> Scan
     s
 }
 
-// The pairs of two, of one encoding and one length.
+// The pairs of two of one length.
 #[inline(always)]
 pub fn scan_pairs<N: Numbers>(left: &N, right: &N, c: Env) -> Scan
-    requires alike { N.encoding right.now ≡ N.encoding left.now }
-    requires as_long { length (N.codes right.now) ≡ length (N.codes left.now) }
+    requires { length (N.codes right.now) ≡ length (N.codes left.now) }
     ensures { ScannedPairsAs (N.encoding left.now) (env_of c) (totals.pairs (N.codes left.now) (N.codes right.now)) result }
 {
     let mut s = Scan::new();
@@ -42,7 +41,7 @@ pub fn scan_pairs<N: Numbers>(left: &N, right: &N, c: Env) -> Scan
     for i in 0..left.count() {
         let fields = left.plain_fields(right, i);
         if fields == 0 {
-            s.take_pair(c, left.operand(c, i), right.operand(c, i));
+            left.take_pair(right, c, i, &mut s);
         } else if greatest < fields {
             greatest = fields;
         }

@@ -80,7 +80,7 @@ pub fn sum_of<N: Numbers>(c: Env, u: Summand, numbers: N) -> Wide
 // The sum of the products of the pairs of two lists.
 #[inline(always)]
 pub fn dot_of<N: Numbers>(c: Env, left: N, right: N) -> Wide
-    requires alike { (N.encoding right ≡ N.encoding left) × (length (N.codes right) ≡ length (N.codes left)) }
+    requires as_long { length (N.codes right) ≡ length (N.codes left) }
     requires known { Known (wide (N.encoding left).format) (N.encoding left).format × SettingsBounds (N.encoding left).format (env_of c) }
     requires summable { Summable (N.encoding left).format (map (pair_in (N.encoding left) (env_of c)) (totals.pairs (N.codes left) (N.codes right))) }
     ensures { answer_as (wide (N.encoding left).format) result ≡ given_as (wide (N.encoding left).format) (dot_in (N.encoding left) (env_of c) (totals.pairs (N.codes left) (N.codes right))) }

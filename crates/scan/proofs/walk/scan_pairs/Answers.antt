@@ -4,7 +4,7 @@ use Rattle.totals_spec.specs.Totals.{pairs}
 use Rattle.totals_spec.proofs.Order.{pairs-length}
 use Rattle.format.specs.Environments.{env_of}
 use Rattle.scan.proofs.Step.{Plainly, Turn, walk_start, walk-taken, walk-plain, walk-done}
-use Rattle.scan.proofs.Lists.{can-take, dot, pair-here, pair-taken, pair-plainly}
+use Rattle.scan.proofs.Lists.{dot, pair-here, pair-taken, pair-plainly}
 use Rattle.scan.proofs.walk.scan_pairs.Given as given
 use Rattle.scan.proofs.walk.scan_pairs.Goals as goal
 use Rattle.scan.proofs.walk.scan_pairs.Goals.{then-fields-eq0, else-fields-eq0+then-greatest-fields, else-fields-eq0+else-greatest-fields}
@@ -17,8 +17,8 @@ turn g c =
     let ys = g.N.Numbers.codes c.args.right.now in
     let i : c.loop-i.i < length xs = rw c.count-i-end.ensures at c.loop-i-test.true in
     record {
-      inside = rw (pairs-length xs ys (sym c.requires.as_long)) i;
-      here = pair-here xs ys _ _ _ c.requires.as_long i refl refl;
+      inside = rw (pairs-length xs ys (sym c.requires)) i;
+      here = pair-here xs ys _ _ _ c.requires i refl refl;
       so_far = c.loop-i.invariant.so_far;
     }
 
@@ -39,15 +39,7 @@ loop-i-init g c =
 
 pub plain_fields-fields-requires : goal.plain_fields-fields-requires
 plain_fields-fields-requires g c =
-    let i = rw c.count-i-end.ensures at c.loop-i-test.true in (i, rw c.requires.as_long i)
-
-pub take_pair-requires : goal.take_pair-requires
-take_pair-requires g c =
-    let q = g.N.Numbers.encoding c.args.left.now in
-    let e = env_of c.args.c in (
-      can-take q e _ _ c.operand.ensures.0,
-      can-take q e (get_or (g.N.Numbers.codes c.args.right.now) c.loop-i.i 0) _ (rw c.requires.alike at c.operand-then-fields-eq0.ensures.0),
-    )
+    let i = rw c.count-i-end.ensures at c.loop-i-test.true in (i, rw c.requires i)
 
 pub loop-i-preserved : goal.loop-i-preserved
 loop-i-preserved g c =
@@ -55,9 +47,7 @@ loop-i-preserved g c =
     elim c.if-fields-eq0.branch [
       | then-fields-eq0 w ↦ record {
         small = omega arith;
-        so_far = rw (w.s-is, w.greatest-is)
-            (walk-taken (turn g c) _
-            (pair-taken q (env_of c.args.c) _ _ _ _ _ _ _ _ w.operand.ensures (rw c.requires.alike at w.operand-then-fields-eq0.ensures) w.take_pair.ensures));
+        so_far = rw (w.s-is, w.greatest-is) (walk-taken (turn g c) _ (pair-taken q (env_of c.args.c) _ _ _ _ w.take_pair.ensures));
       }
       | else-fields-eq0+then-greatest-fields w ↦ record {
         small = omega (arith, c.plain_fields-fields.ensures.small);
@@ -73,6 +63,6 @@ pub returns : goal.returns
 returns g c =
     let q = g.N.Numbers.encoding c.args.left.now in
     let e = env_of c.args.c in
-    let long = pairs-length _ _ (sym c.requires.as_long) in
+    let long = pairs-length _ _ (sym c.requires) in
     walk-done q.format e (dot q e) _ c.loop-i.i c.loop-i.s _ c.loop-i.greatest _
     (omega (arith, c.count-i-end.ensures, long)) c.top.ensures c.plain_pair_top.ensures c.loop-i.invariant.so_far

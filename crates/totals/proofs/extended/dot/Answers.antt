@@ -9,8 +9,8 @@ use Rattle.totals.proofs.Tens.{dot-unsupported, dot-supported}
 use Rattle.totals.proofs.extended.dot.Goals as goal
 use Rattle.totals.proofs.extended.dot.Goals.{then-any_unsupported-via-then-any_unsupported, then-any_unsupported-via-else-any_unsupported+then-any_unsupported-2}
 
-pub scan_pairs-requires-clause-as_long : goal.scan_pairs-requires-clause-as_long
-scan_pairs-requires-clause-as_long c = sym (extended-dot-accepts kind4 _ _ _ c.requires).1
+pub scan_pairs-requires : goal.scan_pairs-requires
+scan_pairs-requires c = sym (extended-dot-accepts kind4 _ _ _ c.requires).1
 
 pub returns-then-any_unsupported : goal.returns-then-any_unsupported
 returns-then-any_unsupported c =
@@ -26,8 +26,8 @@ returns-then-any_unsupported c =
           c.scan_pairs.ensures.subnormal
     ]
 
-pub dot_of-requires-clause-alike : goal.dot_of-requires-clause-alike
-dot_of-requires-clause-alike c = (refl, sym (extended-dot-accepts kind4 _ _ _ c.requires).1)
+pub dot_of-requires-clause-as_long : goal.dot_of-requires-clause-as_long
+dot_of-requires-clause-as_long c = sym (extended-dot-accepts kind4 _ _ _ c.requires).1
 
 pub dot_of-requires-clause-known : goal.dot_of-requires-clause-known
 dot_of-requires-clause-known c = (extended-known, (extended-dot-accepts kind4 _ _ _ c.requires).0.settings)

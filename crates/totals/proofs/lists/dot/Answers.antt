@@ -1,5 +1,5 @@
 -- By the search for a stray bit, in the left list first.
-use Rattle.std.proofs.Common.{refl, ◌∙◌}
+use Rattle.std.proofs.Common.{◌∙◌}
 use Rattle.format.proofs.Layouts.{layout_bounds}
 use Rattle.totals_spec.proofs.Accepts.{dot-accepts}
 use Rattle.reduction.proofs.Items.{dot-summable}
@@ -16,10 +16,10 @@ returns-in-Some-find_stray g c =
     let f = c.in-Some-find_stray.ensures in
     rw f.1 at (dot-strayed-right _ _ _ _ c.requires c.in_default.ensures f.0)
 
-pub dot_of-w-requires-clause-alike : goal.dot_of-w-requires-clause-alike
-dot_of-w-requires-clause-alike g c =
+pub dot_of-w-requires-clause-as_long : goal.dot_of-w-requires-clause-as_long
+dot_of-w-requires-clause-as_long g c =
     let a = dot-accepts _ _ _ _ (dot-unstrayed _ _ _ _ c.requires c.in_default.ensures c.in_default-find_stray.ensures) in
-    (refl, a.same)
+    a.same
 
 pub dot_of-w-requires-clause-known : goal.dot_of-w-requires-clause-known
 dot_of-w-requires-clause-known g c =
