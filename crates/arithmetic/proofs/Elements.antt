@@ -3,7 +3,7 @@ use Rattle.std.specs.Prelude.{◌≢◌}
 use mathlib.Core.Path.{◌≡◌, refl, sym, ap, ◌∙◌, subst}
 use mathlib.Core.Bool.{Bool, true, false, ◌&&◌, cond, true≢false}
 use Prim.Native.Nat.{ℕ, zero, suc, ◌+◌, ◌-◌, ◌*◌, ◌/◌, ◌^◌, ◌≤◌, ◌<◌, max}
-use native.Mathlib.Nat.{mul-pos, mod-lt, lt_of_lt_of_le, zero-mul, zero-add, add-zero, pow-suc, zero-max, max-zero, suc-max-suc}
+use native.Mathlib.Nat.{mul-pos, mod-lt, lt_of_lt_of_le, zero-mul, add-zero, pow-suc, zero-max, max-zero, suc-max-suc}
 use native.Mathlib.Omega.{arith}
 use lib.Ieee.{size}
 use lib.Pow.{pow_pos, pow_mono}
@@ -85,10 +85,9 @@ no-hundred (dec.zero_of s) t e z h = (z, h)
 no-hundred (dec.infinity s) t e z h = (z, h)
 no-hundred (dec.nan s g m) t e z h = (z, h)
 
-pub no-magnitude : (t : Term) → t.low ≡ 0 → t.high ≡ 0 → magnitude t ≡ 0
+pub no-magnitude : (t : Term) → t.significand ≡ 0 → magnitude t ≡ 0
 unfolding magnitude
-no-magnitude t e f =
-    ap (λ (n : ℕ). (t.high * 2 ^ 64 + n) * 2 ^ t.shift) e ∙ ap (λ (n : ℕ). (n * 2 ^ 64 + 0) * 2 ^ t.shift) f ∙ zero-mul (2 ^ t.shift)
+no-magnitude t e = ap (λ (n : ℕ). n * 2 ^ t.shift) e ∙ zero-mul (2 ^ t.shift)
 
 -- ---- summands
 
@@ -108,10 +107,10 @@ two-le n h = omega arith
 
 -- a number's own term, where it is not squared
 pub single_of : (u : Summand) (s b : Bool) (k m : ℕ) → u ≢ Square → k < 268435456 → 0 < m → b ≡ (is_value (summand_in u) && s)
-    → StandsFor (record { negative = b; low = m; high = 0; shift = k + 1024 }) (terms.item_of (summand_in u) (dec.finite s k m))
+    → StandsFor (record { negative = b; significand = m; shift = k + 1024 }) (terms.item_of (summand_in u) (dec.finite s k m))
 unfolding magnitude terms.single
-single_of Value s b k m h g z e = (ap (λ (n : ℕ). n * 2 ^ (k + 1024)) (zero-add m), e, omega arith, mul-pos z (pow_pos (k + 1024)))
-single_of Magnitude s b k m h g z e = (ap (λ (n : ℕ). n * 2 ^ (k + 1024)) (zero-add m), e, omega arith, mul-pos z (pow_pos (k + 1024)))
+single_of Value s b k m h g z e = (refl, e, omega arith, mul-pos z (pow_pos (k + 1024)))
+single_of Magnitude s b k m h g z e = (refl, e, omega arith, mul-pos z (pow_pos (k + 1024)))
 single_of Square s b k m h g z e = absurd (h refl)
 
 -- ---- an element that is plainly a number

@@ -17,10 +17,10 @@ use Rattle.arithmetic.proofs.Pairs.{both-plainly, plain-pair, none_left, none-ei
 -- ---- what is no term
 
 abbrev nothing : Term
-nothing = record { negative = false; low = 0; high = 0; shift = 0 }
+nothing = record { negative = false; significand = 0; shift = 0 }
 
 nothing_is : magnitude nothing ≡ 0
-nothing_is = no-magnitude nothing refl refl
+nothing_is = no-magnitude nothing refl
 
 -- nothing above 0 stands for what is no term
 none-stands-for : (t : Term) (i : terms.Item) → magnitude t ≡ 0 → StandsFor t i → terms.term_of i ≡ none

@@ -12,7 +12,7 @@ use Rattle.arithmetic.specs.declared.Item.TheVariants as item
 -- ---- terms
 
 unfoldable pub magnitude : Term → ℕ
-magnitude t = (t.high * 2 ^ 64 + t.low) * 2 ^ t.shift
+magnitude t = t.significand * 2 ^ t.shift
 
 -- the code's term of an item: a term is above 0, and what is no term has magnitude 0 and no shift
 abbrev pub StandsFor : Term → terms.Item → Type 0

@@ -1,5 +1,5 @@
 // The term of an element or a pair, where it has one: at once of what is plainly a normal number or a zero, and by a closer look of all else.
-ghost use Rattle.std.specs.Prelude.{◌≡◌, ◌≢◌, IfSome};
+ghost use Rattle.std.specs.Prelude.{◌≡◌, ◌≢◌, IfSome, ◌<◌, ◌^◌};
 ghost use Rattle.totals_spec.specs.Terms as terms;
 ghost use Rattle.totals_spec.specs.Hundredfold.{hundred_item};
 ghost use Rattle.format.specs.Layouts.{layout_of};
@@ -22,7 +22,7 @@ use format::layout::Layout;
 #[inline(always)]
 pub fn element_term(f: Layout, c: Env, u: Summand, b: u64) -> Option<Term>
     ensures gives { Gives result (terms.item (layout_of f) (env_of c) (summand_in u) b) }
-    ensures high_value { IfSome result (λ t. u ≢ Square → t.high ≡ 0) }
+    ensures one_word { IfSome result (λ t. u ≢ Square → t.significand < 2 ^ 64) }
 {
     if is_plain(f, b) {
         return Some(plain_term(f, u, b));

@@ -1,5 +1,5 @@
 // The terms of values of ten bytes (kind 4).
-ghost use Rattle.std.specs.Prelude.{◌≡◌, ◌≢◌, ◌<◌};
+ghost use Rattle.std.specs.Prelude.{◌≡◌, ◌≢◌, ◌<◌, ◌^◌};
 ghost use Rattle.totals_spec.specs.Extended as spec;
 ghost use Rattle.format.specs.Environments.{env_of};
 ghost use Rattle.arithmetic.specs.Summands.{summand_in};
@@ -18,7 +18,7 @@ use values::Ten;
 pub fn ten_term(c: Env, u: Summand, b: Ten) -> Term
     requires { b.head < 65536 }
     ensures stands_for { StandsFor result (spec.extended_item (env_of c) (summand_in u) (ten_of b)) }
-    ensures high_value { u ≢ Square → result.high ≡ 0 }
+    ensures one_word { u ≢ Square → result.significand < 2 ^ 64 }
 {
     operand_term(u, operand(c, b).value)
 }

@@ -36,12 +36,11 @@ const FIELD_TOP: u64 = TOP - 1;
 
 const FIELDS_TOP: u64 = TOP - 2;
 
-// (high * 2^64 + low) * 2^shift units; low, high and shift are 0 for what is no term.
+// significand * 2^shift units; both are 0 for what is no term.
 #[derive(Clone, Copy)]
 pub struct Term {
     pub negative: bool,
-    pub low: u64,
-    pub high: u64,
+    pub significand: u128,
     pub shift: u64,
 }
 
@@ -57,12 +56,11 @@ pub enum Item {
 }
 
 pub fn no_term() -> Term
-    ensures { (result.low ≡ 0) × (result.high ≡ 0) × (result.shift ≡ 0) }
+    ensures { (result.significand ≡ 0) × (result.shift ≡ 0) }
 {
     Term {
         negative: false,
-        low: 0,
-        high: 0,
+        significand: 0,
         shift: 0,
     }
 }
@@ -73,11 +71,9 @@ pub fn product(negative: bool, k: u64, m: u64, j: u64, n: u64) -> Term
     requires { (k < 268435456) × (j < 268435456) × (0 < m) × (0 < n) }
     ensures { StandsFor result (terms.term (terms.product negative k m j n)) }
 {
-    let p = widening_mul(m, n);
     Term {
         negative,
-        low: p.low,
-        high: p.high,
+        significand: widening_mul(m, n),
         shift: k + j + ROOM,
     }
 }
@@ -94,14 +90,13 @@ fn summand_sign(u: Summand, negative: bool) -> bool
 fn summand_term(u: Summand, negative: bool, k: u64, m: u64) -> Term
     requires { (k < 268435456) × (0 < m) }
     ensures stands_for { StandsFor result (terms.item_of (summand_in u) (dec.finite negative k m)) }
-    ensures high_value { u ≢ Square → result.high ≡ 0 }
+    ensures one_word { u ≢ Square → result.significand < 2 ^ 64 }
 {
     match u {
         Summand::Square => product(false, k, m, k, m),
         _ => Term {
             negative: summand_sign(u, negative),
-            low: m,
-            high: 0,
+            significand: u128::from(m),
             shift: k + ROOM,
         },
     }
@@ -128,7 +123,7 @@ fn closer(f: Layout, c: Env, b: u64) -> Read
 fn operand_term(u: Summand, v: Unpacked) -> Term
     requires { Bounded (unpacked_of v) }
     ensures stands_for { StandsFor result (terms.item_of (summand_in u) (unpacked_of v)) }
-    ensures high_value { u ≢ Square → result.high ≡ 0 }
+    ensures one_word { u ≢ Square → result.significand < 2 ^ 64 }
 {
     match v {
         Unpacked::Finite {
@@ -144,7 +139,7 @@ fn operand_term(u: Summand, v: Unpacked) -> Term
 #[tactic(auto, unfolding(totals_spec::specs::Terms::item), using(crate::proofs::Elements::operands))]
 pub fn looked_term(f: Layout, c: Env, u: Summand, b: u64) -> Term
     ensures stands_for { StandsFor result (terms.item (layout_of f) (env_of c) (summand_in u) b) }
-    ensures high_value { u ≢ Square → result.high ≡ 0 }
+    ensures one_word { u ≢ Square → result.significand < 2 ^ 64 }
 {
     operand_term(u, closer(f, c, b).value)
 }
@@ -153,7 +148,7 @@ pub fn looked_term(f: Layout, c: Env, u: Summand, b: u64) -> Term
 pub fn plain_term(f: Layout, u: Summand, b: u64) -> Term
     requires { (0 < dec.field_of (layout_of f) b) }
     ensures stands_for { StandsFor result (terms.item_of (summand_in u) (plain_number (layout_of f) b)) }
-    ensures high_value { u ≢ Square → result.high ≡ 0 }
+    ensures one_word { u ≢ Square → result.significand < 2 ^ 64 }
 {
     summand_term(
         u,

@@ -26,10 +26,10 @@ module _ (w : List ℕ) (fit : (k : ℕ) → get_or w k 0 < 2 ^ 64) where
 
   module _ (negative sticky : Bool) (position : ℕ) where
     pub all-narrowed : size (value w) ≤ 128
-        → Narrows negative sticky position w
-        (record { negative = negative; sticky = sticky; position = position; low = get_or w 0 0; high = get_or w 1 0 })
-    all-narrowed h =
-        let e = two-words (lt_of_lt_of_le (size-lt (value w)) (pow_mono h)) in
+        → {m : ℕ} → m ≡ get_or w 1 0 * 2 ^ 64 + get_or w 0 0
+        → Narrows negative sticky position w (record { negative = negative; sticky = sticky; position = position; significand = m })
+    all-narrowed h {m} is =
+        let e : m ≡ value w = is ∙ two-words (lt_of_lt_of_le (size-lt (value w)) (pow_mono h)) in
         record {
           sign = refl;
           stands = λ x st. rw e st;
@@ -67,14 +67,16 @@ module _ (w : List ℕ) (fit : (k : ℕ) → get_or w k 0 < 2 ^ 64) where
           upper = ap (λ (x : ℕ). value w / 2 ^ x) (omega arith) ∙ sym (shr-shr (value w) under 64)
 
       pub top-narrowed : n ≤ 768 → {s : Bool} → s ≡ (sticky || not (eqb (value w % 2 ^ under) 0))
-          → Narrows negative sticky position w
-          (record { negative = negative; sticky = s; position = position + under; low = get_or w (top - 1) 0; high = get_or w top 0 })
-      top-narrowed most se = record {
-        sign = refl;
-        stands = λ x st. rw (words, se) (stands-without sticky (value w) position under x st);
-        some = λ _. rw words (lt_of_lt_of_le (pow_pos (n - under - 1)) above);
-        low = omega arith;
-        high = omega arith;
-        few = λ h. absurd (omega (arith, is, more));
-        long = λ _. rw (words, size_exact kept (n - under) (omega arith) above below) (omega arith);
-      }
+          → {m : ℕ} → m ≡ get_or w top 0 * 2 ^ 64 + get_or w (top - 1) 0
+          → Narrows negative sticky position w (record { negative = negative; sticky = s; position = position + under; significand = m })
+      top-narrowed most se {m} its =
+          let e : m ≡ kept = its ∙ words in
+          record {
+            sign = refl;
+            stands = λ x st. rw (e, se) (stands-without sticky (value w) position under x st);
+            some = λ _. rw e (lt_of_lt_of_le (pow_pos (n - under - 1)) above);
+            low = omega arith;
+            high = omega arith;
+            few = λ h. absurd (omega (arith, is, more));
+            long = λ _. rw (e, size_exact kept (n - under) (omega arith) above below) (omega arith);
+          }

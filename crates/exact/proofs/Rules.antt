@@ -5,8 +5,6 @@ use Prim.Native.Nat.{ℕ, zero, suc, ◌+◌, ◌≤◌}
 use native.Mathlib.Nat.{le_refl}
 use native.Mathlib.Omega.{arith}
 use Rattle.totals_spec.specs.Basics.{flag, is_set}
-use Rattle.totals_spec.specs.Format.{kind_of}
-use Rattle.totals_spec.specs.Round.{is_no_inf}
 use Rattle.exact.specs.Joined.{underflow_of}
 use Rattle.exact.specs.declared.rounding.Underflow.TheVariants.{Flushed, Kept}
 

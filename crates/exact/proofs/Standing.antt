@@ -2,7 +2,7 @@
 use mathlib.Core.Path.{◌≡◌, refl, sym, ap, ap₂, ◌∙◌}
 use mathlib.Core.Bool.{Bool, true, false, not, ◌||◌, cond}
 use Prim.Native.Nat.{ℕ, zero, suc, ◌+◌, ◌-◌, ◌*◌, ◌/◌, ◌%◌, ◌^◌, ◌≤◌, ◌<◌}
-use native.Mathlib.Nat.{lt_of_lt_of_le, mul-le-mul_right, mul_assoc, suc-mul, mul_comm, mod-lt, mod-eq_of_lt, add_comm, add-zero}
+use native.Mathlib.Nat.{lt_of_lt_of_le, mul-le-mul_right, mul_assoc, suc-mul, mul_comm, mod-lt, mod-eq_of_lt, add-zero}
 use native.Mathlib.Omega.{arith}
 use lib.Dec.{eqb}
 use lib.Arith.{digits_lt, digits_div, digits_mod}
@@ -177,7 +177,6 @@ cut_up false v a u h le pos end = record {
 pub cut_down : (v a j u : ℕ) → a + j ≡ u → a + size v ≤ u + 64 → v / 2 ^ j < 2 ^ 64
 cut_down v a j u at end = shr_lt 64 j (lt_of_lt_of_le (size-lt v) (pow_mono {i = size v} {j = 64 + j} (omega arith)))
 
--- and the digits from the bit i + 1 of a number y that is y / 2^i of two words
-pub two-word-digits : (v i low high : ℕ) → high * 2 ^ 64 + low ≡ v / 2 ^ i → v / 2 ^ (i + 1) < 2 ^ 64 → (low + high * 2 ^ 64) / 2 ^ 1 % 2 ^ 64 ≡ v / 2 ^ (i + 1)
-two-word-digits v i low high e h =
-    ap (λ (x : ℕ). x / 2 ^ 1 % 2 ^ 64) (add_comm low (high * 2 ^ 64) ∙ e) ∙ ap (λ (x : ℕ). x % 2 ^ 64) (shr-shr v i 1) ∙ mod-eq_of_lt h
+-- and the digits from the bit i + 1 of a number that is v / 2^i
+pub half_digits : (v i : ℕ) {one : ℕ} → one ≡ v / 2 ^ i → v / 2 ^ (i + 1) < 2 ^ 64 → one / 2 ^ 1 % 2 ^ 64 ≡ v / 2 ^ (i + 1)
+half_digits v i e h = ap (λ (x : ℕ). x / 2 ^ 1 % 2 ^ 64) e ∙ ap (λ (x : ℕ). x % 2 ^ 64) (shr-shr v i 1) ∙ mod-eq_of_lt h

@@ -43,9 +43,8 @@ underflow_of tiny inexact flush = cond (tiny && flush) (Flushed (8 + 16 + 32)) (
 
 -- ---- values to round
 
--- its two words' number
 abbrev pub significand_of : Unrounded → ℕ
-significand_of v = v.high * 2 ^ 64 + v.low
+significand_of v = v.significand
 
 -- the exact numbers that m units stand for: m units, or with a sticky bit every number strictly between m and m + 1 units
 abbrev pub StandsAt : Bool → ℕ → ℕ → ℕ → Type 0
@@ -67,7 +66,7 @@ pub record Narrows (negative sticky : Bool) (position : ℕ) (w : List ℕ) (v :
 
 -- the same value, counted from a unit n positions lower
 abbrev pub raised_by : ℕ → Unrounded → Unrounded
-raised_by n v = record { negative = v.negative; sticky = v.sticky; position = v.position + n; low = v.low; high = v.high }
+raised_by n v = record { negative = v.negative; sticky = v.sticky; position = v.position + n; significand = v.significand }
 
 -- the position just above a value's highest bit
 abbrev pub end_of : Unrounded → ℕ

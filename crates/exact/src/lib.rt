@@ -25,17 +25,15 @@ use format::modes::{Rounding, Tininess};
 use format::shape::Shape;
 use format::unpacked::Unpacked;
 use limbs::pair;
-use limbs::word::{funnel, ones, power, scaled};
+use limbs::word::{ones, power, scaled};
 
-// A magnitude to round: the significand high * 2^64 + low, times 2^position units, or with a sticky bit any number between that and significand + 1
-// of these.
+// A magnitude to round: the significand times 2^position units, or with a sticky bit any number between that and significand + 1 of these.
 #[derive(Clone, Copy)]
 pub struct Unrounded {
     pub negative: bool,
     pub sticky: bool,
     pub position: u64,
-    pub low: u64,
-    pub high: u64,
+    pub significand: u128,
 }
 
 // A magnitude cut at a position: the digits at and above it, and what is dropped.
@@ -73,8 +71,7 @@ pub fn narrowed(negative: bool, sticky: bool, position: u64, w: [u64; 12]) -> Un
             negative,
             sticky,
             position,
-            low: w[0],
-            high: w[1],
+            significand: pair::joined(w[0], w[1]),
         };
     }
     let top = (n - 1) / 64;
@@ -83,8 +80,7 @@ pub fn narrowed(negative: bool, sticky: bool, position: u64, w: [u64; 12]) -> Un
         negative,
         sticky: sticky || limbs_window::any_below(w, 64 * under),
         position: position + 64 * (under as u64),
-        low: w[under],
-        high: w[top],
+        significand: pair::joined(w[under], w[top]),
     }
 }
 
@@ -96,8 +92,7 @@ pub fn nothing() -> Unrounded
         negative: false,
         sticky: false,
         position: 0,
-        low: 0,
-        high: 0,
+        significand: 0,
     }
 }
 
@@ -105,14 +100,14 @@ impl Unrounded {
     pub fn is_nothing(self) -> bool
         ensures { result ≡ eqb (significand_of self) 0 }
     {
-        self.low == 0 && self.high == 0
+        self.significand == 0
     }
 
     // The digits of the significand.
     pub fn length(self) -> u64
         ensures { (result ≡ bit_length (significand_of self)) × (result ≤ 128) }
     {
-        pair::bit_length(self.low, self.high) as u64
+        pair::bit_length(self.significand) as u64
     }
 
     // Cuts at a position from which the digits fit a word, and below which all lies that the sticky bit stands for.
@@ -123,16 +118,16 @@ impl Unrounded {
     {
         if lowest <= self.position {
             return Cut {
-                kept: scaled(self.low, self.position - lowest),
+                kept: scaled(pair::low(self.significand), self.position - lowest),
                 dropped: Dropped::Nothing,
             };
         }
         let below = (lowest - self.position - 1) as usize;
-        let one = pair::shr(self.low, self.high, below);
-        let rest = self.sticky | pair::any_below(self.low, self.high, below);
+        let one = pair::shr(self.significand, below);
+        let rest = self.sticky | pair::any_below(self.significand, below);
         Cut {
-            kept: funnel(one.low, one.high, 1),
-            dropped: Dropped::new(one.low % 2 == 1, rest),
+            kept: pair::low(one >> 1),
+            dropped: Dropped::new(one % 2 == 1, rest),
         }
     }
 }

@@ -9,14 +9,15 @@ use Rattle.limbs_term.specs.declared.Laid.{Laid}
 use Rattle.limbs_term.specs.declared.Placed.{Placed}
 use Rattle.limbs_term.specs.Placed.{flip, laid, Makes}
 
--- shifted by the place in the word, a term has the words w₀, w₁ and w₂
-pub term_words : (low high w₀ w₁ w₂ c : ℕ) {shift : ℕ} {p : Place} → Splits shift p → w₀ + c * 2 ^ 64 ≡ low * 2 ^ p.bit + 0
-    → w₁ + w₂ * 2 ^ 64 ≡ high * 2 ^ p.bit + c
-    → (w₀ + (w₁ + w₂ * 2 ^ 64) * 2 ^ 64) * 2 ^ (64 * p.word) ≡ term low high shift
-term_words low high w₀ w₁ w₂ c {shift} {p} s e f =
+-- shifted by the place in the word, a term of the words low and high has the words w₀, w₁ and w₂
+pub term_words : (m low high w₀ w₁ w₂ c : ℕ) {shift : ℕ} {p : Place} → Splits shift p → high * 2 ^ 64 + low ≡ m
+    → w₀ + c * 2 ^ 64 ≡ low * 2 ^ p.bit + 0 → w₁ + w₂ * 2 ^ 64 ≡ high * 2 ^ p.bit + c
+    → (w₀ + (w₁ + w₂ * 2 ^ 64) * 2 ^ 64) * 2 ^ (64 * p.word) ≡ term m shift
+term_words m low high w₀ w₁ w₂ c {shift} {p} s d e f =
     ap (λ (x : ℕ). x * 2 ^ (64 * p.word)) (joined (2 ^ 64) (2 ^ p.bit) e f)
-    ∙ mul_assoc (high * 2 ^ 64 + low) (2 ^ p.bit) (2 ^ (64 * p.word))
-    ∙ ap (λ (x : ℕ). (high * 2 ^ 64 + low) * x) (sym (pow-add 2 p.bit (64 * p.word)) ∙ ap (λ (x : ℕ). 2 ^ x) (add_comm p.bit (64 * p.word) ∙ placed s))
+    ∙ ap (λ (x : ℕ). x * 2 ^ p.bit * 2 ^ (64 * p.word)) d
+    ∙ mul_assoc m (2 ^ p.bit) (2 ^ (64 * p.word))
+    ∙ ap (λ (x : ℕ). m * x) (sym (pow-add 2 p.bit (64 * p.word)) ∙ ap (λ (x : ℕ). 2 ^ x) (add_comm p.bit (64 * p.word) ∙ placed s))
   where
     joined : (M P : ℕ) → w₀ + c * M ≡ low * P + 0 → w₁ + w₂ * M ≡ high * P + c → w₀ + (w₁ + w₂ * M) * M ≡ (high * M + low) * P
     joined M P e f = omega (arith, ap (λ (x : ℕ). x * M) f)

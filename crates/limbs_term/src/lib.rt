@@ -1,10 +1,11 @@
-// A term of at most 128 bits, high * 2^64 + low, shifted and added to a window or taken off it, touching only the words that change.
+// A term of at most 128 bits, shifted and added to a window or taken off it, touching only the words that change.
 #![tactic(auto)]
 
 ghost use Rattle.std.specs.Prelude.{◌≡◌, ◌^◌, nat_lt};
 ghost use Rattle.limbs.specs.Value.{value, term, moved};
 ghost use Rattle.limbs_term.specs.Placed.{flip, Lays, Turns, Settles};
 
+use limbs::pair::{high, low};
 use limbs::word::{shl_word, split};
 use limbs_window::{add, shl, sub};
 
@@ -43,10 +44,10 @@ fn flipped(negative: bool, w: u64) -> u64
 }
 
 // total + or - the shifted term, by the window's own operations: for any shift.
-pub fn move_term(total: [u64; 12], low: u64, high: u64, shift: usize, negative: bool) -> [u64; 12]
-    ensures { value result ≡ moved negative (value total) (term low high shift) }
+pub fn move_term(total: [u64; 12], m: u128, shift: usize, negative: bool) -> [u64; 12]
+    ensures { value result ≡ moved negative (value total) (term m shift) }
 {
-    let t = shl([low, high, 0, 0, 0, 0, 0, 0, 0, 0, 0, 0], shift);
+    let t = shl([low(m), high(m), 0, 0, 0, 0, 0, 0, 0, 0, 0, 0], shift);
     if negative {
         sub(total, t)
     } else {
@@ -55,12 +56,12 @@ pub fn move_term(total: [u64; 12], low: u64, high: u64, shift: usize, negative: 
 }
 
 // The three words of a term, the last of them the window's last at most.
-fn lay(low: u64, high: u64, up: usize) -> Laid
-    ensures { Lays 9 result.v2 (term low high up) result }
+fn lay(m: u128, up: usize) -> Laid
+    ensures { Lays 9 result.v2 (term m up) result }
 {
     let p = split(up);
-    let s = shl_word(low, 0, p.bit);
-    let t = shl_word(high, s.carry, p.bit);
+    let s = shl_word(low(m), 0, p.bit);
+    let t = shl_word(high(m), s.carry, p.bit);
     match p.word {
         at if at <= LAST_OF_THREE => Laid {
             at,
@@ -95,11 +96,11 @@ fn lay(low: u64, high: u64, up: usize) -> Laid
 
 // The same of a term of one word, which reaches two. Not one function by a size: at the window's last word but one a third word has room or none by the
 // size alone, so each case would ask for it again.
-fn lay_single(low: u64, up: usize) -> Laid
-    ensures { Lays 10 result.v1 (term low 0 up) result × (result.v2 ≡ 0) }
+fn lay_single(m: u64, up: usize) -> Laid
+    ensures { Lays 10 result.v1 (term m up) result × (result.v2 ≡ 0) }
 {
     let p = split(up);
-    let s = shl_word(low, 0, p.bit);
+    let s = shl_word(m, 0, p.bit);
     match p.word {
         at if at <= LAST_OF_TWO => Laid {
             at,
@@ -139,17 +140,17 @@ fn turned(p: Laid, negative: bool) -> Placed
 }
 
 // The words to add for a term that is added or taken off, to a window's three words from `at` on.
-pub fn settle(low: u64, high: u64, up: usize, negative: bool) -> Placed
-    ensures { Settles 9 result.w2 negative (term low high up) result }
+pub fn settle(m: u128, up: usize, negative: bool) -> Placed
+    ensures { Settles 9 result.w2 negative (term m up) result }
 {
-    turned(lay(low, high, up), negative)
+    turned(lay(m, up), negative)
 }
 
 // The same of a term of one word, to a window's two words from `at` on.
-pub fn settle_single(low: u64, up: usize, negative: bool) -> Placed
-    ensures { Settles 10 result.w1 negative (term low 0 up) result × (result.w2 ≡ flip negative 0) }
+pub fn settle_single(m: u64, up: usize, negative: bool) -> Placed
+    ensures { Settles 10 result.w1 negative (term m up) result × (result.w2 ≡ flip negative 0) }
 {
-    turned(lay_single(low, up), negative)
+    turned(lay_single(m, up), negative)
 }
 
 // Whether a carry goes on out of the last word that a term is added to, or a borrow where it is taken off: the word then lies on the other side of what

@@ -4,7 +4,7 @@ use mathlib.Core.Logic.{◌≢◌}
 use mathlib.Core.Bool.{Bool, true, false}
 use mathlib.Core.List.{[], ◌∷◌}
 use Prim.Native.Nat.{ℕ, ◌+◌, ◌*◌, ◌^◌, ◌≤◌, ◌<◌, min}
-use native.Mathlib.Nat.{mul-one, zero-mul, zero-add}
+use native.Mathlib.Nat.{mul-one, zero-mul}
 use native.Mathlib.Omega.{arith}
 use lib.Count.{count_trailing_zeros}
 use lib.Dec.{ltb}
@@ -27,12 +27,12 @@ same_test a b c d f g = go (ltb a b) refl
     go false e = sym (le-ltb c d (g (ltb-false a b e)))
 
 -- the lowest set bit of the term of an item, as a program has the term
-module _ (t : code.Term) (low : ℕ) (none : t.high ≡ 0) where
-  whole : magnitude t ≡ t.low * 2 ^ t.shift
+module _ (t : code.Term) (low : ℕ) where
+  whole : magnitude t ≡ t.significand * 2 ^ t.shift
   unfolding magnitude
-  whole = rw (none, zero-mul (2 ^ 64), zero-add t.low)
+  whole = refl
 
-  pub no_lower : (i : Item) → StandsFor t i → t.low ≡ 0 → least low low_of (terms (i ∷ [])) ≡ low
+  pub no_lower : (i : Item) → StandsFor t i → t.significand ≡ 0 → least low low_of (terms (i ∷ [])) ≡ low
   no_lower nan_item h e = refl
   no_lower invalid_item h e = refl
   no_lower (infinite s) h e = refl
@@ -42,31 +42,31 @@ module _ (t : code.Term) (low : ℕ) (none : t.high ≡ 0) where
       not-pos : (n : ℕ) → n ≡ 0 → 0 < n → ⊥
       not-pos n e h = omega (arith, e, h)
 
-  pub lower-bit : (i : Item) → StandsFor t i → t.low ≢ 0 → t.low < 2 ^ 64
-      → least low low_of (terms (i ∷ [])) ≡ min (count_trailing_zeros 64 t.low + t.shift) low
+  pub lower-bit : (i : Item) → StandsFor t i → t.significand ≢ 0 → t.significand < 2 ^ 128
+      → least low low_of (terms (i ∷ [])) ≡ min (count_trailing_zeros 128 t.significand + t.shift) low
   unfolding low_bit
   lower-bit nan_item h e k = absurd (e (some h))
     where
-      some : (magnitude t ≡ 0) × (t.shift ≡ 0) → t.low ≡ 0
-      some h = sym (mul-one t.low) ∙ ap (λ (n : ℕ). t.low * 2 ^ n) (sym h.1) ∙ sym whole ∙ h.0
+      some : (magnitude t ≡ 0) × (t.shift ≡ 0) → t.significand ≡ 0
+      some h = sym (mul-one t.significand) ∙ ap (λ (n : ℕ). t.significand * 2 ^ n) (sym h.1) ∙ sym whole ∙ h.0
   lower-bit invalid_item h e k = absurd (e (some h))
     where
-      some : (magnitude t ≡ 0) × (t.shift ≡ 0) → t.low ≡ 0
-      some h = sym (mul-one t.low) ∙ ap (λ (n : ℕ). t.low * 2 ^ n) (sym h.1) ∙ sym whole ∙ h.0
+      some : (magnitude t ≡ 0) × (t.shift ≡ 0) → t.significand ≡ 0
+      some h = sym (mul-one t.significand) ∙ ap (λ (n : ℕ). t.significand * 2 ^ n) (sym h.1) ∙ sym whole ∙ h.0
   lower-bit (infinite s) h e k = absurd (e (some h))
     where
-      some : (magnitude t ≡ 0) × (t.shift ≡ 0) → t.low ≡ 0
-      some h = sym (mul-one t.low) ∙ ap (λ (n : ℕ). t.low * 2 ^ n) (sym h.1) ∙ sym whole ∙ h.0
+      some : (magnitude t ≡ 0) × (t.shift ≡ 0) → t.significand ≡ 0
+      some h = sym (mul-one t.significand) ∙ ap (λ (n : ℕ). t.significand * 2 ^ n) (sym h.1) ∙ sym whole ∙ h.0
   lower-bit (zero_item s) h e k = absurd (e (some h))
     where
-      some : (magnitude t ≡ 0) × (t.shift ≡ 0) → t.low ≡ 0
-      some h = sym (mul-one t.low) ∙ ap (λ (n : ℕ). t.low * 2 ^ n) (sym h.1) ∙ sym whole ∙ h.0
+      some : (magnitude t ≡ 0) × (t.shift ≡ 0) → t.significand ≡ 0
+      some h = sym (mul-one t.significand) ∙ ap (λ (n : ℕ). t.significand * 2 ^ n) (sym h.1) ∙ sym whole ∙ h.0
   lower-bit (term s) h e k =
       ap (λ (x : ℕ). min x low)
-      (ap low_bit (sym h.0 ∙ whole) ∙ low-raised t.low t.shift some
-      ∙ ap (λ (x : ℕ). x + t.shift) (zeros-same (size t.low) 64 t.low some (size-lt t.low) k))
+      (ap low_bit (sym h.0 ∙ whole) ∙ low-raised t.significand t.shift some
+      ∙ ap (λ (x : ℕ). x + t.shift) (zeros-same (size t.significand) 128 t.significand some (size-lt t.significand) k))
     where
-      some : 0 < t.low
+      some : 0 < t.significand
       some = omega (arith, e)
 
 pub shift-less : (t : code.Term) (i : Item) → StandsFor t i → t.shift < 1073741824

@@ -76,10 +76,10 @@ fn lower(x: u64, low: u64) -> u64
 {
     let c = Env::default();
     let t = looked_term(layout(), c, Summand::Value, x);
-    if t.low == 0 {
+    if t.significand == 0 {
         return low;
     }
-    low.min(u64::from(t.low.trailing_zeros()) + t.shift)
+    low.min(u64::from(t.significand.trailing_zeros()) + t.shift)
 }
 
 // The lowest set bit of some values, no higher than a position.

@@ -194,7 +194,7 @@ running-over {l} {w = w} {i = i} {total} {lost} so_far h e = record {
 module _ {l : List terms.Item} {n w i : ℕ} {total : List ℕ} {before : ℕ} {so_far : Running l n w i total before} {t : Term} {p : Part} {lost : ℕ}
     (k : Turn so_far t p lost) where
   abbrev part : ℕ
-  part = term p.low p.high p.up
+  part = term p.significand p.up
 
   -- with the part moved into the window
   pub turn_moved : {r : List ℕ} → Words 12 r → value r ≡ moved t.negative (value total) part → Running l n w (i + 1) r lost
@@ -218,7 +218,7 @@ module _ {l : List terms.Item} {n w i : ℕ} {total : List ℕ} {before : ℕ} {
 -- ---- what is no term
 
 abbrev pub nothing : Term
-nothing = record { negative = false; low = 0; high = 0; shift = 0 }
+nothing = record { negative = false; significand = 0; shift = 0 }
 
 pub nothing_is : magnitude nothing ≡ 0
-nothing_is = no-magnitude nothing refl refl
+nothing_is = no-magnitude nothing refl

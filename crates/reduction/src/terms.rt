@@ -1,5 +1,5 @@
 // The lists of terms that a pass adds up.
-ghost use Rattle.std.specs.Prelude.{◌≡◌, Bool, true, false, List, ◌<◌, length, get_or, map, IfSome};
+ghost use Rattle.std.specs.Prelude.{◌≡◌, Bool, true, false, List, ◌<◌, ◌^◌, length, get_or, map, IfSome};
 ghost use Rattle.totals_spec.specs.Settings.{no_settings};
 ghost use Rattle.totals_spec.specs.Terms.{Item, nan_item};
 ghost use Rattle.totals_spec.specs.Totals.{pairs};
@@ -35,7 +35,7 @@ pub trait Terms {
     fn term(&self, i: usize) -> Option<Term>
         requires { i < length (items self.now) }
         ensures gives { Gives result (get_or (items self.now) i nan_item) }
-        ensures high_value { IfSome result (λ t. single self.now ≡ true → t.high ≡ 0) };
+        ensures one_word { IfSome result (λ t. single self.now ≡ true → t.significand < 2 ^ 64) };
 }
 
 // The values, the magnitudes or the squares of some numbers.

@@ -7,6 +7,7 @@ ghost use Rattle.reduction.specs.Held.{Base, Sums};
 
 use crate::pass::{finished, start as middle};
 use crate::terms::Terms;
+use limbs::pair::low;
 use limbs::word::add_word;
 use limbs_term::{goes_on, move_term, settle, settle_single};
 use std::ops::ControlFlow;
@@ -30,7 +31,7 @@ fn pass_singles<T: Terms>(list: &T, w: u64) -> Pass
         if !p.some {
             continue;
         }
-        let q = settle_single(p.low, p.up, t.negative);
+        let q = settle_single(low(p.significand), p.up, t.negative);
         if !q.inside {
             continue;
         }
@@ -38,7 +39,7 @@ fn pass_singles<T: Terms>(list: &T, w: u64) -> Pass
         let x = add_word(total[at], q.w0, q.carry);
         let y = add_word(total[at + 1], q.w1, x.carry);
         if goes_on(t.negative, total[at + 1], y.word) {
-            let next = move_term(total, p.low, p.high, p.up, t.negative);
+            let next = move_term(total, p.significand, p.up, t.negative);
             total = next;
             continue;
         }
@@ -64,7 +65,7 @@ fn pass_doubles<T: Terms>(list: &T, w: u64) -> Pass
         if !p.some {
             continue;
         }
-        let q = settle(p.low, p.high, p.up, t.negative);
+        let q = settle(p.significand, p.up, t.negative);
         if !q.inside {
             continue;
         }
@@ -73,7 +74,7 @@ fn pass_doubles<T: Terms>(list: &T, w: u64) -> Pass
         let y = add_word(total[at + 1], q.w1, x.carry);
         let z = add_word(total[at + 2], q.w2, y.carry);
         if goes_on(t.negative, total[at + 2], z.word) {
-            let next = move_term(total, p.low, p.high, p.up, t.negative);
+            let next = move_term(total, p.significand, p.up, t.negative);
             total = next;
             continue;
         }

@@ -1,5 +1,5 @@
 // Numbers in some encoding, one after another.
-ghost use Rattle.std.specs.Prelude.{◌≡◌, Bool, true, false, List, ℕ, ◌<◌, length, get_or, IfSome};
+ghost use Rattle.std.specs.Prelude.{◌≡◌, Bool, true, false, List, ℕ, ◌<◌, ◌^◌, length, get_or, IfSome};
 ghost use Rattle.totals_spec.specs.Extended.{tens_in};
 ghost use Rattle.format.specs.Shapes.{shape_of};
 ghost use Rattle.format.specs.Environments.{env_of};
@@ -76,7 +76,7 @@ pub trait Numbers: Copy {
     fn term(&self, c: Env, u: Summand, i: usize) -> Option<Term>
         requires { i < length (codes self.now) }
         ensures gives { Gives result (item_in (encoding self.now) (env_of c) (summand_in u) (get_or (codes self.now) i 0)) }
-        ensures high_value { IfSome result (λ t. single self.now u ≡ true → t.high ≡ 0) };
+        ensures one_word { IfSome result (λ t. single self.now u ≡ true → t.significand < 2 ^ 64) };
 
     // The term of the pair i.
     fn pair_term(&self, right: &Self, c: Env, i: usize) -> Option<Term>

@@ -3,7 +3,7 @@ use mathlib.Core.Path.{◌≡◌, sym, ap, ap₂, ◌∙◌, subst}
 use mathlib.Core.Bool.{Bool, true, false, not, cond}
 use Prim.Native.Nat.{ℕ, zero, suc, ◌+◌, ◌-◌, ◌*◌, ◌/◌, ◌%◌, ◌^◌, ◌≤◌, ◌<◌, min}
 use native.Mathlib.Nat.{zero-add, add-mul, suc-add, mul_assoc, sub-add_cancel, div-one, div-div-eq-div-mul, add-div_right, mul-div-mul_right, pow-suc}
-use native.Mathlib.Nat.{mul-le-mul_right, le_trans, le_of_lt, lt_of_lt_of_le, lt_of_le_of_lt, min-eq_left, min-eq_right}
+use native.Mathlib.Nat.{mul-le-mul_right, le_trans, le_of_lt, lt_of_lt_of_le, min-eq_left, min-eq_right, mod-eq_of_lt}
 use native.Mathlib.Omega.{arith}
 use lib.Dec.{T, ltb, ltb→lt, nltb→le}
 use lib.IntN.{ℤ, pos, neg_ℤ, ◌-ℤ◌, +ℤ_idl}
@@ -42,17 +42,6 @@ cancelled x s e = ap₂ ◌/◌ upper lower ∙ mul-div-mul_right (x + 2 ^ s) (2
 
     lower : 2 ^ suc (s + e) ≡ 2 ^ suc s * 2 ^ e
     lower = ap (λ (n : ℕ). 2 ^ n) (sym (suc-add s e)) ∙ pow-add 2 (suc s) e
-
--- half of a number of two words
-module _ (low high : ℕ) where
-  pub high_half : (high ≡ 0 → ⊥) → 2 ^ 63 ≡ min ((high * 2 ^ 64 + low + 1) / 2) (2 ^ 63)
-  high_half h = sym (min-eq_right reached)
-    where
-      reached : 2 ^ 63 ≤ (high * 2 ^ 64 + low + 1) / 2
-      reached = omega (arith, h)
-
-  pub low_half : high ≡ 0 → low < 2 ^ 64 → low / 2 + low % 2 ≡ min ((high * 2 ^ 64 + low + 1) / 2) (2 ^ 63)
-  low_half e h = omega (arith, e, h)
 
 -- ---- the magnitude. x is twice the figure where the least number is 1
 
@@ -99,33 +88,13 @@ module _ (d k m x : ℕ) (twice : x ≡ 200 * m) where
       half : 2 ^ 63 ≤ (x * 2 ^ (k - d) + 1) / 2
       half = omega (arith, long)
 
--- at most 64 bits: the low word holds them all
-module _ (d k m low high : ℕ) (twice : high * 2 ^ 64 + low ≡ 200 * m) (short : size (high * 2 ^ 64 + low) + (k - d) ≤ 64) where
-  pub short-fits : 0 < m → (k - d < 64) × (low * 2 ^ (k - d) < 2 ^ 64)
-  short-fits p = (
-    omega (arith, size-pos x (omega (arith, twice))),
-    lt_of_le_of_lt (mul-le-mul_right (2 ^ (k - d)) part) (lt_of_lt_of_le (shl_lt (size x) (k - d) (size-lt x)) (pow_mono short)),
-  )
+  -- at most 64 bits
+  pub short-gives : (y : ℕ) → d ≤ k → size x + (k - d) ≤ 64 → y ≡ x * 2 ^ (k - d) % 2 ^ 128 → min ((y + 1) / 2) (2 ^ 63) ≡ min (pence_of d k m) (2 ^ 63)
+  short-gives y h short e =
+      ap (λ (n : ℕ). min n (2 ^ 63)) (ap (λ (n : ℕ). (n + 1) / 2) (e ∙ mod-eq_of_lt fits) ∙ scaled-up h)
     where
-      x : ℕ
-      x = high * 2 ^ 64 + low
-
-      part : low ≤ x
-      part = omega arith
-
-  pub short-gives : (y : ℕ) → d ≤ k → y ≡ low * 2 ^ (k - d) → min ((0 * 2 ^ 64 + y + 1) / 2) (2 ^ 63) ≡ min (pence_of d k m) (2 ^ 63)
-  short-gives y h e =
-      ap (λ (n : ℕ). min n (2 ^ 63))
-      (ap (λ (n : ℕ). (n + 1) / 2) (zero-add y ∙ e) ∙ scaled-up d k m low (only ∙ twice) h)
-    where
-      within : size (high * 2 ^ 64 + low) ≤ 64
-      within = omega (arith, short)
-
-      fits : high * 2 ^ 64 + low < 2 ^ 64
-      fits = lt_of_lt_of_le (size-lt (high * 2 ^ 64 + low)) (pow_mono within)
-
-      only : low ≡ high * 2 ^ 64 + low
-      only = omega (arith, fits)
+      fits : x * 2 ^ (k - d) < 2 ^ 128
+      fits = lt_of_lt_of_le (shl_lt (size x) (k - d) (size-lt x)) (pow_mono {j = 128} (omega (arith, short)))
 
 -- ---- the sign
 

@@ -1,6 +1,6 @@
 // Pence: a hundred times a number, rounded to an integer, half a penny away from zero. Of the number that an encoding stands for, and of the exact sum of
 // a list.
-ghost use Rattle.std.specs.Prelude.{◌≡◌, cond, ℕ, ◌+◌, ◌*◌, ◌/◌, ◌^◌, ◌<◌, ◌≤◌, min, pos, neg_ℤ, length};
+ghost use Rattle.std.specs.Prelude.{◌≡◌, cond, ℕ, ◌+◌, ◌/◌, ◌^◌, ◌<◌, ◌≤◌, min, pos, neg_ℤ, length};
 ghost use Rattle.totals_spec.specs.Basics.{Signed};
 ghost use Rattle.totals_spec.specs.Pence as spec;
 ghost use Rattle.totals_spec.specs.Totals.{limit};
@@ -29,7 +29,7 @@ use format::modes::Rounding;
 use format::shape::Shape;
 use format::unpacked::Unpacked;
 use limbs::pair;
-use limbs::word::{scaled, widening_mul};
+use limbs::word::widening_mul;
 use reduction::terms::Hundreds;
 use reduction::total::left;
 use reduction::walk::exact;
@@ -67,14 +67,11 @@ impl From<Refusal> for Pence {
     }
 }
 
-// Half of high * 2^64 + low, a half upwards; 2^63 where it is more.
-fn halved(low: u64, high: u64) -> u64
-    ensures { result ≡ min ((high * 2 ^ 64 + low + 1) / 2) (2 ^ 63) }
+// Half of a number, a half upwards; 2^63 where it is more.
+fn halved(n: u128) -> u64
+    ensures { result ≡ min ((n + 1) / 2) (2 ^ 63) }
 {
-    if high != 0 {
-        return TOO_LARGE;
-    }
-    low / 2 + low % 2
+    (n / 2 + n % 2).min(u128::from(TOO_LARGE)) as u64
 }
 
 // The magnitude of the figure of m * 2^k / 2^d; 2^63 where it is more. Twice the magnitude is cut to a
@@ -85,15 +82,13 @@ fn magnitude(d: u64, k: u64, m: u64) -> u64
 {
     let t = widening_mul(200, m);
     if k <= d {
-        let whole = pair::shr(t.low, t.high, (d - k) as usize);
-        return halved(whole.low, whole.high);
+        return halved(pair::shr(t, (d - k) as usize));
     }
     let up = k - d;
-    let length = pair::bit_length(t.low, t.high) as u64;
-    if length + up > 64 {
+    if u64::from(pair::bit_length(t)) + up > 64 {
         return TOO_LARGE;
     }
-    halved(scaled(t.low, up), 0)
+    halved(t << up)
 }
 
 fn signed(negative: bool, n: u64) -> i64

@@ -89,5 +89,5 @@ pub unshifted : (y : ℕ) → y * 2 ^ 0 ≡ y
 unshifted y = mul-one y
 
 -- shifted down, one word stays one
-pub no-high : (high low k l d : ℕ) → low < 2 ^ 64 → k * 2 ^ 64 + l ≡ (high * 2 ^ 64 + low) / 2 ^ d → high ≡ 0 → k ≡ 0
-no-high high low k l d h e z = omega (arith, div-le_self (high * 2 ^ 64 + low) (2 ^ d))
+pub one-word : (m d : ℕ) {k : ℕ} → k ≡ m / 2 ^ d → m < 2 ^ 64 → k < 2 ^ 64
+one-word m d e h = omega (arith, div-le_self m (2 ^ d))

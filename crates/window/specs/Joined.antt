@@ -27,10 +27,10 @@ use Rattle.window.specs.declared.Nearness.TheVariants.{Low, High, Between}
 
 -- the part of a term at or above the edge w, and the lost bit plus one
 pub record PartAt (w : ℕ) (t : Term) (r : Part) : Type 0 where
-  pub exact : term r.low r.high r.up ≡ magnitude t / 2 ^ w
+  pub exact : term r.significand r.up ≡ magnitude t / 2 ^ w
   pub lost-is : r.lost ≡ chain.lost_end w (magnitude t)
-  pub none : r.some ≡ false → term r.low r.high r.up ≡ 0
-  pub one_word : t.high ≡ 0 → r.high ≡ 0
+  pub none : r.some ≡ false → term r.significand r.up ≡ 0
+  pub one_word : t.significand < 2 ^ 64 → r.significand < 2 ^ 64
 
 -- a pass at the edge w over the terms ts
 pub record Passed (ts : List terms.Term) (w : ℕ) (q : Pass) : Type 0 where

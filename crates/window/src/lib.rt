@@ -18,8 +18,7 @@ use std::ops::ControlFlow;
 // The part of a term at or above an edge, to be added `up` bits above it, whether there is some, and the lost bit plus one.
 #[derive(Clone, Copy)]
 pub struct Part {
-    pub low: u64,
-    pub high: u64,
+    pub significand: u128,
     pub up: usize,
     pub some: bool,
     pub lost: u64,
@@ -31,31 +30,27 @@ pub fn window_part(t: Term, w: u64) -> Part
 {
     if t.shift >= w {
         return Part {
-            low: t.low,
-            high: t.high,
+            significand: t.significand,
             up: (t.shift - w) as usize,
             some: true,
             lost: 0,
         };
     }
-    let n = pair::bit_length(t.low, t.high) as u64;
+    let n = pair::bit_length(t.significand) as u64;
     if t.shift + n <= w {
         return Part {
-            low: 0,
-            high: 0,
+            significand: 0,
             up: 0,
             some: false,
             lost: t.shift + n,
         };
     }
     let down = (w - t.shift) as usize;
-    let kept = pair::shr(t.low, t.high, down);
     Part {
-        low: kept.low,
-        high: kept.high,
+        significand: pair::shr(t.significand, down),
         up: 0,
         some: true,
-        lost: if pair::any_below(t.low, t.high, down) {
+        lost: if pair::any_below(t.significand, down) {
             w
         } else {
             0
@@ -205,8 +200,7 @@ impl Units {
             negative: self.negative,
             sticky: true,
             position: self.place - 2,
-            low: w[0],
-            high: w[1],
+            significand: pair::joined(w[0], w[1]),
         }
     }
 }

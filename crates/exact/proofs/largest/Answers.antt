@@ -6,7 +6,7 @@ use Rattle.totals_spec.specs.Format.{digits, kind_of}
 use Rattle.totals_spec.specs.Round.{is_no_inf}
 use Rattle.totals_spec.proofs.Range.{range-fits}
 use Rattle.format.specs.Shapes.{shape_of}
-use Rattle.format.proofs.Shapes.{width_ge, width_le, range_bounds}
+use Rattle.format.proofs.Shapes.{width_le, range_bounds}
 use Rattle.exact.proofs.Beyond.{largest-plain, largest-noinf, ones_lt, ones-fit, ones_pos, ones-full}
 use Rattle.exact.proofs.largest.Goals as goal
 use Rattle.exact.proofs.largest.Goals.{else-is_no_inf-via-then-is_no_inf+else-q-p, else-is_no_inf-via-else-is_no_inf}

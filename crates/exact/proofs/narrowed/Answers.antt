@@ -26,6 +26,7 @@ pub returns-then-n-le128 : goal.returns-then-n-le128
 returns-then-n-le128 c =
     let w = c.args.w in
     all-narrowed w (words 12 w _ c.well_formed.1.1.1.0).fit _ _ _ (omega (arith, c.if-n-le128.true, c.bit_length-n.ensures))
+    c.joined.ensures
 
 pub overflow_add-result : goal.overflow_add-result
 overflow_add-result c =
@@ -57,3 +58,4 @@ returns c =
       | then-sticky k ↦ rw (k.result-is, k.if-sticky.true)
       | else-sticky k ↦ rw (k.result-is, k.if-sticky.false) k.any_below.ensures
     ])
+    c.joined-2.ensures

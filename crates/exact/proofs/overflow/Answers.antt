@@ -1,5 +1,5 @@
 -- What an overflow gives, by the settings and the kind.
-use Rattle.std.proofs.Common.{sym, ap, ◌∙◌, arith, rules}
+use Rattle.std.proofs.Common.{sym, ap, ◌∙◌, rules}
 use lib.Pow.{pow_pos}
 use Rattle.format.specs.Shapes.{shape_of}
 use Rattle.format.specs.Environments.{env_of}

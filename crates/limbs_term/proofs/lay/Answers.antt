@@ -1,4 +1,4 @@
-use Rattle.std.proofs.Common.{◌≡◌, ◌≤◌, arith, sym, true≢false, rules}
+use Rattle.std.proofs.Common.{◌≡◌, ◌≤◌, ◌^◌, arith, sym, true≢false, rules, div-add-mod'}
 use Rattle.limbs.specs.Value.{term}
 use Rattle.limbs_term.proofs.Term.{term_words}
 use Rattle.limbs_term.proofs.Within.{at-word, inside-three, at-ten, at-eleven, past_end, shifted-room, ends}
@@ -7,8 +7,12 @@ use Rattle.limbs_term.proofs.lay.Goals.{After-shl_word-t}
 
 -- once both words are shifted: the three words make the term
 whole : (k : After-shl_word-t) → let a = k.args in
-    at-word k.split-p.result.word k.shl_word-s.result.word k.shl_word-t.result.word k.shl_word-t.result.carry ≡ term a.low a.high a.up
-whole k = term_words k.args.low k.args.high _ _ _ k.shl_word-s.result.carry k.split-p.ensures k.shl_word-s.ensures.0 k.shl_word-t.ensures.0
+    at-word k.split-p.result.word k.shl_word-s.result.word k.shl_word-t.result.word k.shl_word-t.result.carry ≡ term a.m a.up
+whole k =
+    let low = k.low.ensures in
+    let high = k.high.ensures in
+    term_words k.args.m k.low.result k.high.result _ _ _ k.shl_word-s.result.carry k.split-p.ensures (rw (low, high) (div-add-mod' k.args.m (2 ^ 64)))
+    k.shl_word-s.ensures.0 k.shl_word-t.ensures.0
 
 pub returns-then-at-le-LAST_OF_THREE : goal.returns-then-at-le-LAST_OF_THREE
 returns-then-at-le-LAST_OF_THREE c =

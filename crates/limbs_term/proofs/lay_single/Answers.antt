@@ -1,4 +1,4 @@
-use Rattle.std.proofs.Common.{◌≡◌, ◌≤◌, arith, sym, refl, true≢false, rules}
+use Rattle.std.proofs.Common.{◌≡◌, ◌≤◌, arith, sym, refl, true≢false, zero-add, rules}
 use Rattle.limbs.specs.Value.{term}
 use Rattle.limbs_term.proofs.Term.{term_words}
 use Rattle.limbs_term.proofs.Within.{at-word, inside-two, single-at-eleven, past_end, shifted-room, ends}
@@ -6,8 +6,8 @@ use Rattle.limbs_term.proofs.lay_single.Goals as goal
 use Rattle.limbs_term.proofs.lay_single.Goals.{After-shl_word-s}
 
 -- once the word is shifted: two words make the term
-whole : (k : After-shl_word-s) → at-word k.split-p.result.word k.shl_word-s.result.word k.shl_word-s.result.carry 0 ≡ term k.args.low 0 k.args.up
-whole k = term_words k.args.low 0 _ _ 0 k.shl_word-s.result.carry k.split-p.ensures k.shl_word-s.ensures.0 (omega arith)
+whole : (k : After-shl_word-s) → at-word k.split-p.result.word k.shl_word-s.result.word k.shl_word-s.result.carry 0 ≡ term k.args.m k.args.up
+whole k = term_words k.args.m k.args.m 0 _ _ 0 k.shl_word-s.result.carry k.split-p.ensures (zero-add _) k.shl_word-s.ensures.0 (omega arith)
 
 pub returns-then-at-le-LAST_OF_TWO : goal.returns-then-at-le-LAST_OF_TWO
 returns-then-at-le-LAST_OF_TWO c =

@@ -3,7 +3,7 @@ use Rattle.limbs.proofs.Halves.{columns, low_word}
 use Rattle.limbs.proofs.word.widening_mul.Goals as goal
 
 pub returns : goal.returns
-returns c =
+returns c = c.joined.ensures ∙ (
     let a = c.args.a in
     let b = c.args.b in
     let p = a % 4294967296 * (b % 4294967296) in
@@ -14,4 +14,4 @@ returns c =
     ∙ columns (a % 4294967296) (a / 4294967296) (b % 4294967296) (b / 4294967296) (p % 4294967296) (p / 4294967296)
     (q % 4294967296) (q / 4294967296) (s % 4294967296) (s / 4294967296)
     (sym (div-add-mod' p 4294967296)) (sym (div-add-mod' q 4294967296)) (sym (div-add-mod' s 4294967296))
-    ∙ ap₂ (λ (x y : ℕ). x * y) (div-add-mod' a 4294967296) (div-add-mod' b 4294967296)
+    ∙ ap₂ (λ (x y : ℕ). x * y) (div-add-mod' a 4294967296) (div-add-mod' b 4294967296))

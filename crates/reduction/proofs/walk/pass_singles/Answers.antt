@@ -1,5 +1,5 @@
 -- One turn more: an item that is none changes nothing, and the part of a term is added.
-use Rattle.std.proofs.Common.{refl, sym, ◌∙◌}
+use Rattle.std.proofs.Common.{refl, sym, ◌∙◌, subst, mod-eq_of_lt}
 use borrow.Author.Tests.{not-true}
 use Rattle.limbs.specs.Value.{term}
 use Rattle.limbs.proofs.Words.{words}
@@ -34,8 +34,9 @@ loop-i-preserved-then-not-q g c =
     } in
     let q = c.settle_single-q in
     let p = c.window_part-p.result in
-    let s : Settles 10 q.result.w1 c.in-Some.t.negative (term p.low p.high p.up) q.result =
-    rw (c.window_part-p.ensures.one_word (c.in-Some.ensures.high_value c.requires)) q.ensures.0 in
+    let one = c.low.ensures ∙ mod-eq_of_lt (c.window_part-p.ensures.one_word (c.in-Some.ensures.one_word c.requires)) in
+    let s : Settles 10 q.result.w1 c.in-Some.t.negative (term p.significand p.up) q.result =
+    subst (λ m. Settles 10 q.result.w1 c.in-Some.t.negative (term m p.up) q.result) one q.ensures.0 in
     past turn (s.past (not-true _ c.if-not-q.true))
 
 pub loop-i-preserved-then-goes_on : goal.loop-i-preserved-then-goes_on
@@ -58,14 +59,16 @@ loop-i-preserved g c =
     } in
     let q = c.settle_single-q in
     let p = c.window_part-p.result in
-    let s : Settles 10 q.result.w1 c.in-Some.t.negative (term p.low p.high p.up) q.result =
-    rw (c.window_part-p.ensures.one_word (c.in-Some.ensures.high_value c.requires)) q.ensures.0 in
+    let one = c.low.ensures ∙ mod-eq_of_lt (c.window_part-p.ensures.one_word (c.in-Some.ensures.one_word c.requires)) in
+    let s : Settles 10 q.result.w1 c.in-Some.t.negative (term p.significand p.up) q.result =
+    subst (λ m. Settles 10 q.result.w1 c.in-Some.t.negative (term m p.up) q.result) one q.ensures.0 in
     let none = q.ensures.1 in
     let h = c.loop-i.invariant.words in
     let x = fits _ c.add_word-x.type_inv in
     let y = fits _ c.add_word-y.type_inv in
     let stays = sym c.goes_on.ensures ∙ c.if-goes_on.false in
-    turn_moved turn (two-stored h s none x y c.add_word-x.ensures c.add_word-y.ensures stays) (two-moved h s none x y c.add_word-x.ensures c.add_word-y.ensures stays)
+    turn_moved turn (two-stored h s none x y c.add_word-x.ensures c.add_word-y.ensures stays)
+    (two-moved h s none x y c.add_word-x.ensures c.add_word-y.ensures stays)
 
 pub returns : goal.returns
 returns g c = running-end c.loop-i.invariant (rw c.count-i-end.ensures at c.loop-i-test.false) c.finished.ensures
