@@ -1,12 +1,11 @@
 -- One turn of a pass: the window and the lost bit of the first i elements, with the part of one more.
 use mathlib.Core.Path.{◌≡◌, refl, sym, ap, ap₂, ◌∙◌, subst}
-use mathlib.Core.Bool.{Bool, true, false, not, cond}
+use mathlib.Core.Bool.{Bool, true, false, cond}
 use mathlib.Core.List.{List, [], ◌∷◌, ◌++◌, append-nil}
 use Prim.Native.Nat.{ℕ, ◌+◌, ◌-◌, ◌/◌, ◌%◌, ◌^◌, ◌<◌, ◌≤◌, max, zero-le}
 use native.Mathlib.Nat.{add-zero, zero-add, add_assoc, add_comm, mod-eq_of_lt, zero-div, max-zero}
 use native.Mathlib.Numerals.{add-one, add-one-le}
 use native.Mathlib.Omega.{arith}
-use borrow.Author.Tests.{not-true}
 use lib.ListN.{length, take, get_or}
 use lib.Seq.{take-suc, take-length}
 use lib.Pow.{pow_pos}
@@ -14,6 +13,7 @@ use denote.Shadow.{shadow}
 use denote.Struct.Declared.{row}
 use denote.Struct.Laws.{val}
 use Rattle.std.proofs.Math.Option.{none}
+use Rattle.std.specs.Prelude.{Option, Some, None}
 use Rattle.limbs.specs.declared.word.Sum.{Sum}
 use Rattle.limbs.specs.Value.{Words, value, moved, term}
 use Rattle.limbs.proofs.Words.{alike, value-lt}
@@ -26,11 +26,12 @@ use Rattle.totals_spec.specs.Chain.{residue, half, look_at, lost_end, lost_of, c
 use Rattle.totals_spec.proofs.Window.{residue-zero, residue-plus, residue-minus, residue-cancel}
 use Rattle.totals_spec.proofs.Walk.{total-append, greatest-append, picked-append}
 use Rattle.arithmetic.specs.declared.Term.{Term}
+use Rattle.window.specs.declared.Kept.{Kept}
 use Rattle.window.specs.declared.Part.{Part}
 use Rattle.window.specs.declared.Pass.{Pass}
 use Rattle.arithmetic.specs.Joined.{magnitude, StandsFor}
 use Rattle.arithmetic.proofs.Elements.{no-magnitude}
-use Rattle.window.specs.Joined.{PartAt, Passed}
+use Rattle.window.specs.Joined.{part_of, PartAt, Passed}
 use Rattle.window.proofs.Numbers.{window}
 use Rattle.window.proofs.Parted.{lost-of-zero}
 use Rattle.reduction.specs.Held.{middle, Held}
@@ -194,7 +195,7 @@ running-over {l} {w = w} {i = i} {total} {lost} so_far h e = record {
 module _ {l : List terms.Item} {n w i : ℕ} {total : List ℕ} {before : ℕ} {so_far : Running l n w i total before} {t : Term} {p : Part} {lost : ℕ}
     (k : Turn so_far t p lost) where
   abbrev part : ℕ
-  part = term p.significand p.up
+  part = part_of p.kept
 
   -- with the part moved into the window
   pub turn_moved : {r : List ℕ} → Words 12 r → value r ≡ moved t.negative (value total) part → Running l n w (i + 1) r lost
@@ -212,8 +213,16 @@ module _ {l : List terms.Item} {n w i : ℕ} {total : List ℕ} {before : ℕ} {
   pub past : part % 2 ^ 768 ≡ 0 → Running l n w (i + 1) total lost
   past e = turn_moved so_far.words (past-moved t.negative part so_far.words e)
 
-  pub turn-none : not p.some ≡ true → Running l n w (i + 1) total lost
-  turn-none e = past (ap (λ (n : ℕ). n % 2 ^ 768) (k.part.none (not-true _ e)))
+  pub turn-none : p.kept ≡ None → Running l n w (i + 1) total lost
+  turn-none e = past (ap (λ (k : Option Kept). part_of k % 2 ^ 768) e)
+
+  -- and where there is one
+  module _ {q : Kept} (e : p.kept ≡ Some q) where
+    pub kept_moved : {r : List ℕ} → Words 12 r → value r ≡ moved t.negative (value total) (term q.significand q.up) → Running l n w (i + 1) r lost
+    kept_moved f g = turn_moved f (g ∙ ap (λ (k : Option Kept). moved t.negative (value total) (part_of k)) (sym e))
+
+    pub kept_past : term q.significand q.up % 2 ^ 768 ≡ 0 → Running l n w (i + 1) total lost
+    kept_past z = past (ap (λ (k : Option Kept). part_of k % 2 ^ 768) e ∙ z)
 
 -- ---- what is no term
 

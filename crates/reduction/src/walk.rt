@@ -26,11 +26,11 @@ fn pass_singles<T: Terms>(list: &T, w: u64) -> Pass
         let Some(t) = list.term(i) else {
             continue;
         };
-        let p = window_part(t, w);
-        lost = lost.max(p.lost);
-        if !p.some {
+        let part = window_part(t, w);
+        lost = lost.max(part.lost);
+        let Some(p) = part.kept else {
             continue;
-        }
+        };
         let q = settle_single(low(p.significand), p.up, t.negative);
         if !q.inside {
             continue;
@@ -60,11 +60,11 @@ fn pass_doubles<T: Terms>(list: &T, w: u64) -> Pass
         let Some(t) = list.term(i) else {
             continue;
         };
-        let p = window_part(t, w);
-        lost = lost.max(p.lost);
-        if !p.some {
+        let part = window_part(t, w);
+        lost = lost.max(part.lost);
+        let Some(p) = part.kept else {
             continue;
-        }
+        };
         let q = settle(p.significand, p.up, t.negative);
         if !q.inside {
             continue;

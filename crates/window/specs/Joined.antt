@@ -1,5 +1,5 @@
 -- The code's passes and chains as those of totals_spec, and what the contracts of this crate cite.
-use Rattle.std.specs.Prelude.{◌≡◌, Bool, true, false, cond, List, ℕ, suc, ◌+◌, ◌-◌, ◌*◌, ◌/◌, ◌^◌, ◌≤◌, ◌<◌, ltb, eqb, Option, Some, None}
+use Rattle.std.specs.Prelude.{◌≡◌, Bool, true, false, cond, List, ℕ, suc, ◌+◌, ◌-◌, ◌*◌, ◌/◌, ◌^◌, ◌≤◌, ◌<◌, ltb, eqb, Option, Some, None, IfSome}
 use Rattle.std.specs.declared.ops.ControlFlow.{ControlFlow}
 use Rattle.std.specs.declared.ops.ControlFlow.TheVariants.{Continue, Break}
 use Rattle.std.specs.Bool.{beq}
@@ -13,6 +13,7 @@ use Rattle.exact.specs.declared.Unrounded.{Unrounded}
 use Rattle.exact.specs.Joined.{significand_of, Stands}
 use Rattle.arithmetic.specs.declared.Term.{Term}
 use Rattle.arithmetic.specs.Joined.{magnitude}
+use Rattle.window.specs.declared.Kept.{Kept}
 use Rattle.window.specs.declared.Part.{Part}
 use Rattle.window.specs.declared.Pass.{Pass}
 use Rattle.window.specs.declared.Units.{Units}
@@ -25,12 +26,16 @@ use Rattle.window.specs.declared.Nearness.TheVariants.{Low, High, Between}
 
 -- ---- a pass, and a chain
 
+-- the number that is added of a term
+abbrev pub part_of : Option Kept → ℕ
+part_of None = 0
+part_of (Some k) = term k.significand k.up
+
 -- the part of a term at or above the edge w, and the lost bit plus one
 pub record PartAt (w : ℕ) (t : Term) (r : Part) : Type 0 where
-  pub exact : term r.significand r.up ≡ magnitude t / 2 ^ w
+  pub exact : part_of r.kept ≡ magnitude t / 2 ^ w
   pub lost-is : r.lost ≡ chain.lost_end w (magnitude t)
-  pub none : r.some ≡ false → term r.significand r.up ≡ 0
-  pub one_word : t.significand < 2 ^ 64 → r.significand < 2 ^ 64
+  pub one_word : t.significand < 2 ^ 64 → IfSome r.kept (λ k. k.significand < 2 ^ 64)
 
 -- a pass at the edge w over the terms ts
 pub record Passed (ts : List terms.Term) (w : ℕ) (q : Pass) : Type 0 where

@@ -15,12 +15,17 @@ use limbs::pair;
 use limbs_window as window;
 use std::ops::ControlFlow;
 
-// The part of a term at or above an edge, to be added `up` bits above it, whether there is some, and the lost bit plus one.
+// A part of a term, to be added `up` bits above an edge.
 #[derive(Clone, Copy)]
-pub struct Part {
+pub struct Kept {
     pub significand: u128,
     pub up: usize,
-    pub some: bool,
+}
+
+// A term at an edge: its part at or above it, if it reaches there, and the lost bit plus one, 0 where no bit is lost.
+#[derive(Clone, Copy)]
+pub struct Part {
+    pub kept: Option<Kept>,
     pub lost: u64,
 }
 
@@ -29,32 +34,35 @@ pub fn window_part(t: Term, w: u64) -> Part
     ensures { PartAt w t result }
 {
     if t.shift >= w {
-        return Part {
+        let kept = Kept {
             significand: t.significand,
             up: (t.shift - w) as usize,
-            some: true,
+        };
+        return Part {
+            kept: Some(kept),
             lost: 0,
         };
     }
-    let n = pair::bit_length(t.significand) as u64;
-    if t.shift + n <= w {
+    let end = t.shift + u64::from(pair::bit_length(t.significand));
+    if end <= w {
         return Part {
-            significand: 0,
-            up: 0,
-            some: false,
-            lost: t.shift + n,
+            kept: None,
+            lost: end,
         };
     }
     let down = (w - t.shift) as usize;
-    Part {
+    let kept = Kept {
         significand: pair::shr(t.significand, down),
         up: 0,
-        some: true,
-        lost: if pair::any_below(t.significand, down) {
-            w
-        } else {
-            0
-        },
+    };
+    let lost = if pair::any_below(t.significand, down) {
+        w
+    } else {
+        0
+    };
+    Part {
+        kept: Some(kept),
+        lost,
     }
 }
 

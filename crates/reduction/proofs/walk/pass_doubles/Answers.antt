@@ -3,7 +3,7 @@ use Rattle.std.proofs.Common.{refl, sym, ◌∙◌}
 use borrow.Author.Tests.{not-true}
 use Rattle.limbs.proofs.Words.{words}
 use Rattle.limbs_term.proofs.Stored.{three-stored, three-moved}
-use Rattle.reduction.proofs.Gather.{Turn, fits, running-start, running-end, running-over, turn-none, turn_moved, past}
+use Rattle.reduction.proofs.Gather.{Turn, fits, running-start, running-end, running-over, turn-none, kept_moved, kept_past}
 use Rattle.reduction.proofs.walk.pass_doubles.Goals as goal
 
 pub loop-i-init : goal.loop-i-init
@@ -12,42 +12,42 @@ loop-i-init g c = running-start refl c.start-total.ensures
 pub loop-i-preserved-in_default : goal.loop-i-preserved-in_default
 loop-i-preserved-in_default g c = running-over c.loop-i.invariant (rw c.count-i-end.ensures at c.loop-i-test.true) c.in_default.ensures.gives
 
-pub loop-i-preserved-then-not-p : goal.loop-i-preserved-then-not-p
-loop-i-preserved-then-not-p g c =
-    let turn : Turn c.loop-i.invariant c.in-Some.t c.window_part-p.result c.max-lost.result = record {
+pub loop-i-preserved-in_default-kept : goal.loop-i-preserved-in_default-kept
+loop-i-preserved-in_default-kept g c =
+    let turn : Turn c.loop-i.invariant c.in-Some.t c.window_part-part.result c.max-lost.result = record {
       inside = rw c.count-i-end.ensures at c.loop-i-test.true;
       stands = c.in-Some.ensures.gives;
-      part = c.window_part-p.ensures;
+      part = c.window_part-part.ensures;
       larger = c.max-lost.ensures;
     } in
-    turn-none turn c.if-not-p.true
+    turn-none turn c.in_default-kept.is
 
 pub loop-i-preserved-then-not-q : goal.loop-i-preserved-then-not-q
 loop-i-preserved-then-not-q g c =
-    let turn : Turn c.loop-i.invariant c.in-Some.t c.window_part-p.result c.max-lost.result = record {
+    let turn : Turn c.loop-i.invariant c.in-Some.t c.window_part-part.result c.max-lost.result = record {
       inside = rw c.count-i-end.ensures at c.loop-i-test.true;
       stands = c.in-Some.ensures.gives;
-      part = c.window_part-p.ensures;
+      part = c.window_part-part.ensures;
       larger = c.max-lost.ensures;
     } in
-    past turn (c.settle-q.ensures.past (not-true _ c.if-not-q.true))
+    kept_past turn c.in-Some-kept.is (c.settle-q.ensures.past (not-true _ c.if-not-q.true))
 
 pub loop-i-preserved-then-goes_on : goal.loop-i-preserved-then-goes_on
 loop-i-preserved-then-goes_on g c =
-    let turn : Turn c.loop-i.invariant c.in-Some.t c.window_part-p.result c.max-lost.result = record {
+    let turn : Turn c.loop-i.invariant c.in-Some.t c.window_part-part.result c.max-lost.result = record {
       inside = rw c.count-i-end.ensures at c.loop-i-test.true;
       stands = c.in-Some.ensures.gives;
-      part = c.window_part-p.ensures;
+      part = c.window_part-part.ensures;
       larger = c.max-lost.ensures;
     } in
-    turn_moved turn (words 12 _ _ c.move_term-next.type_inv) c.move_term-next.ensures
+    kept_moved turn c.in-Some-kept.is (words 12 _ _ c.move_term-next.type_inv) c.move_term-next.ensures
 
 pub loop-i-preserved : goal.loop-i-preserved
 loop-i-preserved g c =
-    let turn : Turn c.loop-i.invariant c.in-Some.t c.window_part-p.result c.max-lost.result = record {
+    let turn : Turn c.loop-i.invariant c.in-Some.t c.window_part-part.result c.max-lost.result = record {
       inside = rw c.count-i-end.ensures at c.loop-i-test.true;
       stands = c.in-Some.ensures.gives;
-      part = c.window_part-p.ensures;
+      part = c.window_part-part.ensures;
       larger = c.max-lost.ensures;
     } in
     let h = c.loop-i.invariant.words in
@@ -55,7 +55,7 @@ loop-i-preserved g c =
     let y = fits _ c.add_word-y.type_inv in
     let z = fits _ c.add_word-z.type_inv in
     let stays = sym c.goes_on.ensures ∙ c.if-goes_on.false in
-    turn_moved turn (three-stored h c.settle-q.ensures x y z c.add_word-x.ensures c.add_word-y.ensures c.add_word-z.ensures stays)
+    kept_moved turn c.in-Some-kept.is (three-stored h c.settle-q.ensures x y z c.add_word-x.ensures c.add_word-y.ensures c.add_word-z.ensures stays)
     (three-moved h c.settle-q.ensures x y z c.add_word-x.ensures c.add_word-y.ensures c.add_word-z.ensures stays)
 
 pub returns : goal.returns
