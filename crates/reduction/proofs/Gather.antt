@@ -44,7 +44,8 @@ half_pos = pow_pos 767
 
 pub moved-is : (neg : Bool) (a b x : ℕ) → moved neg (residue half a b) x ≡ residue half (a + cond neg 0 x) (b + cond neg x 0)
 moved-is false a b x =
-    ap (λ (n : ℕ). (residue half a b + x) % n) (sym window) ∙ sym (residue-plus half half_pos a b x) ∙ ap (λ (n : ℕ). residue half (a + x) n) (sym (add-zero b))
+    ap (λ (n : ℕ). (residue half a b + x) % n) (sym window) ∙ sym (residue-plus half half_pos a b x)
+    ∙ ap (λ (n : ℕ). residue half (a + x) n) (sym (add-zero b))
 moved-is true a b x =
     ap (λ (n : ℕ). (residue half a b + (n - x % n)) % n) (sym window) ∙ sym (residue-minus half half_pos a b x)
     ∙ ap (λ (n : ℕ). residue half n (b + x)) (sym (add-zero a))
@@ -121,7 +122,8 @@ held_none w = record { window = sym (plain ∙ mod-eq_of_lt (subst (λ (n : ℕ)
     plain : residue half (value middle + 0) 0 ≡ value middle % (half + half)
     plain =
         ap (λ (n : ℕ). residue half n 0) (add-zero (value middle) ∙ sym (zero-add (value middle))) ∙ residue-plus half half_pos 0 0 (value middle)
-        ∙ ap (λ (n : ℕ). (n + value middle) % (half + half)) (residue-zero half half_pos) ∙ ap (λ (n : ℕ). n % (half + half)) (zero-add (value middle))
+        ∙ ap (λ (n : ℕ). (n + value middle) % (half + half)) (residue-zero half half_pos)
+        ∙ ap (λ (n : ℕ). n % (half + half)) (zero-add (value middle))
 
 -- without the start, the sum is left
 passed : (ts : List terms.Term) (w v lost : ℕ) (q : Pass) → Held ts w v lost → (value q.total ≡ moved true v (value middle)) × (q.lost ≡ lost)

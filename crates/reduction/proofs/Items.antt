@@ -50,11 +50,17 @@ module _ (l : Layout) (c : Settings) where
       let f = layout_of l in
       record { good = good-terms f c u xs; few = rw (length-map xs (item f c u)) n; top = sum_top f c u xs; gives = list-gives f c u xs }
 
-  pub dot-summable : (xs ys : List ℕ) → length ys ≡ length xs → length xs ≤ limit → Summable (layout_of l) (map (pair_in (of_layout l) c) (pairs xs ys))
+  pub dot-summable : (xs ys : List ℕ) → length ys ≡ length xs → length xs ≤ limit
+      → Summable (layout_of l) (map (pair_in (of_layout l) c) (pairs xs ys))
   unfolding pair_item
   dot-summable xs ys e n =
       let f = layout_of l in
-      record { good = good-pairs f c (pairs xs ys); few = rw (pairs-many (pair_item f c) xs ys e) n; top = dot-top f c xs ys; gives = pairs-give f c (pairs xs ys) }
+      record {
+        good = good-pairs f c (pairs xs ys);
+        few = rw (pairs-many (pair_item f c) xs ys e) n;
+        top = dot-top f c xs ys;
+        gives = pairs-give f c (pairs xs ys);
+      }
 
 -- and of kind 4
 module _ (c : Settings) where

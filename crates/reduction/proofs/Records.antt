@@ -1,16 +1,11 @@
--- Laws of the record: a signed position, its parts one by one, and a sum rounded once.
-use mathlib.Core.Path.{◌≡◌, refl, sym, ap, ap₂, ◌∙◌, subst}
-use mathlib.Core.Bool.{Bool, true, false, not, cond}
-use Prim.Native.Nat.{ℕ, zero, suc, ◌+◌, ◌-◌, ◌^◌, ◌≤◌, ◌<◌}
-use native.Mathlib.Nat.{add-zero}
-use native.Mathlib.Omega.{arith}
-use lib.Dec.{T, ltb, ltb→lt, nltb→le}
-use lib.IntN.{ℤ, pos, negsuc, sub_ℕ, ◌-ℤ◌}
-use lib.Signed.{mag}
+-- Laws of the record: its side, its last edge, and a sum rounded once.
+use mathlib.Core.Path.{◌≡◌, sym, ap, ap₂, ◌∙◌}
+use mathlib.Core.Bool.{Bool, false}
+use Prim.Native.Nat.{ℕ, ◌+◌}
+use lib.IntN.{ℤ, sub_ℕ}
 use mir.Syntax.{w64}
 use mir.Val.{SFits, to_z, of_z}
 use mir.ValLaws.{to_z-of_z}
-use borrow.Author.Tests.{lt-ltb, le-ltb}
 use Rattle.totals_spec.specs.Basics.{Signed, raised}
 use Rattle.totals_spec.specs.Bounds.{RangeBounds, SettingsBounds}
 use Rattle.totals_spec.specs.Format.{Format, kind_of, origin, fall}
@@ -48,32 +43,13 @@ leans f c g x r b k h =
     ap (λ (s : round.Rounded). rounded_side s.value s.flags) h.equal
     ∙ sym (sum-leans f c g (towards_negative c) x b (precision-least f c b) (precision-most f c k))
 
--- ---- signed positions
+-- ---- the last edge of a chain, as a record has it
 
-minus_is : (a b : ℕ) → pos a -ℤ pos b ≡ sub_ℕ a b
-minus_is a zero = ap pos (add-zero a) ∙ sym (ap (λ (t : Bool). cond t (negsuc (0 - suc a)) (pos (a - 0))) (le-ltb a 0 (omega arith)) ∙ ap pos (back a))
-  where
-    back : (a : ℕ) → a - 0 ≡ a
-    back a = omega arith
-minus_is a (suc b) = refl
-
-pub positions : (a b : ℕ) → a < 2 ^ 63 → b < 2 ^ 63 → to_z w64 a -ℤ to_z w64 b ≡ sub_ℕ a b
-positions a b h k = rw (lt-ltb a (2 ^ 63) (omega arith), lt-ltb b (2 ^ 63) (omega arith)) (minus_is a b)
-
-pub position-fits : (a b : ℕ) → a < 2 ^ 63 → b < 2 ^ 63 → mag (sub_ℕ a b) < 2 ^ 63
-position-fits a b h k = go (ltb a b) (nltb→le a b) (ltb→lt a b)
-  where
-    go : (t : Bool) → (T (not t) → b ≤ a) → (T t → a < b) → mag (cond t (negsuc (b - suc a)) (pos (a - b))) < 2 ^ 63
-    go true f g = let e : b - suc a < 9223372036854775808 = omega (arith, k) in e
-    go false f g = let e : a - b < 9223372036854775808 = omega (arith, h) in e
-
--- the last edge of a chain, as a record has it
-pub edge-is : (f : Format) (products : Bool) (e : ℕ) {fallen one : ℕ} (z : ℤ) → fallen ≡ fall f products → one ≡ origin f products → e + fallen < 2 ^ 63
-    → one < 2 ^ 63 → z ≡ sub_ℕ (e + fallen) one → to_z w64 (of_z w64 z) ≡ last_edge_of f products e
-edge-is f products e {fallen} {one} z p q low far is =
-    let fits : SFits w64 z = record { sfits = subst (λ (y : ℤ). mag y < 2 ^ 63) (sym is) (position-fits (e + fallen) one low far) } in
-    to_z-of_z w64 z fits ∙ is ∙ ap₂ (λ (m n : ℕ). sub_ℕ (e + m) n) p q
+pub edge-is : (f : Format) (products : Bool) (e : ℕ) {fallen one : ℕ} (z : ℤ) → SFits w64 z → fallen ≡ fall f products → one ≡ origin f products
+    → z ≡ sub_ℕ (e + fallen) one → to_z w64 (of_z w64 z) ≡ last_edge_of f products e
+edge-is f products e z fits p q is = to_z-of_z w64 z fits ∙ is ∙ ap₂ (λ (m n : ℕ). sub_ℕ (e + m) n) p q
 
 -- a rounding by what the functions of the formats say of its grid and unit
-pub moved : {f : Format} {c : Settings} (x : Signed) {r : Rounded} {g h m n : ℕ} → g ≡ h → m ≡ n → RoundedSum f c g (raised m x) r → RoundedSum f c h (raised n x) r
+pub moved : {f : Format} {c : Settings} (x : Signed) {r : Rounded} {g h m n : ℕ} → g ≡ h → m ≡ n → RoundedSum f c g (raised m x) r
+    → RoundedSum f c h (raised n x) r
 moved x e k o = rw (e, k) at o

@@ -90,22 +90,13 @@ fn leaning(negative: bool, flags: u64) -> u64
 }
 
 // The side of a rounded sum.
+#[tactic(auto, unfolding(totals_spec::specs::Side::rounded_side))]
 fn side_of(v: Unpacked, flags: u64) -> u64
     ensures { result ≡ side.rounded_side (unpacked_of v) flags }
 {
     match v {
-        Unpacked::Zero(negative) => leaning(negative, flags),
-        Unpacked::Finite {
-            negative,
-            shift: _,
-            significand: _,
-        } => leaning(negative, flags),
-        Unpacked::Infinity(_) => NO_COMPARISON,
-        Unpacked::Nan {
-            negative: _,
-            signaling: _,
-            payload: _,
-        } => NO_COMPARISON,
+        Unpacked::Zero(negative) | Unpacked::Finite { negative, .. } => leaning(negative, flags),
+        Unpacked::Infinity(_) | Unpacked::Nan { .. } => NO_COMPARISON,
     }
 }
 

@@ -1,5 +1,8 @@
 -- The record of a chain of passes is that of its rounded sum.
-use Rattle.std.proofs.Common.{◌+◌, ◌^◌, ◌<◌, ap, ◌∙◌, arith}
+use Rattle.std.proofs.Common.{◌+◌, ap, ◌∙◌, arith}
+use borrow.Author.Rules.{rules}
+use mir.Syntax.{w64}
+use mir.Val.{SFits}
 use Rattle.totals_spec.specs.Basics.{flag}
 use Rattle.totals_spec.specs.Encode.{encode}
 use Rattle.totals_spec.specs.Format.{digits, grid}
@@ -34,11 +37,11 @@ returns c =
     let x = on_grid f c.args.products (settled (outcome_of c.args.e)) in
     let q = c.recorded-answer.ensures in
     let r : RoundedSum f env (grid f c.args.products) x c.round_sum-r.result =
-    moved _ c.grid.ensures.value c.rise.ensures.value (c.round_sum-r.ensures (digits f) (settled (outcome_of c.args.e)) (rw c.digits.ensures at c.left-v.ensures)) in
-    let low : c.args.e.edge + c.fall.result < 2 ^ 63 = omega (arith, c.requires.2.edge, c.fall.ensures.bound) in
-    let far : c.origin.result < 2 ^ 63 = omega (arith, c.origin.ensures.bound) in
+    moved _ c.grid.ensures.value c.rise.ensures.value
+    (c.round_sum-r.ensures (digits f) (settled (outcome_of c.args.e)) (rw c.digits.ensures at c.left-v.ensures)) in
     let p = c.position_of-last_edge in
-    let edge = edge-is f c.args.products c.args.e.edge p.result c.fall.ensures.value c.origin.ensures.value low far p.ensures in
+    let fits : SFits w64 p.result = search rules in
+    let edge = edge-is f c.args.products c.args.e.edge p.result fits c.fall.ensures.value c.origin.ensures.value p.ensures in
     λ i. record {
       result =
           (ap (λ (a : Answer). words_as (wide f) c.encoded-b.result.head a.result) q ∙ c.encoded-b.ensures

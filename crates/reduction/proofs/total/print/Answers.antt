@@ -1,5 +1,8 @@
 -- The record is that of the sum rounded into the target, field by field.
-use Rattle.std.proofs.Common.{◌+◌, ◌^◌, ◌<◌, false, ap, ap₂, ◌∙◌, arith}
+use Rattle.std.proofs.Common.{◌+◌, false, ap, ap₂, ◌∙◌, arith}
+use borrow.Author.Rules.{rules}
+use mir.Syntax.{w64}
+use mir.Val.{SFits}
 use Rattle.totals_spec.specs.Basics.{flag}
 use Rattle.totals_spec.specs.Encode.{encode}
 use Rattle.totals_spec.specs.Format.{digits}
@@ -39,10 +42,9 @@ returns c =
     let up = ap₂ ◌+◌ c.depth.ensures.value c.fall.ensures.value in
     let r : RoundedSum t (env_of a.c) (target_grid f t) x c.round_sum-r.result =
     moved _ lifted up (c.round_sum-r.ensures (digits f) (settled (outcome_of a.e)) (rw c.digits.ensures at c.left-v.ensures)) in
-    let low : a.e.edge + c.fall-2.result < 2 ^ 63 = omega (arith, c.requires.ended.edge, c.fall-2.ensures.bound) in
-    let far : c.origin-2.result < 2 ^ 63 = omega (arith, c.origin-2.ensures.bound) in
     let p = c.position_of-last_edge in
-    let edge = edge-is f false a.e.edge p.result c.fall-2.ensures.value c.origin-2.ensures.value low far p.ensures in
+    let fits : SFits w64 p.result = search rules in
+    let edge = edge-is f false a.e.edge p.result fits c.fall-2.ensures.value c.origin-2.ensures.value p.ensures in
     λ i. record {
       result = (ap (λ (b : Answer). b.result) q ∙ c.encode.ensures ∙ ap (λ (y : Rounded). encode t y.value) r.equal) i;
       flags = (ap (λ (b : Answer). b.flags) q ∙ ap (λ (y : Rounded). flag 128 a.subnormal + y.flags) r.equal) i;
