@@ -1,30 +1,19 @@
--- Numbers of pages: a test on a difference, and the lowest set bit of a value.
+-- The lowest set bit of a value.
 use mathlib.Core.Path.{◌≡◌, refl, sym, ap, ◌∙◌}
 use mathlib.Core.Logic.{◌≢◌}
-use mathlib.Core.Bool.{Bool, true, false}
 use mathlib.Core.List.{[], ◌∷◌}
-use Prim.Native.Nat.{ℕ, ◌+◌, ◌*◌, ◌^◌, ◌≤◌, ◌<◌, min}
+use Prim.Native.Nat.{ℕ, ◌+◌, ◌*◌, ◌^◌, ◌<◌, min}
 use native.Mathlib.Nat.{mul-one, zero-mul}
 use native.Mathlib.Omega.{arith}
 use lib.Count.{count_trailing_zeros}
-use lib.Dec.{ltb}
 use lib.Ieee.{size}
 use lib.Ieee.Digits.{size-lt}
-use borrow.Author.Tests.{lt-ltb, le-ltb, ltb-true, ltb-false}
 use Rattle.totals_spec.specs.Basics.{least}
 use Rattle.totals_spec.specs.Limit.{low_bit, low_of}
 use Rattle.totals_spec.specs.Terms.{Item, nan_item, invalid_item, infinite, zero_item, term, terms}
 use Rattle.totals_spec.proofs.Bits.{zeros-same, low-raised}
 use Rattle.arithmetic.specs.declared.Term as code
 use Rattle.arithmetic.specs.Joined.{magnitude, StandsFor}
-
--- two tests that find the same
-pub same_test : (a b c d : ℕ) → (a < b → c < d) → (b ≤ a → d ≤ c) → ltb a b ≡ ltb c d
-same_test a b c d f g = go (ltb a b) refl
-  where
-    go : (t : Bool) → ltb a b ≡ t → t ≡ ltb c d
-    go true e = sym (lt-ltb c d (f (ltb-true a b e)))
-    go false e = sym (le-ltb c d (g (ltb-false a b e)))
 
 -- the lowest set bit of the term of an item, as a program has the term
 module _ (t : code.Term) (low : ℕ) where

@@ -192,13 +192,14 @@ fn all_stand(page: &[u8], n: usize, groups: usize) -> bool
 }
 
 // The groups of n values.
+#[tactic(auto, unfolding(totals_spec::specs::Limit::ceil_div))]
 fn groups_of(n: usize) -> usize
-    requires { n < 18446744073709551552 }
     ensures { result ≡ spec.groups n }
 {
-    (n + 63) / GROUP
+    n.div_ceil(GROUP)
 }
 
+#[tactic(auto, unfolding(totals_spec::specs::Pages::trailer_length))]
 fn trailer_length(n: usize) -> usize
     ensures { result ≡ spec.trailer_length n }
 {
@@ -256,6 +257,7 @@ pub fn open(page: &[u8]) -> Option<usize>
 }
 
 // Whether a page of n values has no room.
+#[tactic(auto, unfolding(totals_spec::specs::Limit::ceil_div, totals_spec::specs::Pages::page_length, totals_spec::specs::Pages::trailer_length))]
 fn no_room(n: usize, room: usize) -> bool
     ensures { result ≡ ltb room (spec.page_length n) }
 {
@@ -288,6 +290,7 @@ fn write_summaries(n: usize, groups: usize, page: &mut [u8])
     }
 }
 
+#[tactic(auto, unfolding(totals_spec::specs::Pages::trailer_length))]
 fn write_trailer(n: usize, page: &mut [u8], at: usize)
     requires { (n ≤ 268435456) × (at + spec.trailer_length n ≤ length page.old) }
     ensures { page.new ≡ laid_over page.old at (spec.trailer n) }
