@@ -38,7 +38,8 @@ least-from m f s t = least-append m f s t ∙ go t
 
 -- the lowest bit of the first i values, and one more
 pub bottom-next : (top : ℕ) (l : List ℕ) (i : ℕ) → i < length l
-    → least top low_of (terms (page_items (take (suc i) l))) ≡ least (least top low_of (terms (page_items (take i l)))) low_of (terms (page_items (get_or l i 0 ∷ [])))
+    → least top low_of (terms (page_items (take (suc i) l)))
+    ≡ least (least top low_of (terms (page_items (take i l)))) low_of (terms (page_items (get_or l i 0 ∷ [])))
 bottom-next top l i h =
     ap (λ (s : List ℕ). least top low_of (terms (page_items s))) (take-suc l i 0 h)
     ∙ ap (λ s. least top low_of (terms s)) (map-append (item binary64 no_settings value) (take i l) (get_or l i 0 ∷ []))

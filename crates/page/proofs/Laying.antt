@@ -1,17 +1,18 @@
 -- A summary laid behind the values, a trailer behind the summaries, and the whole page at the end.
-use mathlib.Core.Path.{◌≡◌, refl, sym, ap, ap₂, ◌∙◌, subst}
-use mathlib.Core.Bool.{true, false}
+use mathlib.Core.Path.{◌≡◌, sym, ap, ap₂, ◌∙◌, subst}
+use mathlib.Core.Bool.{false}
 use mathlib.Core.List.{List, [], ◌∷◌, ◌++◌, append_assoc}
 use Prim.Native.Nat.{ℕ, suc, ◌+◌, ◌*◌, ◌≤◌, ◌<◌}
 use native.Mathlib.Omega.{arith}
 use lib.Dec.{ltb}
 use lib.ListN.{length, take, drop, get_or, length-append, length-drop, take-append-drop}
-use borrow.Author.Tests.{lt-ltb, le-ltb, le-leb, lt-leb}
+use borrow.Author.Tests.{le-ltb, le-leb, lt-leb}
 use lib.Seq.{length-take-le, take_at, take-add, take-take, take-append-le, drop-append-add, drop-append_seam, drop-drop}
 use Rattle.totals_spec.specs.Bytes.{to_bytes, values_from}
 use Rattle.totals_spec.specs.Conditions.{AllWords}
 use Rattle.totals_spec.specs.Limit.{ceil_div}
-use Rattle.totals_spec.specs.Pages.{group_size, short_most, groups, page_length, page_of, summaries, summary, trailer, trailer_length, page_written, write_refusal}
+use Rattle.totals_spec.specs.Pages.{group_size, short_most, groups, page_length, page_of, summaries, summary, trailer, trailer_length}
+use Rattle.totals_spec.specs.Pages.{page_written, write_refusal}
 use Rattle.totals_spec.specs.Table.{filled}
 use Rattle.totals_spec.proofs.PageParts.{AllBytes, from_front, value-bytes-back, page-trailer, short-words, long-words}
 use Rattle.totals_spec.proofs.Pages.{trailer-length, page-size, page-summary, values-back}
@@ -95,35 +96,15 @@ module _ (n g : ℕ) (old now : List ℕ) (f : AllBytes old) (less : 64 * g < n)
 
 -- ---- the writer
 
--- what a page has room for, of g groups
-module _ (n g : ℕ) (e : g ≡ groups n) where
-  pub room-for : (k : ℕ) → page_length n ≤ k → 8 * n + 12 * g + trailer_length n ≤ k
-  unfolding page_length
-  room-for k h = omega (arith, e, h)
-
-  pub groups-few : n ≤ 268435456 → g ≤ 4194304
-  unfolding ceil_div
-  groups-few h = omega (arith, e, h)
-
 pub all_words : (l : List ℕ) → ((k : ℕ) → get_or l k 0 < 18446744073709551616) → AllWords l
 all_words [] f = tt
 all_words (x ∷ l) f = (f 0, all_words l (λ k. f (suc k)))
 
--- its refusals
-module _ (l old : List ℕ) where
-  pub no-room-written : ltb (length old) (page_length (length l)) ≡ true → (2 ≡ (page_written l old).code) × (old ≡ (page_written l old).buffer)
-  unfolding page_written write_refusal
-  no-room-written e = rw e (refl, refl)
-
-  pub too-many-written : ltb (length old) (page_length (length l)) ≡ false → 268435456 < length l
-      → (6 ≡ (page_written l old).code) × (old ≡ (page_written l old).buffer)
-  unfolding page_written write_refusal
-  too-many-written e h = rw (e, lt-ltb 268435456 (length l) h) (refl, refl)
-
-  pub page-written : ltb (length old) (page_length (length l)) ≡ false → length l ≤ 268435456 → (k : ℕ) (new : List ℕ) → k ≡ 256 * page_length (length l)
-      → new ≡ filled (page_of l) old → (k ≡ (page_written l old).code) × (new ≡ (page_written l old).buffer)
-  unfolding page_written write_refusal
-  page-written e h k new a b = rw (e, le-ltb 268435456 (length l) h) (a, b)
+-- where nothing refuses
+pub page-written : (l old : List ℕ) → ltb (length old) (page_length (length l)) ≡ false → length l ≤ 268435456
+    → (page_written l old).buffer ≡ filled (page_of l) old
+unfolding page_written write_refusal
+page-written l old e h = rw (e, le-ltb 268435456 (length l) h)
 
 -- ---- a trailer, word by word
 
@@ -174,12 +155,12 @@ module _ (l : List ℕ) (at n : ℕ) where
       ∙ over-next l (s ++ to_bytes 8 n) (to_bytes 8 long_ending) at (omega (arith, h)) ∙ ap (laid_over l at) (sym (long-words n)))
 
 -- values, summaries and trailer, laid one after another
-module _ (l old : List ℕ) (w : AllWords l) (g : ℕ) (e : g ≡ groups (length l)) where
+module _ (l old : List ℕ) (w : AllWords l) where
   abbrev n : ℕ
   n = length l
 
   abbrev end : ℕ
-  end = 8 * n + 12 * g
+  end = 8 * n + 12 * groups n
 
   back : (one : List ℕ) → Fills (page_of l) (8 * n) old one → values_from n one ≡ l
   unfolding page_of
@@ -190,15 +171,12 @@ module _ (l old : List ℕ) (w : AllWords l) (g : ℕ) (e : g ≡ groups (length
   pub whole-laid : (one two three : List ℕ) → Fills (page_of l) (8 * n) old one → Fills (page_of (values_from n one)) end one two
       → three ≡ laid_over two end (trailer n) → three ≡ filled (page_of l) old
   whole-laid one two three f h a =
-      a ∙ ap₂ (λ (x y : List ℕ). x ++ y) both.front (ap₂ ◌++◌ (sym trailing) (ap (λ (k : ℕ). drop k two) size ∙ both.beyond ∙ f.beyond))
+      a ∙ ap₂ (λ (x y : List ℕ). x ++ y) both.front (ap₂ ◌++◌ (sym (page-trailer l)) (ap (λ (k : ℕ). drop k two) size ∙ both.beyond ∙ f.beyond))
       ∙ sym (append_assoc (take end (page_of l)) (drop end (page_of l)) (drop (length (page_of l)) old))
       ∙ ap (λ (s : List ℕ). s ++ drop (length (page_of l)) old) (take-append-drop end (page_of l))
     where
       both : Fills (page_of l) end one two
       both = subst (λ (v : List ℕ). Fills (page_of v) end one two) (back one f) h
 
-      trailing : drop end (page_of l) ≡ trailer n
-      trailing = ap (λ (k : ℕ). drop (8 * n + 12 * k) (page_of l)) e ∙ page-trailer l
-
       size : end + length (trailer n) ≡ length (page_of l)
-      size = unfold page_length in omega (arith, page-size l, trailer-length n, e)
+      size = unfold page_length in omega (arith, page-size l, trailer-length n)

@@ -26,19 +26,8 @@ not-open page f = go (opens page) refl
     go true e = absurd (f e)
     go false e = refl
 
-pub short-length : (n : ℕ) → n ≤ short_most → trailer_length n ≡ 16
-unfolding trailer_length
-short-length n h = rw (le-leb n short_most h)
-
-pub long-length : (n : ℕ) → short_most < n → trailer_length n ≡ 24
-unfolding trailer_length
-long-length n h = rw (lt-leb n short_most h)
-
 pub trailer-least : (n : ℕ) → 16 ≤ trailer_length n
 trailer-least n = by-range (λ t k. 16 ≤ k) n (λ _. omega arith) (λ _. omega arith)
-
-pub trailer-most : (n : ℕ) → trailer_length n ≤ 24
-trailer-most n = by-range (λ t k. k ≤ 24) n (λ _. omega arith) (λ _. omega arith)
 
 counts-by : (P Q : ℕ → Type 0) → ((n : ℕ) → P n → Q n) → ((n : ℕ) → Q n → P n) → (r : Option ℕ) → Counts P r → Counts Q r
 counts-by P Q f g (Some n) p = f n p
@@ -124,8 +113,8 @@ module _ (page : List ℕ) where
 
         is : chunk ≡ take 8 (last_bytes (k + 8) page)
         is =
-            c.1 ∙ ap₂ (λ (i : ℕ) (l : List ℕ). drop i l) place w ∙ ap (λ (i : ℕ). drop n (take i page)) (let e : length page - k ≡ n + 8 = omega (arith, all, c.2) in e)
-            ∙ drop-take n 8 page
+            let e : length page - k ≡ n + 8 = omega (arith, all, c.2) in
+            c.1 ∙ ap₂ (λ (i : ℕ) (l : List ℕ). drop i l) place w ∙ ap (λ (i : ℕ). drop n (take i page)) e ∙ drop-take n 8 page
 
   -- and back
   module _ (f : AllBytes page) where

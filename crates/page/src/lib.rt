@@ -8,7 +8,7 @@ ghost use Rattle.totals_spec.specs.Limit.{low_of};
 ghost use Rattle.totals_spec.specs.Terms.{terms};
 ghost use Rattle.totals_spec.specs.Format as formats;
 ghost use Rattle.totals_spec.specs.Pages as spec;
-ghost use Rattle.totals_spec.proofs.PageParts.{Stands};
+ghost use Rattle.totals_spec.proofs.PageParts.{AllBytes, Stands};
 ghost use Rattle.format.specs.Joined.{format_of};
 ghost use Rattle.format.specs.Layouts.{layout_of};
 ghost use Rattle.page.specs.Paged.{seen_of, both, AllStand, Summarized, Counts, ShortSizes, LongSizes, Trails, Opens, Fills, laid_over, code_of};
@@ -164,33 +164,6 @@ impl Summary {
     }
 }
 
-// The summary of the group g of a page of n values.
-fn group_summary(page: &[u8], n: usize, g: usize) -> Summary
-    requires { (64 * g < n) × (8 * n ≤ length page.now) }
-    ensures { Summarized (take spec.group_size (drop (spec.group_size * g) (values_from n page.now))) result }
-{
-    let first = GROUP * g;
-    let end = (first + GROUP).min(n);
-    Summary::of(&page[8 * first..8 * end])
-}
-
-// Whether the summary of a group stands where it should. The trailer lies behind, so that two words can be read.
-fn stands(page: &[u8], n: usize, g: usize) -> bool
-    requires { (64 * g < n) × (n ≤ 268435456) × (8 * n + 12 * g + 16 ≤ length page.now) }
-    ensures { IsTrue result ↔ Stands n page.now g }
-{
-    let s = group_summary(page, n, g);
-    let at = 8 * n + 12 * g;
-    word_at(&page[at..], 0) == s.extent && word_at(&page[at + 8..], 0) % HALF == s.class
-}
-
-fn all_stand(page: &[u8], n: usize, groups: usize) -> bool
-    requires { (n ≤ 268435456) × (64 * groups < n + 64) × (8 * n + 12 * groups + 16 ≤ length page.now) }
-    ensures { IsTrue result ↔ AllStand n page.now groups }
-{
-    (0..groups).all(|g| stands(page, n, g))
-}
-
 // The groups of n values.
 #[tactic(auto, unfolding(totals_spec::specs::Limit::ceil_div))]
 fn groups_of(n: usize) -> usize
@@ -204,6 +177,57 @@ fn trailer_length(n: usize) -> usize
     ensures { result ≡ spec.trailer_length n }
 {
     if n > SHORT_MOST { LONG } else { SHORT }
+}
+
+// The length of the page of n values.
+#[tactic(auto, unfolding(totals_spec::specs::Limit::ceil_div, totals_spec::specs::Pages::page_length, totals_spec::specs::Pages::trailer_length))]
+fn page_length(n: usize) -> usize
+    requires { n ≤ 268435456 }
+    ensures { (result ≡ spec.page_length n) × (result < 2 ^ 32) }
+{
+    8 * n + 12 * groups_of(n) + trailer_length(n)
+}
+
+// Bytes with room for the page of as many values as stand in front.
+#[derive(Clone, Copy)]
+struct Page<'a> {
+    bytes: &'a [u8],
+    count: usize,
+    ghost few: { count ≤ 268435456 },
+    ghost room: { spec.page_length count ≤ length bytes.now },
+    ghost fit: { AllBytes bytes.now },
+}
+
+impl Page<'_> {
+    // The summary of the group g.
+    #[tactic(auto, unfolding(totals_spec::specs::Pages::page_length))]
+    fn group(&self, g: usize) -> Summary
+        requires { 64 * g < self.now.count }
+        ensures { Summarized (take spec.group_size (drop (spec.group_size * g) (values_from self.now.count self.now.bytes.now))) result }
+    {
+        let first = GROUP * g;
+        let end = (first + GROUP).min(self.count);
+        Summary::of(&self.bytes[8 * first..8 * end])
+    }
+
+    // Whether the summary of a group stands where it should. The trailer lies behind, so that two words can be read.
+    #[tactic(auto, unfolding(totals_spec::specs::Limit::ceil_div, totals_spec::specs::Pages::page_length, totals_spec::specs::Pages::trailer_length))]
+    fn stands(&self, g: usize) -> bool
+        requires { 64 * g < self.now.count }
+        ensures { IsTrue result ↔ Stands self.now.count self.now.bytes.now g }
+    {
+        let s = self.group(g);
+        let at = 8 * self.count + 12 * g;
+        word_at(&self.bytes[at..], 0) == s.extent
+            && word_at(&self.bytes[at + 8..], 0) % HALF == s.class
+    }
+
+    #[tactic(auto, unfolding(totals_spec::specs::Limit::ceil_div))]
+    fn all_stand(&self) -> bool
+        ensures { IsTrue result ↔ AllStand self.now.count self.now.bytes.now (spec.groups self.now.count) }
+    {
+        (0..groups_of(self.count)).all(|g| self.stands(g))
+    }
 }
 
 // The number of values of a short trailer, by the word that has it above the offset.
@@ -248,12 +272,12 @@ fn counted(page: &[u8]) -> Option<usize>
 pub fn open(page: &[u8]) -> Option<usize>
     ensures { Opens page.now result }
 {
-    let n = counted(page)?;
-    let groups = groups_of(n);
-    if page.len() != 8 * n + 12 * groups + trailer_length(n) || !all_stand(page, n, groups) {
+    let count = counted(page)?;
+    if page.len() != page_length(count) {
         return None;
     }
-    Some(n)
+    let page = Page { bytes: page, count };
+    page.all_stand().then_some(count)
 }
 
 // Whether a page of n values has no room.
@@ -278,23 +302,25 @@ fn write_values(values: &[u64], page: &mut [u8])
 }
 
 // A class is laid as a whole word: the summary or the trailer behind it is laid after it.
-fn write_summaries(n: usize, groups: usize, page: &mut [u8])
-    requires { (n ≤ 268435456) × (groups ≡ spec.groups n) × (8 * n + 12 * groups + 16 ≤ length page.old) }
-    ensures { Fills (spec.page_of (values_from n page.old)) (8 * n + 12 * groups) page.old page.new }
+#[tactic(auto, unfolding(totals_spec::specs::Limit::ceil_div, totals_spec::specs::Pages::page_length, totals_spec::specs::Pages::trailer_length))]
+fn write_summaries(count: usize, page: &mut [u8])
+    requires { (count ≤ 268435456) × (spec.page_length count ≤ length page.old) }
+    ensures { Fills (spec.page_of (values_from count page.old)) (8 * count + 12 * spec.groups count) page.old page.new }
 {
-    for g in 0..groups {
-        let s = group_summary(page, n, g);
-        let at = 8 * n + 12 * g;
+    for g in 0..groups_of(count) {
+        let s = Page { bytes: page, count }.group(g);
+        let at = 8 * count + 12 * g;
         put_word(page, at, s.extent);
         put_word(page, at + 8, s.class);
     }
 }
 
-#[tactic(auto, unfolding(totals_spec::specs::Pages::trailer_length))]
-fn write_trailer(n: usize, page: &mut [u8], at: usize)
-    requires { (n ≤ 268435456) × (at + spec.trailer_length n ≤ length page.old) }
-    ensures { page.new ≡ laid_over page.old at (spec.trailer n) }
+#[tactic(auto, unfolding(totals_spec::specs::Limit::ceil_div, totals_spec::specs::Pages::page_length, totals_spec::specs::Pages::trailer_length))]
+fn write_trailer(n: usize, page: &mut [u8])
+    requires { (n ≤ 268435456) × (spec.page_length n ≤ length page.old) }
+    ensures { page.new ≡ laid_over page.old (8 * n + 12 * spec.groups n) (spec.trailer n) }
 {
+    let at = 8 * n + 12 * groups_of(n);
     let count = n as u64;
     if n > SHORT_MOST {
         put_word(page, at, 8 * count);
@@ -327,6 +353,7 @@ impl fmt::Display for PageError {
 impl Error for PageError {}
 
 // Writes the page of some values; its length.
+#[tactic(auto, unfolding(totals_spec::specs::Pages::page_written, totals_spec::specs::Pages::write_refusal))]
 pub fn write(values: &[u64], page: &mut [u8]) -> Result<usize, PageError>
     ensures code { code_of result ≡ (spec.page_written values.now page.old).code }
     ensures short { IfOk result (λ length. length < 2 ^ 32) }
@@ -339,10 +366,8 @@ pub fn write(values: &[u64], page: &mut [u8]) -> Result<usize, PageError>
     if n > LIMIT {
         return Err(PageError::TooMany);
     }
-    let groups = groups_of(n);
     write_values(values, page);
-    write_summaries(n, groups, page);
-    let at = 8 * n + 12 * groups;
-    write_trailer(n, page, at);
-    Ok(at + trailer_length(n))
+    write_summaries(n, page);
+    write_trailer(n, page);
+    Ok(page_length(n))
 }

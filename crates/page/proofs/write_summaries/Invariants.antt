@@ -8,6 +8,7 @@ use Rattle.page.proofs.write_summaries.Given as goal
 
 abbrev pub invariant-loop-g : goal.invariant-loop-g
 invariant-loop-g l = record {
-  bytes : AllBytes l.fn.page;
-  filled : Fills (page_of (values_from l.fn.n l.fn.page)) (8 * l.fn.n + 12 * l.g) l.fn.page l.page;
+  first : AllBytes l.fn.page;
+  bytes : AllBytes l.page;
+  filled : Fills (page_of (values_from l.fn.count l.fn.page)) (8 * l.fn.count + 12 * l.g) l.fn.page l.page;
 }

@@ -12,7 +12,7 @@ use Rattle.std.specs.Prelude.{◌↔◌, IsTrue}
 use Rattle.std.specs.Bool.{MatchBool}
 use Rattle.std.specs.List.{range_with_len, AllWithin, HoldsAt}
 use Rattle.totals_spec.proofs.PageParts.{Stands}
-use Rattle.page.proofs.all_stand.Goals as goal
+use Rattle.page.proofs.Page.all_stand.Goals as goal
 
 each_below : (P : ℕ → Type 0) (n : ℕ) (r : Bool)
     → MatchBool r (AllWithin P (range_with_len 0 n) 0 (length (range_with_len 0 n)))
@@ -26,7 +26,9 @@ each_below P n false (k, less, fails) =
 
 pub returns : goal.returns
 returns c =
-    let P = λ (g : ℕ). Stands c.args.n c.args.page.now g in
-    each_below P c.args.groups c.all.result
-    (cases_from_all _ _ c.all.result P (λ (g : ℕ). ¬ P g) c.all.ensures.ran (YieldsList-from_range 0 c.args.groups c.args.groups refl (omega arith))
-    (λ x q k. search rules) (λ x q k. search rules))
+    let p = c.args.self.now in
+    let P = λ (g : ℕ). Stands p.count p.bytes.now g in
+    rw (← c.groups_of.ensures)
+    (each_below P c.groups_of.result c.all.result
+    (cases_from_all _ _ c.all.result P (λ (g : ℕ). ¬ P g) c.all.ensures.ran (YieldsList-from_range 0 c.groups_of.result c.groups_of.result refl (omega arith))
+    (λ x q k. search rules) (λ x q k. search rules)))

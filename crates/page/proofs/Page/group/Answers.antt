@@ -5,14 +5,17 @@ use Prim.Native.Nat.{ℕ, ◌-◌, ◌*◌}
 use native.Mathlib.Omega.{arith}
 use lib.ListN.{take, drop}
 use Rattle.totals_spec.specs.Bytes.{values_in}
+use Rattle.totals_spec.specs.Pages.{page_length}
 use Rattle.totals_spec.proofs.PageParts.{group-bytes}
 use Rattle.page.specs.Paged.{Summarized}
-use Rattle.page.proofs.group_summary.Goals as goal
+use Rattle.page.proofs.Page.group.Goals as goal
 
 pub returns : goal.returns
+unfolding page_length
 returns c =
-    let a = c.args in
+    let p = c.args.self.now in
+    let g = c.args.g in
     subst (λ (l : List ℕ). Summarized l c.of.result)
-    (ap (λ (k : ℕ). values_in (take (8 * k - 8 * (64 * a.g)) (drop (8 * (64 * a.g)) a.page.now))) c.min-end.ensures
-    ∙ group-bytes a.n a.g a.page.now (omega arith) c.requires.1)
+    (ap (λ (k : ℕ). values_in (take (8 * k - 8 * (64 * g)) (drop (8 * (64 * g)) p.bytes.now))) c.min-end.ensures
+    ∙ group-bytes p.count g p.bytes.now (omega arith) (omega (arith, p.room)))
     c.of.ensures
