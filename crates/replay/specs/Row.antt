@@ -1,6 +1,9 @@
 -- The fields of a row, at the places that cases.py has: numbers in hex digits, and a sign before one of them.
-use Rattle.std.specs.Prelude.{Option, Some, None, Bool, cond, List, ℕ, ◌+◌, ◌%◌, ◌^◌, ◌≡◌, eqb, ℤ, pos, neg_ℤ, length, get_or}
+use Rattle.std.specs.Prelude.{Option, Some, None, Bool, cond, List, [], ◌∷◌, ◌++◌, set, map, replicate, ℕ, ◌+◌, ◌-◌, ◌*◌, ◌%◌, ◌^◌, ◌≡◌, eqb, ltb, ℤ, pos, neg_ℤ, length, get_or}
+use Rattle.std.specs.List.{range_with_len}
+use Rattle.totals_spec.specs.Pages.{value_bytes}
 use Rattle.hexadecimal.specs.Digits.{number_at}
+use Rattle.values.specs.Laid.{laid}
 use Rattle.format.specs.declared.Format.{Format}
 use Rattle.format.specs.declared.env.Settings.{Settings}
 use Rattle.reduction.specs.declared.total.Answer.{Answer}
@@ -9,6 +12,10 @@ use Rattle.totals.specs.declared.pence.Pence.{Pence}
 -- the number of n digits from a place on, in a word
 abbrev pub word_at : List ℕ → ℕ → ℕ → ℕ
 word_at s at n = number_at s at n % 2 ^ 64
+
+-- what a row that disagrees is printed behind: the letters of "disagrees: "
+abbrev pub disagrees : List ℕ
+disagrees = 100 ∷ 105 ∷ 115 ∷ 97 ∷ 103 ∷ 114 ∷ 101 ∷ 101 ∷ 115 ∷ 58 ∷ 32 ∷ []
 
 -- the letter d
 abbrev pub is_dot : List ℕ → Bool
@@ -55,6 +62,33 @@ answer_in s = record {
 -- a record of pence: the figure, its sign and 16 digits, and behind it the refusal and the place
 abbrev pub pence_in : List ℕ → ℕ → Pence
 pence_in s at = record { figure = signed_at s at 16; refusal = word_at s (at + 18) 1; place = word_at s (at + 20) 1 }
+
+-- n words of sixteen digits, one every seventeen columns
+unfoldable pub words_in : List ℕ → (column n : ℕ) → List ℕ
+words_in s column n = map (λ (i : ℕ). word_at s (column + 17 * i) 16) (range_with_len 0 n)
+
+-- n of these words in bytes, and 255 in each byte behind them, of m bytes in all
+unfoldable pub laid_words : List ℕ → (column n m : ℕ) → List ℕ
+laid_words s column n m = value_bytes (words_in s column n) ++ replicate (m - 8 * n) 255
+
+-- n bytes of two digits, one every two columns
+unfoldable pub bytes_in : List ℕ → (column n : ℕ) → List ℕ
+bytes_in s column n = map (λ (i : ℕ). word_at s (column + 2 * i) 2 % 256) (range_with_len 0 n)
+
+-- the column of the value i: the values begin at the column 79
+abbrev pub value_column : ℕ → ℕ
+value_column i = 79 + 17 * i
+
+-- the first value of a dot's right list: behind the left one's six places, or twelve in a long row
+abbrev pub right_in : List ℕ → ℕ
+right_in s = cond (ltb (length s) 487) 6 12
+
+-- the answer's buffer after the call: an accepted record is written, its side in the byte 10, and a refused one is not
+abbrev pub written_in : List ℕ → List ℕ
+written_in s =
+    let before = replicate 32 165 in
+    let a = answer_in s in
+    cond (eqb (word_at s 73 3) 0) (set (laid (laid (laid before 0 a.result) 8 a.flags) 16 a.passes) 10 (a.side % 256)) before
 
 -- a number says whether a format names a bias, and the bias is 0 where none is named
 abbrev pub IsTold : Option ℤ → ℕ → ℤ → Type 0

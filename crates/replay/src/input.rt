@@ -1,22 +1,27 @@
 // Standard input: rows of one length after another.
-ghost use Rattle.std.specs.Prelude.{◌^◌, ◌<◌, ◌≤◌, IfOk};
+ghost use Rattle.std.specs.Prelude.{◌++◌, ◌^◌, ◌<◌, ◌≤◌, IfOk, OnOk};
+ghost use Rattle.std.specs.Io.KnownBytes.{Appends, Consumes};
+ghost use Rattle.replay.specs.Row.{disagrees};
 
 use std::io;
 use std::io::{Read, Write};
 
 // The next N bytes.
-pub fn next<const N: usize>(rt: &HostRuntime) -> io::Result<[u8; N]>
+pub fn next<const N: usize, R: Read>(from: &mut R) -> io::Result<[u8; N]>
     requires { N < 2 ^ 63 }
+    ensures { IfOk result (λ bytes. Consumes (R.remaining from.old) (R.remaining from.new) bytes) }
 {
     let mut bytes = [0u8; N];
-    rt.stdin().read_exact(&mut bytes)?;
+    from.read_exact(&mut bytes)?;
     Ok(bytes)
 }
 
 // A row ends its line itself.
-pub fn print_disagreeing(rt: &HostRuntime, row: &[u8]) -> io::Result<()> {
-    print!(rt; "disagrees: ")?;
-    rt.stdout().write_all(row)
+pub fn print_disagreeing<W: Write>(to: &mut W, row: &[u8]) -> io::Result<()>
+    ensures { OnOk result (Appends (W.contents to.old) (W.contents to.new) (disagrees ++ row.now)) }
+{
+    to.write_all(b"disagrees: ")?;
+    to.write_all(row)
 }
 
 // Reads n rows of N bytes, prints each one whose answer disagrees, and tells how many agree.
@@ -31,11 +36,11 @@ pub fn agreeing<const N: usize, F: Fn(&[u8]) -> bool>(
 {
     let mut agreed: u64 = 0;
     for _ in 0..n {
-        let row = next::<N>(rt)?;
+        let row = next::<N, _>(&mut rt.stdin())?;
         if agrees(&row) {
             agreed += 1;
         } else {
-            print_disagreeing(rt, &row)?;
+            print_disagreeing(&mut rt.stdout(), &row)?;
         }
     }
     Ok(agreed)

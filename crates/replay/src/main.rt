@@ -91,7 +91,7 @@ fn counted(rt: &HostRuntime, row: &[u8]) -> io::Result<Agreed>
     let bytes = by_bytes(row);
     let entries = by_entry(row);
     if !(words && bytes && entries) {
-        print_disagreeing(rt, row)?;
+        print_disagreeing(&mut rt.stdout(), row)?;
     }
     Ok(Agreed {
         rows: 1,
@@ -108,7 +108,7 @@ fn rows_of<const N: usize>(rt: &HostRuntime, n: u64) -> io::Result<Agreed>
 {
     let mut all = Agreed::default();
     for _ in 0..n {
-        let row = next::<N>(rt)?;
+        let row = next::<N, _>(&mut rt.stdin())?;
         all += counted(rt, &row)?;
     }
     Ok(all)
@@ -118,8 +118,8 @@ fn rows_of<const N: usize>(rt: &HostRuntime, n: u64) -> io::Result<Agreed>
 fn section(rt: &HostRuntime) -> io::Result<Agreed>
     ensures { IfOk result (λ a. a.rows < 65536) }
 {
-    let name = next::<44>(rt)?;
-    let count = next::<8>(rt)?;
+    let name = next::<44, _>(&mut rt.stdin())?;
+    let count = next::<8, _>(&mut rt.stdin())?;
     let n = number(&count, 3, 4) % 65536;
     let agreed = match count[1] {
         b'l' => rows_of::<LONG>(rt, n)?,
@@ -154,14 +154,14 @@ fn report_rows<const N: usize, F: Fn(&[u8]) -> bool>(
     requires fits { N < 2 ^ 63 }
     requires callable { F.IsAlwaysCallable agrees }
 {
-    let head = next::<5>(rt)?;
+    let head = next::<5, _>(&mut rt.stdin())?;
     let n = number(&head, 0, 4) % 65536;
     let agreed = agreeing::<N, F>(rt, n, agrees)?;
     report(rt, name, agreed, n)
 }
 
 fn main(rt: HostRuntime) -> io::Result<()> {
-    let head = next::<3>(&rt)?;
+    let head = next::<3, _>(&mut rt.stdin())?;
     let all = sections(&rt, number(&head, 0, 2) % 256)?;
     println!(rt; "all of these ............................... {all}")?;
     report(&rt, "refusals by the number of elements ", counts(), 12)?;

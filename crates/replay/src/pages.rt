@@ -101,7 +101,7 @@ fn by_entry(s: &[u8]) -> bool {
 }
 
 // Whether both ways agree with a row of a span.
-pub fn span_agrees(row: &[u8]) -> bool {
+pub(crate) fn span_agrees(row: &[u8]) -> bool {
     worked(row) == answer_at(row) && by_entry(row)
 }
 
@@ -121,7 +121,7 @@ fn write_part(s: &[u8], page: &mut [u8; BUFFER]) -> u64 {
 }
 
 // Whether the entry agrees with a row of a page that is written. What lies before and behind the part that is lent is compared too.
-pub fn page_agrees(row: &[u8]) -> bool {
+pub(crate) fn page_agrees(row: &[u8]) -> bool {
     let first = byte_in(row, 11);
     let mut page = before(first);
     let returned = write_part(row, &mut page);

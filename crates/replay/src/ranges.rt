@@ -1,7 +1,7 @@
 // Rows of amounts known within a range, each worked out by `range_total` and through the exported entry.
 ghost use Rattle.std.specs.Prelude.{◌≤◌};
 
-use crate::row::{at_most, words_at};
+use crate::row::{FIGURES, at_most, words_at};
 use hexadecimal::number;
 use std::array;
 use totals::entry::totals_range;
@@ -47,7 +47,7 @@ fn tags_at(s: &[u8]) -> [u64; 6] {
 }
 
 // Figures after a call, of which one begins the list: the first n are the lows, or the highs, where the call is accepted.
-fn after(s: &[u8], first: usize, n: usize, accepted: bool) -> [u64; 12]
+fn after(s: &[u8], first: usize, n: usize, accepted: bool) -> [u64; FIGURES]
     requires { (first ≤ 6) × (n ≤ 12) }
 {
     let mut words = words_at(s, first);
@@ -59,7 +59,7 @@ fn after(s: &[u8], first: usize, n: usize, accepted: bool) -> [u64; 12]
 }
 
 // Whether both lists are what a call leaves, one that is accepted or one that is not; what stands behind them is as it was.
-fn left(s: &[u8], accepted: bool, firsts: [u64; 12], seconds: [u64; 12]) -> bool {
+fn left(s: &[u8], accepted: bool, firsts: [u64; FIGURES], seconds: [u64; FIGURES]) -> bool {
     firsts == after(s, 0, at_most(s, 3, 1, 6), accepted)
         && seconds == after(s, 6, at_most(s, 4, 1, 6), accepted)
 }
@@ -83,7 +83,7 @@ fn told_as(s: &[u8], r: Range) -> bool {
 }
 
 // The function with as much of the lists as the row says.
-fn worked(s: &[u8], firsts: &mut [u64; 12], seconds: &mut [u64; 12]) -> Range {
+fn worked(s: &[u8], firsts: &mut [u64; FIGURES], seconds: &mut [u64; FIGURES]) -> Range {
     let tags = tags_at(s);
     let t = at_most(s, 2, 1, 6);
     let n = at_most(s, 3, 1, 6);
@@ -108,7 +108,12 @@ fn by_function(s: &[u8]) -> bool {
 }
 
 // The entry with as much of the lists and of the pair as the row says.
-fn entered(s: &[u8], firsts: &mut [u64; 12], seconds: &mut [u64; 12], pair: &mut [u64; 4]) -> u64 {
+fn entered(
+    s: &[u8],
+    firsts: &mut [u64; FIGURES],
+    seconds: &mut [u64; FIGURES],
+    pair: &mut [u64; 4],
+) -> u64 {
     let tags = tags_at(s);
     let t = at_most(s, 2, 1, 6);
     let n = at_most(s, 3, 1, 6);
@@ -143,6 +148,6 @@ fn by_entry(s: &[u8]) -> bool {
 }
 
 // Whether both ways agree with the row.
-pub fn agrees(row: &[u8]) -> bool {
+pub(crate) fn agrees(row: &[u8]) -> bool {
     by_function(row) && by_entry(row)
 }

@@ -1,6 +1,7 @@
 // The fields of a row.
-ghost use Rattle.std.specs.Prelude.{◌≡◌, ◌+◌, ◌*◌, ◌%◌, ◌^◌, ◌<◌, ◌≤◌, get_or};
+ghost use Rattle.std.specs.Prelude.{◌≡◌, ◌+◌, ◌*◌, ◌%◌, ◌^◌, ◌<◌, ◌≤◌, min, get_or};
 ghost use Rattle.replay.specs.Row.{word_at, is_dot, named_in, format_in, settings_in, signed_at, answer_in, pence_in};
+ghost use Rattle.replay.specs.Row.{words_in, laid_words, bytes_in, value_column, right_in};
 
 use format::Format;
 use format::env::Settings;
@@ -12,6 +13,9 @@ use values::put_word;
 
 // Where the values begin; and the length of a row of twelve of them, of a long one, of twenty-four, and of one that names a bias behind its twelve.
 const VALUES: usize = 79;
+
+// The values of a list in a row.
+pub const FIGURES: usize = 12;
 
 pub const ROW: usize = 283;
 
@@ -86,7 +90,7 @@ pub fn summand_at(s: &[u8]) -> u64
 
 // A number of some digits, as that of a list's values, but no higher than another.
 pub fn at_most(s: &[u8], at: usize, digits: usize, most: usize) -> usize
-    ensures { result ≤ most }
+    ensures { result ≡ min (word_at s.now at digits) most }
 {
     (number(s, at, digits) as usize).min(most)
 }
@@ -139,6 +143,7 @@ pub fn returned_at(s: &[u8]) -> u64
 // N words of sixteen digits, one every seventeen columns.
 pub fn words_in<const N: usize>(s: &[u8], column: usize) -> [u64; N]
     requires { column + 17 * N < 2 ^ 64 }
+    ensures { result ≡ words_in s.now column N }
 {
     array::from_fn(|i| number(s, column + 17 * i, 16))
 }
@@ -147,6 +152,7 @@ pub fn words_in<const N: usize>(s: &[u8], column: usize) -> [u64; N]
 pub fn laid_words<const N: usize>(s: &[u8], column: usize, n: usize) -> [u8; N]
     requires bytes { 8 * n ≤ N }
     requires columns { column + 17 * n < 2 ^ 64 }
+    ensures { result ≡ laid_words s.now column n N }
 {
     let mut bytes = [255u8; N];
     for i in 0..n {
@@ -165,20 +171,22 @@ pub fn byte_in(s: &[u8], column: usize) -> u8
 // N bytes, one every two columns.
 pub fn bytes_in<const N: usize>(s: &[u8], column: usize) -> [u8; N]
     requires { column + 2 * N < 2 ^ 64 }
+    ensures { result ≡ bytes_in s.now column N }
 {
     array::from_fn(|i| byte_in(s, column + 2 * i))
 }
 
 // The first value of a dot's right list: behind the left one's six places, or twelve in a long row.
 fn right_at(s: &[u8]) -> usize
-    ensures { result ≤ 12 }
+    ensures { result ≡ right_in s.now }
 {
     if s.len() < LONG { 6 } else { 12 }
 }
 
 // Twelve values from one on. A sum's list begins at the value 0, and so does a dot's left list.
-pub fn words_at(s: &[u8], first: usize) -> [u64; 12]
+pub fn words_at(s: &[u8], first: usize) -> [u64; FIGURES]
     requires { first ≤ 18 }
+    ensures { result ≡ words_in s.now (value_column first) 12 }
 {
     words_in(s, VALUES + 17 * first)
 }
@@ -186,14 +194,19 @@ pub fn words_at(s: &[u8], first: usize) -> [u64; 12]
 // The same in bytes, and eight bytes more, so that a list may end within a value.
 pub fn bytes_at(s: &[u8], first: usize) -> [u8; 104]
     requires { first ≤ 12 }
+    ensures { result ≡ laid_words s.now (value_column first) 12 104 }
 {
-    laid_words(s, VALUES + 17 * first, 12)
+    laid_words(s, VALUES + 17 * first, FIGURES)
 }
 
-pub fn right_words(s: &[u8]) -> [u64; 12] {
+pub fn right_words(s: &[u8]) -> [u64; FIGURES]
+    ensures { result ≡ words_in s.now (value_column (right_in s.now)) 12 }
+{
     words_at(s, right_at(s))
 }
 
-pub fn right_bytes(s: &[u8]) -> [u8; 104] {
+pub fn right_bytes(s: &[u8]) -> [u8; 104]
+    ensures { result ≡ laid_words s.now (value_column (right_in s.now)) 12 104 }
+{
     bytes_at(s, right_at(s))
 }

@@ -155,7 +155,7 @@ fn by_entry(s: &[u8]) -> bool {
 }
 
 // Whether both ways agree with the row.
-pub fn agrees(row: &[u8]) -> bool {
+pub(crate) fn agrees(row: &[u8]) -> bool {
     by_function(row) && by_entry(row)
 }
 

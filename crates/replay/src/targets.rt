@@ -48,7 +48,7 @@ fn enter(s: &[u8], answer: &mut [u8]) -> u64 {
 }
 
 // Whether the entry agrees with the row, with as much of the buffer as that says.
-pub fn agrees(row: &[u8]) -> bool {
+pub(crate) fn agrees(row: &[u8]) -> bool {
     leaves::<BUFFER, _>(
         |answer| enter(row, answer),
         bytes_in(row, BEFORE),

@@ -4,7 +4,7 @@ ghost use Rattle.std.specs.Fn.{FnOnceReturnsAtMut};
 ghost use Rattle.totals_spec.specs.Extended.{sum_call, dot_call};
 ghost use Rattle.format.specs.Joined.{format_of, settings_of};
 ghost use Rattle.totals.specs.Entered.{Enters};
-ghost use Rattle.replay.specs.Row.{IsTold};
+ghost use Rattle.replay.specs.Row.{IsTold, written_in};
 
 use crate::row::{
     answer_at, at_most, bytes_at, format_at, is_dot, returned_at, right_bytes, right_words,
@@ -40,7 +40,7 @@ fn total_words(s: &[u8]) -> Answer {
     sum(f, c, summand_at(s), &left[..n])
 }
 
-pub fn by_words(s: &[u8]) -> bool {
+pub(crate) fn by_words(s: &[u8]) -> bool {
     total_words(s) == answer_at(s)
 }
 
@@ -64,7 +64,7 @@ fn total_bytes(s: &[u8]) -> Answer {
     sum_bytes(f, c, summand_at(s), &left[..n])
 }
 
-pub fn by_bytes(s: &[u8]) -> bool {
+pub(crate) fn by_bytes(s: &[u8]) -> bool {
     total_bytes(s) == answer_at(s)
 }
 
@@ -163,7 +163,9 @@ fn enter(s: &[u8], answer: &mut [u8]) -> u64 {
 }
 
 // The buffer after the call: an accepted record is written, a refused one is not.
-pub fn written_at(s: &[u8]) -> [u8; 32] {
+pub fn written_at(s: &[u8]) -> [u8; 32]
+    ensures { result ≡ written_in s.now }
+{
     let mut answer = [0xa5u8; 32];
     let a = answer_at(s);
     if returned_at(s) == 0 {
@@ -194,7 +196,7 @@ pub fn leaves<const N: usize, F: FnOnce(&mut [u8]) -> u64>(
 }
 
 // With as much of the buffer as the row says.
-pub fn by_entry(s: &[u8]) -> bool {
+pub(crate) fn by_entry(s: &[u8]) -> bool {
     leaves(
         |answer| enter(s, answer),
         [0xa5; 32],
