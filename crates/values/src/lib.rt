@@ -20,18 +20,18 @@ pub fn word_at(values: &[u8], i: usize) -> u64
 // A value of ten bytes (kind 4): its sign and exponent field, and its significand.
 #[derive(Clone, Copy)]
 pub struct Ten {
-    pub head: u64,
+    pub head: u16,
     pub significand: u64,
 }
 
 // The value i of ten bytes.
 pub fn ten_at(values: &[u8], i: usize) -> Ten
     requires { i < length values.now / 10 }
-    ensures { (ten_of result ≡ get_or (tens_in values.now) i 0) × (result.head < 65536) }
+    ensures { ten_of result ≡ get_or (tens_in values.now) i 0 }
 {
     let [b0, b1, b2, b3, b4, b5, b6, b7, b8, b9] = values.as_chunks::<10>().0[i];
     Ten {
-        head: u64::from(u16::from_le_bytes([b8, b9])),
+        head: u16::from_le_bytes([b8, b9]),
         significand: u64::from_le_bytes([b0, b1, b2, b3, b4, b5, b6, b7]),
     }
 }

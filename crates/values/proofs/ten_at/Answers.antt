@@ -7,4 +7,4 @@ pub returns : goal.returns
 returns c =
     let value = ten-chunk c.args.values.now c.args.i c.requires in
     let chunk = ap (λ (l : List (List ℕ)). ten_bytes (get_or l c.args.i [])) c.as_chunks.ensures.front in
-    (omega (arith, c.from.ensures, c.from_le_bytes-2.ensures, value, chunk), omega (arith, c.from.ensures, c.from_le_bytes.type_inv))
+    omega (arith, c.from_le_bytes-2.ensures, value, chunk)
