@@ -7,9 +7,9 @@ use Rattle.totals_spec.specs.Halves.{joined}
 use Rattle.totals_spec.proofs.Halves.{halves-field, halves-subnormal, bits-joined}
 use Rattle.totals_spec.proofs.Spread.{spread-assembled}
 
--- whether a value is subnormal, by the field that was read
-pub subnormal_by_field : (h m x : ℕ) → h < 65536 → m < 2 ^ 64 → x ≡ field_in (joined h m) → (eqb x 0 && not (eqb m 0)) ≡ subnormal_extended (joined h m)
-subnormal_by_field h m x a b e = rw (e ∙ halves-field h m a b) (sym (halves-subnormal h m a b))
+-- whether a value is subnormal, by its field and its significand
+pub subnormal_field : (h m : ℕ) → h < 65536 → m < 2 ^ 64 → subnormal_extended (joined h m) ≡ (eqb (field_in (joined h m)) 0 && not (eqb m 0))
+subnormal_field h m a b = rw (halves-field h m a b) (halves-subnormal h m a b)
 
 -- ---- what is written: the head h and the significand m
 

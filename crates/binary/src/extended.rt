@@ -19,9 +19,9 @@ use format::unpacked::Unpacked;
 use values::Ten;
 
 // The sign lies above the 15 bits of the field.
-const SIGN: u64 = 32768;
+const SIGN: u16 = 32768;
 
-const FIELD_MAX: u64 = 32767;
+const FIELD_MAX: u16 = 32767;
 
 // The leading bit of a significand, and the bit below it, which makes a NaN quiet.
 const LEADING: u64 = 9223372036854775808;
@@ -42,15 +42,13 @@ pub fn extended() -> Shape
 }
 
 fn sign_of(b: Ten) -> bool
-    requires { b.head < 65536 }
     ensures { result ≡ spec.sign_in (ten_of b) }
 {
     b.head >= SIGN
 }
 
-fn field_of(b: Ten) -> u64
-    requires { b.head < 65536 }
-    ensures { (result ≡ spec.field_in (ten_of b)) × (result < 32768) }
+fn field_of(b: Ten) -> u16
+    ensures { result ≡ spec.field_in (ten_of b) }
 {
     b.head % SIGN
 }
@@ -58,7 +56,6 @@ fn field_of(b: Ten) -> u64
 // A field above 0 over a leading bit of 0.
 #[tactic(auto, unfolding(totals_spec::specs::Extended::unsupported))]
 pub fn is_unsupported(b: Ten) -> bool
-    requires { b.head < 65536 }
     ensures { result ≡ spec.unsupported (ten_of b) }
 {
     field_of(b) != 0 && b.significand < LEADING
@@ -79,7 +76,7 @@ fn decode_top(negative: bool, significand: u64) -> Unpacked
     }
 }
 
-fn decode_number(negative: bool, field: u64, significand: u64) -> Unpacked
+fn decode_number(negative: bool, field: u16, significand: u64) -> Unpacked
     ensures { unpacked_of result ≡ spec.extended_number negative field significand }
 {
     match (field, significand) {
@@ -91,7 +88,7 @@ fn decode_number(negative: bool, field: u64, significand: u64) -> Unpacked
         },
         _ => Unpacked::Finite {
             negative,
-            shift: field - 1,
+            shift: u64::from(field - 1),
             significand,
         },
     }
@@ -99,7 +96,6 @@ fn decode_number(negative: bool, field: u64, significand: u64) -> Unpacked
 
 #[tactic(auto, unfolding(totals_spec::specs::Extended::decode_extended, totals_spec::specs::Extended::unsupported))]
 pub fn decode(b: Ten) -> Unpacked
-    requires { b.head < 65536 }
     ensures { unpacked_of result ≡ spec.decode_extended (ten_of b) }
 {
     let negative = sign_of(b);
@@ -118,8 +114,8 @@ pub fn decode(b: Ten) -> Unpacked
 }
 
 // A pseudo-denormal counts as a subnormal number.
+#[tactic(auto, using(crate::proofs::Tens::subnormal_field))]
 fn is_subnormal(b: Ten) -> bool
-    requires { b.head < 65536 }
     ensures { result ≡ spec.subnormal_extended (ten_of b) }
 {
     field_of(b) == 0 && b.significand != 0
@@ -128,7 +124,6 @@ fn is_subnormal(b: Ten) -> bool
 // An operand: the decoded number, or under denormals-are-zero a signed zero in place of a subnormal one.
 #[tactic(auto, unfolding(totals_spec::specs::Extended::extended_operand))]
 pub fn operand(c: Env, b: Ten) -> Read
-    requires { b.head < 65536 }
     ensures { (unpacked_of result.value ≡ spec.extended_operand (env_of c) (ten_of b)) × (result.subnormal ≡ spec.subnormal_extended (ten_of b)) }
 {
     let subnormal = is_subnormal(b);
@@ -141,7 +136,7 @@ pub fn operand(c: Env, b: Ten) -> Read
 }
 
 // The leading bit of a significand stands below a field above 0.
-fn with_leading(field: u64, fraction: u64) -> u64
+fn with_leading(field: u16, fraction: u64) -> u64
     requires { fraction < 2 ^ 63 }
     ensures { result ≡ flag (2 ^ 63) (not (field == 0)) + fraction }
 {
@@ -154,12 +149,12 @@ fn with_leading(field: u64, fraction: u64) -> u64
 
 // The sign, the exponent field and the significand in their places.
 #[tactic(auto, using(crate::proofs::Tens::written_is))]
-fn assemble(negative: bool, field: u64, fraction: u64) -> Ten
+fn assemble(negative: bool, field: u16, fraction: u64) -> Ten
     requires { (field < 2 ^ 15) × (fraction < 2 ^ 63) }
-    ensures { (ten_of result ≡ spec.spread (enc.assembled spec.extended negative field fraction)) × (result.head < 65536) }
+    ensures { ten_of result ≡ spec.spread (enc.assembled spec.extended negative field fraction) }
 {
     Ten {
-        head: flag(SIGN, negative) + field,
+        head: if negative { SIGN + field } else { field },
         significand: with_leading(field, fraction),
     }
 }
@@ -168,19 +163,19 @@ fn assemble(negative: bool, field: u64, fraction: u64) -> Ten
 #[tactic(auto, unfolding(totals_spec::specs::Encode::encode, totals_spec::specs::Extended::extended))]
 fn encode_finite(negative: bool, shift: u64, significand: u64) -> Ten
     requires { shift + 1 < 2 ^ 15 }
-    ensures { (ten_of result ≡ spec.spread (enc.encode spec.extended (dec.finite negative shift significand))) × (result.head < 65536) }
+    ensures { ten_of result ≡ spec.spread (enc.encode spec.extended (dec.finite negative shift significand)) }
 {
     if significand < LEADING {
         assemble(negative, 0, significand)
     } else {
-        assemble(negative, shift + 1, significand - LEADING)
+        assemble(negative, (shift + 1) as u16, significand - LEADING)
     }
 }
 
 #[tactic(auto, unfolding(totals_spec::specs::Extended::extended, totals_spec::specs::Encode::encode))]
 fn encode_nan(negative: bool, signaling: bool, payload: u64) -> Ten
     requires { payload < 2 ^ 62 }
-    ensures { (ten_of result ≡ spec.spread (enc.encode spec.extended (dec.nan negative signaling payload))) × (result.head < 65536) }
+    ensures { ten_of result ≡ spec.spread (enc.encode spec.extended (dec.nan negative signaling payload)) }
 {
     assemble(negative, FIELD_MAX, flag(QUIET, !signaling) + payload)
 }
@@ -188,7 +183,7 @@ fn encode_nan(negative: bool, signaling: bool, payload: u64) -> Ten
 #[tactic(auto, unfolding(totals_spec::specs::Encode::encode, totals_spec::specs::Extended::extended))]
 pub fn encode(v: Unpacked) -> Ten
     requires { Encodes spec.extended (unpacked_of v) }
-    ensures { (ten_of result ≡ spec.spread (enc.encode spec.extended (unpacked_of v))) × (result.head < 65536) }
+    ensures { ten_of result ≡ spec.spread (enc.encode spec.extended (unpacked_of v)) }
 {
     match v {
         Unpacked::Zero(negative) => assemble(negative, 0, 0),
