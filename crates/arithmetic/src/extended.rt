@@ -16,7 +16,6 @@ use values::Ten;
 // The term of an element.
 #[tactic(auto, unfolding(totals_spec::specs::Extended::extended_item), using(crate::proofs::Elements::operands))]
 pub fn ten_term(c: Env, u: Summand, b: Ten) -> Term
-    requires { b.head < 65536 }
     ensures stands_for { StandsFor result (spec.extended_item (env_of c) (summand_in u) (ten_of b)) }
     ensures one_word { u ≢ Square → result.significand < 2 ^ 64 }
 {
@@ -26,7 +25,6 @@ pub fn ten_term(c: Env, u: Summand, b: Ten) -> Term
 // The term of a pair.
 #[tactic(auto, unfolding(totals_spec::specs::Extended::extended_pair), using(crate::proofs::Elements::operands))]
 pub fn ten_pair(c: Env, x: Ten, y: Ten) -> Term
-    requires { (x.head < 65536) × (y.head < 65536) }
     ensures { StandsFor result (spec.extended_pair (env_of c) (ten_of x, ten_of y)) }
 {
     operand_pair(operand(c, x).value, operand(c, y).value)

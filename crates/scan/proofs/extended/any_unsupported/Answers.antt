@@ -9,13 +9,13 @@ pub returns-then-is_unsupported : goal.returns-then-is_unsupported
 returns-then-is_unsupported c =
     let l = c.args.values.now in
     let there : c.loop-i.i < length (tens_in l) = omega (arith, (tens-values l).0) in
-    sym (first_some unsupported (tens_in l) c.loop-i.i 0 there c.loop-i.invariant (ap unsupported (sym c.ten_at.ensures.0) ∙ sym c.if-is_unsupported.ensures))
+    sym (first_some unsupported (tens_in l) c.loop-i.i 0 there c.loop-i.invariant (ap unsupported (sym c.ten_at.ensures) ∙ sym c.if-is_unsupported.ensures))
 
 pub loop-i-preserved : goal.loop-i-preserved
 loop-i-preserved c =
     let l = c.args.values.now in
     let there : c.loop-i.i < length (tens_in l) = omega (arith, (tens-values l).0) in
-    none-next unsupported (tens_in l) c.loop-i.i 0 _ there c.ten_at.ensures.0 c.loop-i.invariant (sym c.if-is_unsupported.ensures)
+    none-next unsupported (tens_in l) c.loop-i.i 0 _ there c.ten_at.ensures c.loop-i.invariant (sym c.if-is_unsupported.ensures)
 
 pub returns : goal.returns
 returns c =

@@ -12,4 +12,4 @@ ten_at-requires-2 c = omega (arith, (tens-values c.args.right.now.values.now).0,
 
 pub returns : goal.returns
 unfolding extended_pair
-returns c = rw (c.ten_at.ensures.0, c.ten_at-2.ensures.0) at c.ten_pair.ensures
+returns c = rw (c.ten_at.ensures, c.ten_at-2.ensures) at c.ten_pair.ensures

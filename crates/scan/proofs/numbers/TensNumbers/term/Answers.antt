@@ -9,4 +9,4 @@ ten_at-requires c = omega (arith, (tens-values c.args.self.now.values.now).0, c.
 
 pub returns-clause-gives : goal.returns-clause-gives
 unfolding extended_item
-returns-clause-gives c = rw c.ten_at.ensures.0 at c.ten_term.ensures.stands_for
+returns-clause-gives c = rw c.ten_at.ensures at c.ten_term.ensures.stands_for
