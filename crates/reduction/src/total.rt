@@ -56,7 +56,7 @@ pub struct Answer {
 // The record of a total of any kind: the result of kind 4 has a second word, its head.
 #[derive(Clone, Copy)]
 pub struct Wide {
-    pub head: u64,
+    pub head: u16,
     pub answer: Answer,
 }
 
