@@ -54,7 +54,11 @@ fn enter_tens(t: Wide, answer: &mut [u8])
 {
     let a = t.answer;
     put_word(answer, 0, a.result);
-    put_word(answer, 8, t.head + TEN_FLAGS * a.flags + TEN_SIDE * a.side);
+    put_word(
+        answer,
+        8,
+        u64::from(t.head) + TEN_FLAGS * a.flags + TEN_SIDE * a.side,
+    );
     put_word(answer, 16, 0);
     put_word(answer, 24, a.passes);
 }
