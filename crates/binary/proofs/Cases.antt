@@ -1,5 +1,6 @@
 -- Encodings by cases: numbers by their exponent field, kinds by their number.
-use Rattle.std.proofs.Common.{◌≡◌, ℕ, zero, suc, ◌+◌, ◌-◌, ◌*◌, ◌^◌, ◌<◌, ◌≤◌, Bool, true, false, ◌&&◌, eqb, sym, refl, ap, ◌∙◌, lt_of_lt_of_le, arith, pow_mono, pow-add, ne_eqb}
+use Rattle.std.proofs.Common.{◌≡◌, ℕ, zero, suc, ◌+◌, ◌-◌, ◌*◌, ◌^◌, ◌<◌, ◌≤◌, Bool, true, false, ◌&&◌, eqb}
+use Rattle.std.proofs.Common.{sym, refl, ap, ◌∙◌, lt_of_lt_of_le, arith, pow_mono, pow-add, ne_eqb}
 use mathlib.Core.Bool.{and-false}
 use lib.Arith.{digits_lt}
 use Rattle.totals_spec.specs.Format as spec

@@ -81,7 +81,8 @@ module _ (f : Format) (q g k l : ℕ) (q0 : 1 ≤ q) (p0 : 1 ≤ digits f) (sz :
       → cond (is_no_inf (kind_of f.kind) && eqb q (digits f)) (eqb k (2 ^ q - 1)) false ≡ overflows f q g (k * 2 ^ l)
   over-top h = go (is_no_inf (kind_of f.kind)) refl (eqb q (digits f)) refl
     where
-      go : (n : Bool) → is_no_inf (kind_of f.kind) ≡ n → (d : Bool) → eqb q (digits f) ≡ d → cond (n && d) (eqb k (2 ^ q - 1)) false ≡ overflows f q g (k * 2 ^ l)
+      go : (n : Bool) → is_no_inf (kind_of f.kind) ≡ n → (d : Bool) → eqb q (digits f) ≡ d
+          → cond (n && d) (eqb k (2 ^ q - 1)) false ≡ overflows f q g (k * 2 ^ l)
       go true n true d = over-at h n (eqb-true q (digits f) d)
       go true n false d = sym (over-digits (omega arith) n (eqb-false q (digits f) d))
       go false n d e = sym (over-kind (omega arith) n)
@@ -90,7 +91,8 @@ module _ (f : Format) (q g k l : ℕ) (q0 : 1 ≤ q) (p0 : 1 ≤ digits f) (sz :
   pub over-off : (l + (q - 1) ≡ emax_at f g → ⊥) → ltb (emax_at f g) (l + (q - 1)) ≡ overflows f q g (k * 2 ^ l)
   over-off h = go (ltb (emax_at f g) (l + (q - 1))) (ltb→lt (emax_at f g) (l + (q - 1))) (nltb→le (emax_at f g) (l + (q - 1)))
     where
-      below : l + (q - 1) < emax_at f g → (b : Bool) → is_no_inf (kind_of f.kind) ≡ b → (d : Bool) → eqb q (digits f) ≡ d → false ≡ overflows f q g (k * 2 ^ l)
+      below : l + (q - 1) < emax_at f g → (b : Bool) → is_no_inf (kind_of f.kind) ≡ b → (d : Bool) → eqb q (digits f) ≡ d
+          → false ≡ overflows f q g (k * 2 ^ l)
       below u false n d e = sym (over-kind (le_of_lt u) n)
       below u true n true e = sym (over-lower u n (eqb-true q (digits f) e))
       below u true n false e = sym (over-digits (le_of_lt u) n (eqb-false q (digits f) e))
@@ -113,7 +115,8 @@ pub largest-plain : (f : Format) (q : ℕ) (s : Bool) → (is_no_inf (kind_of f.
 unfolding largest
 largest-plain f q s h = rw h
 
-pub largest-noinf : (f : Format) (q : ℕ) (s : Bool) → is_no_inf (kind_of f.kind) ≡ true → q ≡ digits f → largest f q s ≡ finite s (exponent_range f) (2 ^ digits f - 2)
+pub largest-noinf : (f : Format) (q : ℕ) (s : Bool) → is_no_inf (kind_of f.kind) ≡ true → q ≡ digits f
+    → largest f q s ≡ finite s (exponent_range f) (2 ^ digits f - 2)
 unfolding largest
 largest-noinf f q s k h = rw (k, eq-eqb q (digits f) h)
 

@@ -176,7 +176,9 @@ place-small g p n q h q0 qp = omega arith
 module _ (f : Format) (c : Settings) (g : ℕ) (s : Bool) (x q n : ℕ) (b : RangeBounds f) (q0 : 1 ≤ q) (qp : q ≤ digits f) (sz : size x ≡ n)
     (low : n ≤ emin_at f g) where
   pub kept_small : x / 2 ^ (g + (digits f - q)) < 2 ^ (q - 1)
-  kept_small = shr_lt (q - 1) (g + (digits f - q)) (lt_of_lt_of_le (size-lt x) (pow_mono (subst (λ (z : ℕ). z ≤ q - 1 + (g + (digits f - q))) (sym sz) sum)))
+  kept_small =
+      shr_lt (q - 1) (g + (digits f - q))
+      (lt_of_lt_of_le (size-lt x) (pow_mono (subst (λ (z : ℕ). z ≤ q - 1 + (g + (digits f - q))) (sym sz) sum)))
     where
       sum : n ≤ q - 1 + (g + (digits f - q))
       sum = omega arith

@@ -45,8 +45,8 @@ module _ {v : Unrounded} {end q : ℕ} (M : Measured v end q) where
     first-ge = rw (cut one one-stands).0 (kept-ge one q end M.least (omega (arith, M.most, M.high, M.is)) (long one one-stands))
 
     -- the digits kept, rounded, are k × 2^l
-    pub rounded-to : {m : Rounding} {up some : Bool} → up ≡ rounds_up m v.negative kept d → some ≡ inexact d → (k l : ℕ) → 2 ^ (q - 1) ≤ k → k < 2 ^ q
-        → end ≤ l + q → l + q ≤ end + 1 → k * 2 ^ l ≡ (kept + flag 1 up) * 2 ^ (end - q)
+    pub rounded-to : {m : Rounding} {up some : Bool} → up ≡ rounds_up m v.negative kept d → some ≡ inexact d
+        → (k l : ℕ) → 2 ^ (q - 1) ≤ k → k < 2 ^ q → end ≤ l + q → l + q ≤ end + 1 → k * 2 ^ l ≡ (kept + flag 1 up) * 2 ^ (end - q)
         → RoundedTo m v end q (record { kept = k; lowest = l; up = up; inexact = some })
     unfolding rounded_at
     rounded-to ue se k l lo hi from to y = record {

@@ -1,5 +1,6 @@
 -- The code's types as those of totals_spec, the exact numbers that a value to round stands for, and what its rounding is.
-use Rattle.std.specs.Prelude.{◌≡◌, Bool, true, false, ◌&&◌, cond, List, ℕ, suc, ◌+◌, ◌-◌, ◌*◌, ◌/◌, ◌^◌, ◌≤◌, ◌<◌, min, eqb}
+use Rattle.std.specs.Prelude.{◌≡◌, Bool, true, false, ◌&&◌, cond, List}
+use Rattle.std.specs.Prelude.{ℕ, suc, ◌+◌, ◌-◌, ◌*◌, ◌/◌, ◌^◌, ◌≤◌, ◌<◌, min, eqb}
 use Rattle.limbs.specs.Value.{value, bit_length}
 use Rattle.totals_spec.specs.Basics.{flag}
 use Rattle.totals_spec.specs.Format as spec

@@ -7,7 +7,8 @@ use Rattle.totals_spec.specs.Basics.{is_set}
 use Rattle.totals_spec.specs.Format.{Format, digits}
 use Rattle.totals_spec.specs.Settings.{Settings, valid_settings, chosen}
 use Rattle.format.specs.declared.modes.Rounding.{Rounding}
-use Rattle.format.specs.declared.modes.Rounding.TheVariants.{TiesToEven, TiesToAway, TiesTowardZero, TowardPositive, TowardNegative, TowardZero, AwayFromZero, ToOdd}
+use Rattle.format.specs.declared.modes.Rounding.TheVariants.{TiesToEven, TiesToAway, TiesTowardZero}
+use Rattle.format.specs.declared.modes.Rounding.TheVariants.{TowardPositive, TowardNegative, TowardZero, AwayFromZero, ToOdd}
 use Rattle.format.specs.declared.modes.Tininess.{Tininess}
 use Rattle.format.specs.declared.modes.Tininess.TheVariants.{BeforeRounding, AfterRounding}
 use Rattle.format.specs.declared.modes.NanPropagation.{NanPropagation}

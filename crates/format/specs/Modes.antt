@@ -1,7 +1,8 @@
 -- The modes, and their numbers in document 01.
 use Rattle.std.specs.Prelude.{◌≡◌, ℕ, ◌<◌, Bool, true, false, Result, MatchResult}
 use Rattle.format.specs.declared.modes.Rounding.{Rounding}
-use Rattle.format.specs.declared.modes.Rounding.TheVariants.{TiesToEven, TiesToAway, TiesTowardZero, TowardPositive, TowardNegative, TowardZero, AwayFromZero, ToOdd}
+use Rattle.format.specs.declared.modes.Rounding.TheVariants.{TiesToEven, TiesToAway, TiesTowardZero}
+use Rattle.format.specs.declared.modes.Rounding.TheVariants.{TowardPositive, TowardNegative, TowardZero, AwayFromZero, ToOdd}
 use Rattle.format.specs.declared.modes.Tininess.{Tininess}
 use Rattle.format.specs.declared.modes.Tininess.TheVariants.{BeforeRounding, AfterRounding}
 use Rattle.format.specs.declared.modes.NanPropagation.{NanPropagation}

@@ -71,8 +71,9 @@ module _ {A : Type 0} (f : spec.Format) (c : env.Settings) (q : Reading f A) (x 
       over-taken f c q l x s r t.nan (is ∙ ap (with_item (item_of (q.item x))) rest) (rw o k.nan) apart
 
   pub two-taken : (sub sub₁ : Bool) (v₀ v w₀ w : dec.Unpacked) (t p : Scan) → q.operands x ≡ v ∷ w ∷ []
-      → q.signaling x ≡ (dec.is_signaling v || dec.is_signaling w) → q.subnormal x ≡ (sub || sub₁) → if_nan v₀ ≡ if_nan v → if_nan w₀ ≡ if_nan w
-      → Reads c.nan_propagation sub v₀ s t → Reads c.nan_propagation sub₁ w₀ t p → r ≡ with_item (item_of (q.item x)) p
+      → q.signaling x ≡ (dec.is_signaling v || dec.is_signaling w) → q.subnormal x ≡ (sub || sub₁)
+      → if_nan v₀ ≡ if_nan v → if_nan w₀ ≡ if_nan w → Reads c.nan_propagation sub v₀ s t → Reads c.nan_propagation sub₁ w₀ t p
+      → r ≡ with_item (item_of (q.item x)) p
       → (l : List A) (apart : ℕ) → Over f c q l (with_top apart s) → Over f c q (l ++ (x ∷ [])) (with_top apart r)
   two-taken sub sub₁ v₀ v w₀ w t p o g d e₀ e h k is l apart =
       let a = reads_as c.nan_propagation sub v₀ v s t e₀ h in
@@ -132,7 +133,8 @@ module _ (e : Encoding) (c : env.Settings) where
         let a = h.plain z u c in
         record { subnormal = a.0; signaling = none-signaling (e.decode b) a.1; nan = or-false (dec.is_nan (e.decode b)) ∙ a.1; item = a.2 }
 
-  pub both-more : (l : List (ℕ × ℕ)) (x : ℕ × ℕ) → map e.decode (both_of (l ++ (x ∷ []))) ≡ map e.decode (both_of l) ++ (e.decode x.0 ∷ e.decode x.1 ∷ [])
+  pub both-more : (l : List (ℕ × ℕ)) (x : ℕ × ℕ)
+      → map e.decode (both_of (l ++ (x ∷ []))) ≡ map e.decode (both_of l) ++ (e.decode x.0 ∷ e.decode x.1 ∷ [])
   both-more [] x = refl
   both-more (y ∷ l) x = ap (λ r. e.decode y.0 ∷ e.decode y.1 ∷ r) (both-more l x)
 
@@ -164,8 +166,8 @@ module _ (e : Encoding) (c : env.Settings) where
   both-read x y a b s r (p, q) (m, n) h = rw (p, q, m, n) at h
 
   -- what `take_pair` gives
-  pub pair-taken : (x y : ℕ) (s r : Scan) → TakesPairIn e c (x, y) s r → (l : List (ℕ × ℕ)) (apart : ℕ) → Over e.format c dot l (with_top apart s)
-      → Over e.format c dot (l ++ ((x, y) ∷ [])) (with_top apart r)
+  pub pair-taken : (x y : ℕ) (s r : Scan) → TakesPairIn e c (x, y) s r → (l : List (ℕ × ℕ)) (apart : ℕ)
+      → Over e.format c dot l (with_top apart s) → Over e.format c dot (l ++ ((x, y) ∷ [])) (with_top apart r)
   pair-taken x y s r h =
       two-taken e.format c dot (x, y) s r (e.subnormal x) (e.subnormal y) (e.operand c x) (e.decode x) (e.operand c y) (e.decode y)
       h.between h.next refl refl refl (e.held c x) (e.held c y) h.left h.right h.noted

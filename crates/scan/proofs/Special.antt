@@ -100,8 +100,8 @@ module _ (k : spec.Kind) (h : T (has_nan k)) where
 -- ---- the outcomes
 
 module _ (c : env.Settings) (first : Bool) (s : Scan) where
-  pub by-nan : (v : Unpacked) (i : Bool) → nan_decides first s ≡ true → unpacked_of v ≡ selected_of c (nan_of s.nan) → i ≡ (s.signaling || s.invalid)
-      → Decides (Some (record { value = v; invalid = i })) c first s
+  pub by-nan : (v : Unpacked) (i : Bool) → nan_decides first s ≡ true → unpacked_of v ≡ selected_of c (nan_of s.nan)
+      → i ≡ (s.signaling || s.invalid) → Decides (Some (record { value = v; invalid = i })) c first s
   by-nan v i t e h f sub products sig ops l g =
       let k = spec.kind_of f.kind in
       let some : any terms.is_nan_item l ≡ true = sym g.some ∙ and_left (is_some s.nan) _ t in
@@ -114,7 +114,8 @@ module _ (c : env.Settings) (first : Bool) (s : Scan) where
       }
 
   module _ (t : nan_decides first s ≡ false) where
-    pub by-invalid : (v : Unpacked) → s.invalid ≡ true → unpacked_of v ≡ nans.default_nan_of c → Decides (Some (record { value = v; invalid = true })) c first s
+    pub by-invalid : (v : Unpacked) → s.invalid ≡ true → unpacked_of v ≡ nans.default_nan_of c
+        → Decides (Some (record { value = v; invalid = true })) c first s
     by-invalid v i e f sub products sig ops l g =
         let k = spec.kind_of f.kind in
         record {
@@ -134,7 +135,8 @@ module _ (c : env.Settings) (first : Bool) (s : Scan) where
             alone = λ a. subst (Alone k) (sym e) (default-alone k (infinity-nan k (infinity-found k false l a (sym g.positive-infinity ∙ p))) c);
           }
 
-      pub by-positive : s.positive_infinity ≡ true → s.negative_infinity ≡ false → Decides (Some (record { value = (unpacked.Infinity false); invalid = false })) c first s
+      pub by-positive : s.positive_infinity ≡ true → s.negative_infinity ≡ false
+          → Decides (Some (record { value = (unpacked.Infinity false); invalid = false })) c first s
       by-positive p n f sub products sig ops l g = record {
         is = accepted-is g products first (nans.select_all c ops) ∙ rw t (without_is g products first ∙ rw (i, p, n));
         encodes = tt;

@@ -78,7 +78,9 @@ module _ (f : spec.Format) (c : env.Settings) where
       record {
         subnormal = ap (λ b. b || sub₁) g.subnormal;
         signaling = ap (λ b. b || sig₁) g.signaling;
-        nan = e ∙ ap (λ x. if_nan (nans.chosen_of (rule_of c) x vs)) g.nan ∙ chosen-held (rule_of c) (nans.chosen_of (rule_of c) (dec.zero_of false) ops) vs
+        nan =
+            e ∙ ap (λ x. if_nan (nans.chosen_of (rule_of c) x vs)) g.nan
+            ∙ chosen-held (rule_of c) (nans.chosen_of (rule_of c) (dec.zero_of false) ops) vs
             ∙ ap if_nan (sym (chosen-append (rule_of c) (dec.zero_of false) ops vs));
         some = sym (held-some n) ∙ ap dec.is_nan e ∙ if-nan (nans.chosen_of (rule_of c) (nan_of s.nan) vs) ∙ chosen_nan (rule_of c) (nan_of s.nan) vs
             ∙ ap₂ ◌||◌ (held-some s.nan ∙ g.some) (sym a.nan) ∙ sym (any-one terms.is_nan_item l i);
@@ -171,7 +173,8 @@ module _ {A : Type 0} (f : spec.Format) (c : env.Settings) (q : Reading f A) whe
 
   -- an element that was with_item, with a position t kept apart
   pub over-taken : (l : List A) (x : A) (s r : Scan) (n : Option Nan) → r ≡ with_item (item_of (q.item x)) (seen (q.subnormal x) (q.signaling x) n s)
-      → nan_of n ≡ if_nan (nans.chosen_of (rule_of c) (nan_of s.nan) (q.operands x)) → (t : ℕ) → Over l (with_top t s) → Over (l ++ (x ∷ [])) (with_top t r)
+      → nan_of n ≡ if_nan (nans.chosen_of (rule_of c) (nan_of s.nan) (q.operands x)) → (t : ℕ)
+      → Over l (with_top t s) → Over (l ++ (x ∷ [])) (with_top t r)
   over-taken l x s r n e h t g =
       subst (Over (l ++ (x ∷ []))) (sym (ap (with_top t) e ∙ taken-raised (item_of (q.item x)) t (seen (q.subnormal x) (q.signaling x) n s)))
       (more l x (with_top t s) n g h)

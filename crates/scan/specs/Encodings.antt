@@ -116,7 +116,8 @@ pub record FieldIn (e : Encoding) (b n : ℕ) : Type 0 where
 pub record FieldsIn (e : Encoding) (x y n : ℕ) : Type 0 where
   pub small : n < 536870912
   pub plain :
-      0 < n → (c : env.Settings) → (e.subnormal x ≡ false) × (e.subnormal y ≡ false) × (dec.is_nan (e.decode x) ≡ false) × (dec.is_nan (e.decode y) ≡ false)
+      0 < n → (c : env.Settings) → (e.subnormal x ≡ false) × (e.subnormal y ≡ false)
+      × (dec.is_nan (e.decode x) ≡ false) × (dec.is_nan (e.decode y) ≡ false)
       × (item_of (pair_in e c (x, y)) ≡ item.Top (e.pair_top n))
 
 -- ---- lists

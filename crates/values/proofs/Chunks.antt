@@ -27,7 +27,8 @@ pub eight_bytes : (c : List ℕ) → length c ≡ 8 → from_bytes c ≡ from_le
 eight_bytes c e = ap from_bytes (sym (take_all 8 c (omega arith))) ∙ omega (arith, eight-bytes c 0 (omega arith))
 
 -- a chunk of eight bytes is the value at its index
-pub value-chunk : (l : List ℕ) (i : ℕ) → i < length l / 8 → get_or (values_in l) i 0 ≡ from_le_bytes w64 (get_or (first_chunks 8 (length l / 8) l) i [])
+pub value-chunk : (l : List ℕ) (i : ℕ) → i < length l / 8
+    → get_or (values_in l) i 0 ≡ from_le_bytes w64 (get_or (first_chunks 8 (length l / 8) l) i [])
 unfolding values_in
 value-chunk l i h =
     let n = length l / 8 in

@@ -24,7 +24,8 @@ module _ (count step first : ℕ) (cells : List ℕ) (i : ℕ) (h : i < length (
       ap (λ (k : ℕ). get_or cells k 0) place ∙ sym (column-cell count step cells first i row)
 
 -- each fits a word, as those of the table do
-pub cells-fit : (count step first : ℕ) (cells : List ℕ) → ((k : ℕ) → get_or cells k 0 < 2 ^ 64) → (i : ℕ) → get_or (column_of count step cells first) i 0 < 2 ^ 64
+pub cells-fit : (count step first : ℕ) (cells : List ℕ) → ((k : ℕ) → get_or cells k 0 < 2 ^ 64)
+    → (i : ℕ) → get_or (column_of count step cells first) i 0 < 2 ^ 64
 cells-fit zero step first cells h i = omega arith
 cells-fit (suc n) step first cells h zero = h first
 cells-fit (suc n) step first cells h (suc i) = cells-fit n step first (drop step cells) (λ k. rw (get_or-drop step cells k 0) (h (step + k))) i

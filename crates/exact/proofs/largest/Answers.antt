@@ -14,7 +14,8 @@ use Rattle.exact.proofs.largest.Goals.{else-is_no_inf-via-then-is_no_inf+else-q-
 pub scaled-all-requires : goal.scaled-all-requires
 scaled-all-requires c =
     let p = digits (shape_of c.args.f) in
-    (omega (arith, width_le c.args.f), rw (c.ones.ensures, c.digits-p.ensures) (ones-fit c.args.q p c.requires.0 c.requires.1 (omega (arith, width_le c.args.f))))
+    let width = width_le c.args.f in
+    (omega (arith, width), rw (c.ones.ensures, c.digits-p.ensures) (ones-fit c.args.q p c.requires.0 c.requires.1 (omega (arith, width))))
 
 pub overflow_sub-result : goal.overflow_sub-result
 overflow_sub-result c =
@@ -42,7 +43,8 @@ returns-else-is_no_inf c =
     let no = is_no_inf (kind_of f.kind) in
     let short : (no && eqb q (digits f)) ≡ false =
     elim c.else-is_no_inf.branch [
-      | else-is_no_inf-via-then-is_no_inf+else-q-p w ↦ ap (◌&&◌ no) (ne_eqb q (digits f) (λ e. w.if-q-p.false (e ∙ sym c.digits-p.ensures))) ∙ and-false no
+      | else-is_no_inf-via-then-is_no_inf+else-q-p w ↦
+          ap (◌&&◌ no) (ne_eqb q (digits f) (λ e. w.if-q-p.false (e ∙ sym c.digits-p.ensures))) ∙ and-false no
       | else-is_no_inf-via-else-is_no_inf w ↦ rw (sym c.is_no_inf.ensures ∙ w.if-is_no_inf.false)
     ] in (
       cc (range, all, largest-plain f q c.args.negative short),

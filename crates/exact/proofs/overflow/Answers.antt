@@ -35,7 +35,8 @@ returns-in-Finite c =
     let a = c.args in
     let l = c.largest in
     let goes = sym c.overflows_to_infinity.ensures ∙ c.if-not-overflows_to_infinity.false in (
-      overflow-only (shape_of a.f) (env_of a.c) a.q a.negative goes (switched_off _ c.if-c.false) (unpacked_of l.result) l.ensures.0 (ap number_of c.in-Finite.is),
+      overflow-only (shape_of a.f) (env_of a.c) a.q a.negative goes (switched_off _ c.if-c.false) (unpacked_of l.result)
+          l.ensures.0 (ap number_of c.in-Finite.is),
       l.ensures.1,
       search rules,
     )
