@@ -4,7 +4,6 @@ use mathlib.Core.Logic.{◌≢◌}
 use mathlib.Core.Bool.{Bool, true, false, not, ◌||◌}
 use mathlib.Core.List.{List, ◌++◌}
 use Prim.Native.Nat.{ℕ, ◌+◌, ◌*◌, ◌%◌, ◌^◌, ◌<◌, ◌≤◌}
-use native.Mathlib.Omega.{arith}
 use lib.Dec.{eqb, leb, ltb}
 use lib.IntN.{ℤ}
 use lib.ListN.{length, drop}
@@ -138,14 +137,14 @@ four-laid old m h z p =
 abbrev second : Answer → ℕ → ℕ
 second a h = h + 65536 * a.flags + 16777216 * a.side
 
-pub tens-written : (a : Answer) (old b₁ b₂ b₃ b₄ : List ℕ) (h m : ℕ) → FitsTens a old → a.result ≡ joined h m → m < 2 ^ 64 → b₁ ≡ laid old 0 m
-    → b₂ ≡ laid b₁ 8 (second a h) → b₃ ≡ laid b₂ 16 0 → b₄ ≡ laid b₃ 24 a.passes → b₄ ≡ extended_written a old
-tens-written a old b₁ b₂ b₃ b₄ h m k e hm e₁ e₂ e₃ e₄ =
+pub tens-written : (a : Answer) (old b₁ b₂ b₃ b₄ : List ℕ) (h m : ℕ) → FitsTens a old → a.result ≡ joined h m → h < 65536 → m < 2 ^ 64
+    → b₁ ≡ laid old 0 m → b₂ ≡ laid b₁ 8 (second a h) → b₃ ≡ laid b₂ 16 0 → b₄ ≡ laid b₃ 24 a.passes → b₄ ≡ extended_written a old
+tens-written a old b₁ b₂ b₃ b₄ h m k e hh hm e₁ e₂ e₃ e₄ =
     e₄
     ∙ ap (λ (l : List ℕ). laid l 24 a.passes)
     (e₃ ∙ ap (λ (l : List ℕ). laid l 16 0) (e₂ ∙ ap (λ (l : List ℕ). laid l 8 (second a h)) e₁))
     ∙ four-laid old m (second a h) 0 a.passes
-    ∙ sym (four-words a old h m e (omega (arith, k.result, e)) hm k.flags k.side)
+    ∙ sym (four-words a old h m e hh hm k.flags k.side)
 
 module _ (a : Answer) (old : List ℕ) where
   pub tens-refused : (k : ℕ) → k ≡ a.refusal → k ≢ 0 → Enters (extended_entered a old) k old
@@ -180,7 +179,7 @@ module _ (f : Format) (c : Settings) (u : ℕ) (bytes old : List ℕ) where
       pub sum_fits : 32 ≤ length old → FitsTens a old
       sum_fits h =
           let t = extended_fits.0 f c u (tens_in bytes) in
-          subst (λ (r : Answer). FitsTens r old) (sym is) (record { room = h; result = t.result; flags = t.flags; side = t.side })
+          subst (λ (r : Answer). FitsTens r old) (sym is) (record { room = h; flags = t.flags; side = t.side })
 
       pub sum-written : 32 ≤ length old → extended_sum_refusal f c u (tens_in bytes) ≡ 0 → (b : List ℕ) → b ≡ extended_written a old
           → Enters (extended_sum_entry f c u bytes old) 0 b
@@ -219,7 +218,7 @@ module _ (f : Format) (c : Settings) (left right old : List ℕ) where
         pub dot-fits : 32 ≤ length old → FitsTens a old
         dot-fits h =
             let t = extended_fits.1 f c (tens_in left) (tens_in right) in
-            subst (λ (r : Answer). FitsTens r old) (sym is) (record { room = h; result = t.result; flags = t.flags; side = t.side })
+            subst (λ (r : Answer). FitsTens r old) (sym is) (record { room = h; flags = t.flags; side = t.side })
 
         pub dot-written : 32 ≤ length old → extended_dot_refusal f c (tens_in left) (tens_in right) ≡ 0 → (b : List ℕ) → b ≡ extended_written a old
             → Enters (extended_dot_entry f c left right old) 0 b

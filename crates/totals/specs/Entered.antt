@@ -34,7 +34,6 @@ pub record Fits (a : Answer) (buffer : List ℕ) : Type 0 where
 -- the same of an accepted record of kind 4
 pub record FitsTens (a : Answer) (buffer : List ℕ) : Type 0 where
   pub room : 32 ≤ length buffer
-  pub result : a.result < 2 ^ 80
   pub flags : a.flags < 256
   pub side : a.side < 4
 
