@@ -7,6 +7,7 @@ use binary::extended::is_unsupported;
 use values::ten_at;
 
 // Whether a list has an unsupported encoding.
+#[tactic(auto, using(crate::proofs::Tens::tens_length))]
 pub fn any_unsupported(values: &[u8]) -> bool
     ensures { result ≡ any spec.unsupported (spec.tens_in values.now) }
 {

@@ -163,6 +163,7 @@ pub struct Tens<'a> {
     pub values: &'a [u8],
 }
 
+#[tactic(auto, using(crate::proofs::Tens::tens_length), unfolding(totals_spec::specs::Extended::extended_item, totals_spec::specs::Extended::extended_pair))]
 impl Numbers for Tens<'_> {
     ghost encoding = { λ s. of_tens };
 
