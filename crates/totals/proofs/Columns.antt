@@ -16,7 +16,8 @@ pub fewer-pass : (f : Format) (c : Settings) (u n m : ℕ) → n ≤ m → sum_n
 unfolding sum_numbers
 fewer-pass f c u n m h = go (not (valid_format f)) (not (valid_settings f c && leb u 2)) (ltb limit m) refl
   where
-    go : (a b d : Bool) → ltb limit m ≡ d → refuse_if a 3 (refuse_if b 4 (refuse_if d 6 0)) ≡ 0 → refuse_if a 3 (refuse_if b 4 (refuse_if (ltb limit n) 6 0)) ≡ 0
+    go : (a b d : Bool) → ltb limit m ≡ d → refuse_if a 3 (refuse_if b 4 (refuse_if d 6 0)) ≡ 0
+        → refuse_if a 3 (refuse_if b 4 (refuse_if (ltb limit n) 6 0)) ≡ 0
     go true b d q e = e
     go false true d q e = e
     go false false true q e = absurd (omega (arith, e))

@@ -119,7 +119,8 @@ module _ (s : Bool) (n : ℕ) where
   pub beyond-range : 2 ^ 63 ≤ n → refused_pence 8 ≡ in_range s n
   beyond-range h = rw (le-ltb _ _ h)
 
-  pub within-range : (z : ℤ) → n < 2 ^ 63 → z ≡ cond s (neg_ℤ (pos n)) (pos n) → record { figure = to_z w64 (of_z w64 z); refusal = 0; place = 0 } ≡ in_range s n
+  pub within-range : (z : ℤ) → n < 2 ^ 63 → z ≡ cond s (neg_ℤ (pos n)) (pos n)
+      → record { figure = to_z w64 (of_z w64 z); refusal = 0; place = 0 } ≡ in_range s n
   within-range z h e =
       rw (lt-ltb _ _ h)
       (ap (λ (x : ℤ). record { figure = x; refusal = 0; place = 0 }) (ap (λ (x : ℤ). to_z w64 (of_z w64 x)) e ∙ to_z-of_z w64 _ (signed-fits n h s)))

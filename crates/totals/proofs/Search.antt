@@ -58,8 +58,8 @@ pub word_wide : (w : ℕ) (l : List ℕ) → 64 ≤ w → ((k : ℕ) → get_or 
 word_wide w l e = none_below (stray_at w) _ l (λ x h. lt-leb (2 ^ w) x (omega (arith, h, pow_mono {j = w} e)))
 
 -- 2^64 − 1 without its lowest 64 − w bits
-pub ones-shifted : (w : ℕ) → w ≤ 64 → 18446744073709551615 / 2 ^ (64 - w) + 1 ≡ 2 ^ w
-ones-shifted w h = ap (λ (n : ℕ). n + 1) (div-eq_of_lt-le {k = 2 ^ w - 1} (2 ^ (64 - w)) {m = 18446744073709551615} low high) ∙ back (2 ^ w) (pow_pos w)
+pub ones_shifted : (w : ℕ) → w ≤ 64 → 18446744073709551615 / 2 ^ (64 - w) + 1 ≡ 2 ^ w
+ones_shifted w h = ap (λ (n : ℕ). n + 1) (div-eq_of_lt-le {k = 2 ^ w - 1} (2 ^ (64 - w)) {m = 18446744073709551615} low high) ∙ back (2 ^ w) (pow_pos w)
   where
     whole : 2 ^ w * 2 ^ (64 - w) ≡ 18446744073709551616
     whole = sym (pow-add 2 w (64 - w)) ∙ ap (λ (n : ℕ). 2 ^ n) place

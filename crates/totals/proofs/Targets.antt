@@ -46,7 +46,8 @@ unfolding valid_settings reading_with
 reading-valid f d e = let z : leb (reading_with d).precision (digits f) ≡ true = le-leb 0 (digits f) (omega arith) in rw (e, z)
 
 module _ (f : Format) (d n : ℕ) (t : Format) (c : Settings) where
-  target-tests : Tests (λ z. refuse_if (not (valid_format f && valid_format t)) 3 (refuse_if (not (leb d 1 && valid_settings t c)) 4 (refuse_if (ltb limit n) 6 z)))
+  target-tests : Tests (λ z.
+      refuse_if (not (valid_format f && valid_format t)) 3 (refuse_if (not (leb d 1 && valid_settings t c)) 4 (refuse_if (ltb limit n) 6 z)))
   target-tests =
       test (not (valid_format f && valid_format t)) 3 _ (λ e. omega (arith, e)) (λ e. omega (arith, e))
       (test (not (leb d 1 && valid_settings t c)) 4 _ (λ e. omega (arith, e)) (λ e. omega (arith, e))

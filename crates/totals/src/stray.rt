@@ -5,6 +5,7 @@ ghost use Rattle.totals.specs.Stray.{FoundIn};
 use values::elements::Elements;
 
 // The greatest encoding of a width.
+#[tactic(auto, using(crate::proofs::Search::ones_shifted))]
 pub fn greatest(width: u64) -> u64
     requires { (0 < width) × (width ≤ 64) }
     ensures { result + 1 ≡ 2 ^ width }

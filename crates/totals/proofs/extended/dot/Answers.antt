@@ -7,7 +7,8 @@ use Rattle.reduction.proofs.Items.{ten-pairs-summable}
 use Rattle.reduction.proofs.Widths.{extended-known}
 use Rattle.totals.proofs.Tens.{dot-unsupported, dot-supported}
 use Rattle.totals.proofs.extended.dot.Goals as goal
-use Rattle.totals.proofs.extended.dot.Goals.{then-any_unsupported-via-then-any_unsupported, then-any_unsupported-via-else-any_unsupported+then-any_unsupported-2}
+use Rattle.totals.proofs.extended.dot.Goals.{then-any_unsupported-via-then-any_unsupported}
+use Rattle.totals.proofs.extended.dot.Goals.{then-any_unsupported-via-else-any_unsupported+then-any_unsupported-2}
 
 pub scan_pairs-requires : goal.scan_pairs-requires
 scan_pairs-requires c = sym (extended-dot-accepts kind4 _ _ _ c.requires).1
@@ -22,7 +23,9 @@ returns-then-any_unsupported c =
       | then-any_unsupported-via-else-any_unsupported+then-any_unsupported-2 w ↦
           c.unsupported.ensures
           ∙ dot-unsupported _ _ _
-          (both ∙ rw (← c.any_unsupported.ensures, w.if-any_unsupported.false, ← w.any_unsupported-else-any_unsupported.ensures, w.if-any_unsupported-2.true) refl)
+          (both
+          ∙ rw (← c.any_unsupported.ensures, w.if-any_unsupported.false, ← w.any_unsupported-else-any_unsupported.ensures, w.if-any_unsupported-2.true)
+          refl)
           c.scan_pairs.ensures.subnormal
     ]
 

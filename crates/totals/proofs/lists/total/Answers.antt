@@ -27,5 +27,5 @@ pub returns-in-None : goal.returns-in-None
 returns-in-None g c =
     let a = c.args in
     let h = c.requires in
-    end-told a.f _ a.products a.infinity_first _ a.s.now _ c.decided.ensures.0 c.in-None.is h.summable.0 h.known.1 _ (rw c.digits.ensures at c.exact-e.ensures) _
-    c.finish.ensures
+    end-told a.f _ a.products a.infinity_first _ a.s.now _ c.decided.ensures.0 c.in-None.is h.summable.0 h.known.1 _
+    (rw c.digits.ensures at c.exact-e.ensures) _ c.finish.ensures

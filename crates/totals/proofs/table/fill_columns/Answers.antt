@@ -13,7 +13,8 @@ pub sum-requires : goal.sum-requires
 sum-requires c =
     let a = c.args in
     let some : a.rows * 1 ≤ a.rows * a.columns = mul-le-mul_left a.rows (omega (arith, c.loop-j-test.true)) in
-    rw (column-length a.rows a.columns a.cells.now c.loop-j.j) (fewer-pass (layout_of a.f) (env_of a.c) 0 a.rows _ (omega (arith, some, c.requires.0)) c.requires.2)
+    rw (column-length a.rows a.columns a.cells.now c.loop-j.j)
+    (fewer-pass (layout_of a.f) (env_of a.c) 0 a.rows _ (omega (arith, some, c.requires.0)) c.requires.2)
 
 pub loop-j-preserved : goal.loop-j-preserved
 loop-j-preserved c =
