@@ -3,48 +3,27 @@ use mathlib.Core.Path.{◌≡◌, refl, sym, ap, ap₂, ◌∙◌, subst}
 use mathlib.Core.Logic.{◌≢◌}
 use mathlib.Core.Bool.{Bool, ◌||◌, cond}
 use mathlib.Core.List.{List, ◌++◌}
-use Prim.Native.Nat.{ℕ, zero, suc, ◌+◌, ◌-◌, ◌*◌, ◌%◌, ◌<◌, ◌≤◌}
-use native.Mathlib.Nat.{zero-add}
+use Prim.Native.Nat.{ℕ, ◌+◌, ◌*◌, ◌<◌, ◌≤◌}
 use native.Mathlib.Omega.{arith}
-use lib.IntN.{ℤ, pos, negsuc, ◌-ℤ◌}
+use lib.IntN.{ℤ}
 use lib.ListN.{length}
-use mir.Syntax.{w64}
-use mir.Val.{SFits, to_z}
-use mir.ValLaws.{to_z_pos}
-use borrow.Author.Tests.{eq-eqb, ne_eqb, lt-ltb, le-ltb}
+use borrow.Author.Tests.{eq-eqb, ne_eqb}
 use Rattle.totals_spec.specs.Format.{Format}
 use Rattle.totals_spec.specs.Settings.{Settings}
 use Rattle.totals_spec.specs.Totals.{Answer, refused}
-use Rattle.totals_spec.specs.Bytes.{to_bytes, values_in, written}
+use Rattle.totals_spec.specs.Bytes.{to_bytes, values_in, uneven, written}
 use Rattle.totals_spec.specs.Table.{filled}
 use Rattle.totals_spec.specs.Words.{misnamed, format_by}
-use Rattle.further_spec.specs.Several.{signed_word, misnamed_at, format_at, settings_at, answer_at, slot_of, slots, target_answer, target_entry}
+use Rattle.further_spec.specs.Several.{misnamed_at, format_at, settings_at, answer_at, slot_of, slots, target_answer, target_entry}
 use Rattle.totals_spec.proofs.Accepted.{cond_has}
 use Rattle.further_spec.proofs.Targets.{target_small, target_fits}
 use Rattle.values.specs.Laid.{laid}
 use Rattle.page.specs.Paged.{laid_over}
 use Rattle.page.proofs.Laying.{over-next}
+use Rattle.totals.specs.declared.refusal.Refusal.{Refusal}
 use Rattle.totals.specs.Entered.{Enters, Fits}
-use Rattle.totals.proofs.Written.{flags-side}
-
--- ---- the upper half of a word, as a number below 0
-
-below_one : (m : ℕ) → negsuc 0 -ℤ pos m ≡ negsuc m
-below_one zero = refl
-below_one (suc m) = ap (λ (n : ℕ). negsuc (suc n)) (zero-add m)
-
-module _ (x : ℕ) (high : 9223372036854775808 ≤ x) (most : x < 18446744073709551616) where
-  low : 18446744073709551615 - x < 9223372036854775808
-  low = omega (arith, high, most)
-
-  pub word_below : negsuc 0 -ℤ to_z w64 (18446744073709551615 - x) ≡ negsuc (18446744073709551615 - x)
-  word_below = ap (λ (y : ℤ). negsuc 0 -ℤ y) (to_z_pos w64 (18446744073709551615 - x) low) ∙ below_one (18446744073709551615 - x)
-
-  pub word_fits : SFits w64 (negsuc (18446744073709551615 - x))
-  word_fits = record { sfits = low }
-
-  pub word-signed : negsuc (18446744073709551615 - x) ≡ signed_word x
-  word-signed = rw (le-ltb x 9223372036854775808 high, lt-ltb x 18446744073709551616 most) (ap negsuc (omega (arith, most)))
+use Rattle.totals.specs.Refusal.{number_of, length_numbers}
+use Rattle.totals.proofs.Written.{flags-side, turned-away, let-through}
 
 -- ---- slots
 
@@ -117,19 +96,14 @@ module _ (k e w named : ℕ) (b : ℤ) (d : ℕ) (targets bytes old : List ℕ) 
   not_three h = rw (ne_eqb (length targets) 312 h) (record { code_is = refl; buffer-is = refl })
 
   module _ (three : length targets ≡ 312) where
-    pub targets-uneven : length bytes % 8 ≢ 0 → Enters (target_entry k e w named b d targets bytes old) 1 old
+    pub targets-turned : (r : Refusal) → number_of r ≡ length_numbers (uneven bytes) (length old) 96
+        → Enters (target_entry k e w named b d targets bytes old) (number_of r) old
     unfolding target_entry
-    targets-uneven h = rw (eq-eqb (length targets) 312 three, ne_eqb (length bytes % 8) 0 h) (record { code_is = refl; buffer-is = refl })
+    targets-turned r h = rw (eq-eqb (length targets) 312 three) (turned-away (uneven bytes) (length old) 96 _ old r h)
 
-    module _ (even : length bytes % 8 ≡ 0) where
-      pub targets-short : length old < 96 → Enters (target_entry k e w named b d targets bytes old) 2 old
-      unfolding target_entry
-      targets-short h =
-          rw (eq-eqb (length targets) 312 three, eq-eqb (length bytes % 8) 0 even, lt-ltb (length old) 96 h) (record { code_is = refl; buffer-is = refl })
-
-      pub targets-enter : 96 ≤ length old → (new : List ℕ)
-          → new ≡ filled (slots (misnamed named b) (format_by k e w named b) d (values_in bytes) (values_in targets)) old
-          → Enters (target_entry k e w named b d targets bytes old) 0 new
-      unfolding target_entry
-      targets-enter h new is =
-          rw (eq-eqb (length targets) 312 three, eq-eqb (length bytes % 8) 0 even, le-ltb (length old) 96 h) (record { code_is = refl; buffer-is = is })
+    pub targets-enter : 0 ≡ length_numbers (uneven bytes) (length old) 96 → (new : List ℕ)
+        → new ≡ filled (slots (misnamed named b) (format_by k e w named b) d (values_in bytes) (values_in targets)) old
+        → Enters (target_entry k e w named b d targets bytes old) 0 new
+    unfolding target_entry
+    targets-enter h new is =
+        rw (eq-eqb (length targets) 312 three) (let-through (uneven bytes) (length old) 96 _ old h 0 new (record { code_is = refl; buffer-is = is }))

@@ -1,14 +1,14 @@
 -- Kind 4: its refusals by what sums and dots refuse alike, an unsupported element, and what its entries leave behind.
-use mathlib.Core.Path.{◌≡◌, refl, sym, ap, ◌∙◌, subst, subst₂}
+use mathlib.Core.Path.{◌≡◌, refl, sym, ap, ◌∙◌, subst₂}
 use mathlib.Core.Logic.{◌≢◌}
 use mathlib.Core.Bool.{Bool, true, false, not, ◌||◌}
 use mathlib.Core.List.{List, ◌++◌}
 use Prim.Native.Nat.{ℕ, ◌+◌, ◌*◌, ◌%◌, ◌^◌, ◌<◌, ◌≤◌}
+use native.Mathlib.Omega.{arith}
 use lib.Dec.{eqb, leb, ltb}
-use lib.IntN.{ℤ}
 use lib.ListN.{length, drop}
 use lib.Seq.{drop-drop}
-use borrow.Author.Tests.{eq-eqb, ne_eqb, lt-ltb, le-ltb, le-leb, lt-leb}
+use borrow.Author.Tests.{eq-eqb, ne_eqb, le-leb, lt-leb}
 use Rattle.totals_spec.specs.Basics.{any}
 use Rattle.totals_spec.specs.Alone.{Alone}
 use Rattle.totals_spec.specs.Decode.{Unpacked}
@@ -18,9 +18,10 @@ use Rattle.totals_spec.specs.Nan.{default_nan_of}
 use Rattle.totals_spec.specs.Totals.{Answer, limit, refuse_if, special, pairs}
 use Rattle.totals_spec.specs.Bytes.{to_bytes, sum_entry, dot_entry}
 use Rattle.totals_spec.specs.Halves.{joined}
-use Rattle.totals_spec.specs.Extended.{extended, kind4, valid_extended, unsupported, subnormal_extended, with_spread, tens_in, both_of, extended_item, extended_pair}
+use Rattle.totals_spec.specs.Extended.{extended, kind4, valid_extended, unsupported, subnormal_extended, with_spread, tens_in, both_of}
+use Rattle.totals_spec.specs.Extended.{extended_item, extended_pair}
 use Rattle.totals_spec.specs.Extended.{extended_sum, extended_sum_refusal, extended_sum_answer, extended_dot, extended_dot_refusal, extended_dot_answer}
-use Rattle.totals_spec.specs.Extended.{extended_written, extended_entered, extended_sum_entry, extended_dot_entry, sum_call, dot_call}
+use Rattle.totals_spec.specs.Extended.{uneven_tens, extended_written, extended_entered, extended_sum_entry, extended_dot_entry, sum_call, dot_call}
 use Rattle.totals_spec.proofs.Order.{first-zero}
 use Rattle.totals_spec.proofs.Extended.{extended-sum-refusal, extended-dot-refusal, extended_fits}
 use Rattle.totals_spec.proofs.ExtendedCalls.{sum-extended, dot-extended, other-kinds}
@@ -33,10 +34,11 @@ use Rattle.scan.specs.Encodings.{of_tens, signaling_in}
 use Rattle.reduction.specs.declared.total.Wide.{Wide}
 use Rattle.reduction.specs.Answered.{wide, Known, answer_as, given_as}
 use Rattle.totals.specs.declared.refusal.Refusal.{Refusal}
-use Rattle.totals.specs.Refusal.{number_of, first_numbers, few_number}
+use Rattle.totals.specs.Refusal.{number_of, first_numbers, few_number, length_numbers}
 use Rattle.totals.specs.Walked.{sum_in, dot_in}
-use Rattle.totals.specs.Entered.{Enters, FitsTens, format_with}
+use Rattle.totals.specs.Entered.{Enters, FitsTens}
 use Rattle.totals.proofs.Refusals.{number-some, first-told, and-true, row-summand, row-few, row-unlike, row-alike}
+use Rattle.totals.proofs.Written.{let_in, turned-away, let-through}
 
 -- ---- refusals
 
@@ -76,7 +78,7 @@ module _ (f : Format) (c : Settings) where
   unfolding extended_sum_refusal valid_extended
   sum-asked u l e = (first-zero (not (valid_extended f)) 2 _ e).1
 
-  pub sum_told : (u : ℕ) (l : List ℕ) → extended_sum_refusal f c u l ≡ 0 → extended_sum c (summand_of u) l ≡ extended_sum_answer f c u l
+  sum_told : (u : ℕ) (l : List ℕ) → extended_sum_refusal f c u l ≡ 0 → extended_sum c (summand_of u) l ≡ extended_sum_answer f c u l
   unfolding extended_sum_answer
   sum_told u l e = rw e
 
@@ -84,7 +86,7 @@ module _ (f : Format) (c : Settings) where
   unfolding extended_dot_refusal valid_extended
   dot-asked x y e = (first-zero (not (valid_extended f)) 2 _ e).1
 
-  pub dot-told : (x y : List ℕ) → extended_dot_refusal f c x y ≡ 0 → extended_dot c (pairs x y) ≡ extended_dot_answer f c x y
+  dot-told : (x y : List ℕ) → extended_dot_refusal f c x y ≡ 0 → extended_dot c (pairs x y) ≡ extended_dot_answer f c x y
   unfolding extended_dot_answer
   dot-told x y e = rw e
 
@@ -100,7 +102,8 @@ module _ (c : Settings) where
   unfolding extended_sum extended_item
   sum-supported u l e = sym (supported-record c _ _ _ _ e)
 
-  pub dot-unsupported : (l : List (ℕ × ℕ)) (sub : Bool) → any unsupported (both_of l) ≡ true → sub ≡ any (λ x. subnormal_extended x.0 || subnormal_extended x.1) l
+  pub dot-unsupported : (l : List (ℕ × ℕ)) (sub : Bool) → any unsupported (both_of l) ≡ true
+      → sub ≡ any (λ x. subnormal_extended x.0 || subnormal_extended x.1) l
       → with_spread (special extended sub (default_nan_of c) true) ≡ extended_dot c l
   unfolding extended_dot
   dot-unsupported l sub e s = rw (s, ← any-both subnormal_extended l) (sym (unsupported-record c _ _ _ _ e))
@@ -147,105 +150,100 @@ tens-written a old b₁ b₂ b₃ b₄ h m k e hh hm e₁ e₂ e₃ e₄ =
     ∙ sym (four-words a old h m e hh hm k.flags k.side)
 
 module _ (a : Answer) (old : List ℕ) where
-  pub tens-refused : (k : ℕ) → k ≡ a.refusal → k ≢ 0 → Enters (extended_entered a old) k old
+  tens-refused : (k : ℕ) → k ≡ a.refusal → k ≢ 0 → Enters (extended_entered a old) k old
   unfolding extended_entered
   tens-refused k e h = rw (ne_eqb a.refusal 0 (λ z. h (e ∙ z))) (record { code_is = e; buffer-is = refl })
 
-  pub tens-entered : (b : List ℕ) → a.refusal ≡ 0 → b ≡ extended_written a old → Enters (extended_entered a old) 0 b
+  tens-entered : (b : List ℕ) → a.refusal ≡ 0 → b ≡ extended_written a old → Enters (extended_entered a old) 0 b
   unfolding extended_entered
   tens-entered b z e = rw (eq-eqb a.refusal 0 z) (record { code_is = refl; buffer-is = e })
 
 module _ (f : Format) (c : Settings) (u : ℕ) (bytes old : List ℕ) where
-  pub sum-uneven : length bytes % 10 ≢ 0 → Enters (extended_sum_entry f c u bytes old) 1 old
+  pub sum-turned : (e : Refusal) → number_of e ≡ length_numbers (uneven_tens bytes) (length old) 32
+      → Enters (extended_sum_entry f c u bytes old) (number_of e) old
   unfolding extended_sum_entry
-  sum-uneven h = rw (ne_eqb (length bytes % 10) 0 h) (record { code_is = refl; buffer-is = refl })
+  sum-turned = turned-away (uneven_tens bytes) (length old) 32 _ old
 
-  module _ (even : length bytes % 10 ≡ 0) where
-    pub sum-short : length old < 32 → Enters (extended_sum_entry f c u bytes old) 2 old
-    unfolding extended_sum_entry
-    sum-short h = rw (eq-eqb (length bytes % 10) 0 even, lt-ltb (length old) 32 h) (record { code_is = refl; buffer-is = refl })
-
+  module _ (passed : 0 ≡ length_numbers (uneven_tens bytes) (length old) 32) where
     abbrev sum_tens : Answer
     sum_tens = extended_sum_answer f c u (tens_in bytes)
 
-    sum-enters : 32 ≤ length old → (k : ℕ) (b : List ℕ) → Enters (extended_entered sum_tens old) k b → Enters (extended_sum_entry f c u bytes old) k b
+    sum-enters : (k : ℕ) (b : List ℕ) → Enters (extended_entered sum_tens old) k b → Enters (extended_sum_entry f c u bytes old) k b
     unfolding extended_sum_entry
-    sum-enters h k b r = rw (eq-eqb (length bytes % 10) 0 even, le-ltb (length old) 32 h) r
+    sum-enters = let-through (uneven_tens bytes) (length old) 32 _ old passed
 
-    pub sum-refused : 32 ≤ length old → (k : ℕ) → k ≡ extended_sum_refusal f c u (tens_in bytes) → k ≢ 0 → Enters (extended_sum_entry f c u bytes old) k old
-    sum-refused h k e n = sum-enters h k old (tens-refused sum_tens old k (e ∙ sym (extended-sum-refusal f c u (tens_in bytes))) n)
+    pub sum-refused : (e : Refusal) → number_of e ≡ extended_sum_refusal f c u (tens_in bytes)
+        → Enters (extended_sum_entry f c u bytes old) (number_of e) old
+    sum-refused e h =
+        sum-enters (number_of e) old
+        (tens-refused sum_tens old (number_of e) (h ∙ sym (extended-sum-refusal f c u (tens_in bytes))) (number-some e))
 
-    module _ (a : Answer) (is : a ≡ sum_tens) where
-      pub sum_fits : 32 ≤ length old → FitsTens a old
-      sum_fits h =
+    module _ (z : extended_sum_refusal f c u (tens_in bytes) ≡ 0) {a : Answer} (is : a ≡ extended_sum c (summand_of u) (tens_in bytes)) where
+      sum-is : a ≡ sum_tens
+      sum-is = is ∙ sum_told f c u (tens_in bytes) z
+
+      pub sum_fits : FitsTens a old
+      sum_fits =
           let t = extended_fits.0 f c u (tens_in bytes) in
-          subst (λ (r : Answer). FitsTens r old) (sym is) (record { room = h; flags = t.flags; side = t.side })
+          rw sum-is (record { room = (let_in (uneven_tens bytes) (length old) 32 passed).1; flags = t.flags; side = t.side })
 
-      pub sum-written : 32 ≤ length old → extended_sum_refusal f c u (tens_in bytes) ≡ 0 → (b : List ℕ) → b ≡ extended_written a old
-          → Enters (extended_sum_entry f c u bytes old) 0 b
-      sum-written h z b e =
-          sum-enters h 0 b
-          (tens-entered sum_tens old b (extended-sum-refusal f c u (tens_in bytes) ∙ z) (e ∙ ap (λ (r : Answer). extended_written r old) is))
+      pub sum-written : (b : List ℕ) → b ≡ extended_written a old → Enters (extended_sum_entry f c u bytes old) 0 b
+      sum-written b e =
+          sum-enters 0 b
+          (tens-entered sum_tens old b (extended-sum-refusal f c u (tens_in bytes) ∙ z) (e ∙ ap (λ (r : Answer). extended_written r old) sum-is))
 
 module _ (f : Format) (c : Settings) (left right old : List ℕ) where
-  pub dot-uneven-left : length left % 10 ≢ 0 → Enters (extended_dot_entry f c left right old) 1 old
+  pub dot-turned : (e : Refusal) → number_of e ≡ length_numbers (uneven_tens left || uneven_tens right) (length old) 32
+      → Enters (extended_dot_entry f c left right old) (number_of e) old
   unfolding extended_dot_entry
-  dot-uneven-left h = rw (ne_eqb (length left % 10) 0 h) (record { code_is = refl; buffer-is = refl })
+  dot-turned = turned-away (uneven_tens left || uneven_tens right) (length old) 32 _ old
 
-  module _ (first : length left % 10 ≡ 0) where
-    pub dot-uneven-right : length right % 10 ≢ 0 → Enters (extended_dot_entry f c left right old) 1 old
+  module _ (passed : 0 ≡ length_numbers (uneven_tens left || uneven_tens right) (length old) 32) where
+    abbrev dot_tens : Answer
+    dot_tens = extended_dot_answer f c (tens_in left) (tens_in right)
+
+    dot-enters : (k : ℕ) (b : List ℕ) → Enters (extended_entered dot_tens old) k b → Enters (extended_dot_entry f c left right old) k b
     unfolding extended_dot_entry
-    dot-uneven-right h = rw (eq-eqb (length left % 10) 0 first, ne_eqb (length right % 10) 0 h) (record { code_is = refl; buffer-is = refl })
+    dot-enters = let-through (uneven_tens left || uneven_tens right) (length old) 32 _ old passed
 
-    module _ (next : length right % 10 ≡ 0) where
-      pub dot-short : length old < 32 → Enters (extended_dot_entry f c left right old) 2 old
-      unfolding extended_dot_entry
-      dot-short h =
-          rw (eq-eqb (length left % 10) 0 first, eq-eqb (length right % 10) 0 next, lt-ltb (length old) 32 h) (record { code_is = refl; buffer-is = refl })
+    pub dot-refused : (e : Refusal) → number_of e ≡ extended_dot_refusal f c (tens_in left) (tens_in right)
+        → Enters (extended_dot_entry f c left right old) (number_of e) old
+    dot-refused e h =
+        dot-enters (number_of e) old
+        (tens-refused dot_tens old (number_of e) (h ∙ sym (extended-dot-refusal f c (tens_in left) (tens_in right))) (number-some e))
 
-      abbrev dot_tens : Answer
-      dot_tens = extended_dot_answer f c (tens_in left) (tens_in right)
+    module _ (z : extended_dot_refusal f c (tens_in left) (tens_in right) ≡ 0)
+        {a : Answer} (is : a ≡ extended_dot c (pairs (tens_in left) (tens_in right))) where
+      dot-is : a ≡ dot_tens
+      dot-is = is ∙ dot-told f c (tens_in left) (tens_in right) z
 
-      dot-enters : 32 ≤ length old → (k : ℕ) (b : List ℕ) → Enters (extended_entered dot_tens old) k b → Enters (extended_dot_entry f c left right old) k b
-      unfolding extended_dot_entry
-      dot-enters h k b r = rw (eq-eqb (length left % 10) 0 first, eq-eqb (length right % 10) 0 next, le-ltb (length old) 32 h) r
+      pub dot_fits : FitsTens a old
+      dot_fits =
+          let t = extended_fits.1 f c (tens_in left) (tens_in right) in
+          let room = (let_in (uneven_tens left || uneven_tens right) (length old) 32 passed).1 in
+          rw dot-is (record { room = room; flags = t.flags; side = t.side })
 
-      pub dot-refused : 32 ≤ length old → (k : ℕ) → k ≡ extended_dot_refusal f c (tens_in left) (tens_in right) → k ≢ 0
-          → Enters (extended_dot_entry f c left right old) k old
-      dot-refused h k e n = dot-enters h k old (tens-refused dot_tens old k (e ∙ sym (extended-dot-refusal f c (tens_in left) (tens_in right))) n)
-
-      module _ (a : Answer) (is : a ≡ dot_tens) where
-        pub dot-fits : 32 ≤ length old → FitsTens a old
-        dot-fits h =
-            let t = extended_fits.1 f c (tens_in left) (tens_in right) in
-            subst (λ (r : Answer). FitsTens r old) (sym is) (record { room = h; flags = t.flags; side = t.side })
-
-        pub dot-written : 32 ≤ length old → extended_dot_refusal f c (tens_in left) (tens_in right) ≡ 0 → (b : List ℕ) → b ≡ extended_written a old
-            → Enters (extended_dot_entry f c left right old) 0 b
-        dot-written h z b e =
-            dot-enters h 0 b
-            (tens-entered dot_tens old b (extended-dot-refusal f c (tens_in left) (tens_in right) ∙ z) (e ∙ ap (λ (r : Answer). extended_written r old) is))
+      pub dot-written : (b : List ℕ) → b ≡ extended_written a old → Enters (extended_dot_entry f c left right old) 0 b
+      dot-written b e =
+          dot-enters 0 b
+          (tens-entered dot_tens old b (extended-dot-refusal f c (tens_in left) (tens_in right) ∙ z) (e ∙ ap (λ (r : Answer). extended_written r old) dot-is))
 
 -- ---- the exported entries: kind 4, and any other
 
-module _ (k E W : ℕ) (n : Bool) (b : ℤ) (c : Settings) (r : ℕ) where
-  module _ (u : ℕ) (bytes old new : List ℕ) where
-    pub sum-ten : k ≡ 4 → Enters (extended_sum_entry (format_with 4 E W n b) c u bytes old) r new → Enters (sum_call (format_with k E W n b) c u bytes old) r new
-    sum-ten e p =
-        subst (λ (m : ℕ). Enters (sum_call (format_with m E W n b) c u bytes old) r new) (sym e) (rw (sum-extended (format_with 4 E W n b) refl c u bytes old) p)
+module _ (f : Format) (c : Settings) (r : ℕ) (new : List ℕ) where
+  module _ (u : ℕ) (bytes old : List ℕ) where
+    pub sum-ten : f.kind ≡ 4 → Enters (extended_sum_entry f c u bytes old) r new → Enters (sum_call f c u bytes old) r new
+    sum-ten e p = rw (sum-extended f e c u bytes old) p
 
-    pub sum-other : k ≢ 4 → Enters (sum_entry (format_with k E W n b) c u bytes old) r new → Enters (sum_call (format_with k E W n b) c u bytes old) r new
-    sum-other h p = rw ((other-kinds (format_with k E W n b) c h).0 u bytes old) p
+    pub sum-other : f.kind ≢ 4 → Enters (sum_entry f c u bytes old) r new → Enters (sum_call f c u bytes old) r new
+    sum-other h p = rw ((other-kinds f c h).0 u bytes old) p
 
-    pub sum-apart : k ≢ 4 → Enters (sum_call (format_with k E W n b) c u bytes old) r new → Enters (sum_entry (format_with k E W n b) c u bytes old) r new
-    sum-apart h p = rw ((other-kinds (format_with k E W n b) c h).0 u bytes old) at p
+    pub sum-apart : f.kind ≢ 4 → Enters (sum_call f c u bytes old) r new → Enters (sum_entry f c u bytes old) r new
+    sum-apart h p = rw ((other-kinds f c h).0 u bytes old) at p
 
-  module _ (left right old new : List ℕ) where
-    pub dot-ten : k ≡ 4 → Enters (extended_dot_entry (format_with 4 E W n b) c left right old) r new
-        → Enters (dot_call (format_with k E W n b) c left right old) r new
-    dot-ten e p =
-        subst (λ (m : ℕ). Enters (dot_call (format_with m E W n b) c left right old) r new) (sym e)
-        (rw (dot-extended (format_with 4 E W n b) refl c left right old) p)
+  module _ (left right old : List ℕ) where
+    pub dot-ten : f.kind ≡ 4 → Enters (extended_dot_entry f c left right old) r new → Enters (dot_call f c left right old) r new
+    dot-ten e p = rw (dot-extended f e c left right old) p
 
-    pub dot-other : k ≢ 4 → Enters (dot_entry (format_with k E W n b) c left right old) r new → Enters (dot_call (format_with k E W n b) c left right old) r new
-    dot-other h p = rw ((other-kinds (format_with k E W n b) c h).1 left right old) p
+    pub dot-other : f.kind ≢ 4 → Enters (dot_entry f c left right old) r new → Enters (dot_call f c left right old) r new
+    dot-other h p = rw ((other-kinds f c h).1 left right old) p

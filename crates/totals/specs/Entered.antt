@@ -1,5 +1,5 @@
 -- What a byte entry leaves behind: the number that it gives, and the buffer. And a format and settings from an entry's numbers, in its order.
-use Rattle.std.specs.Prelude.{◌≡◌, Bool, cond, List, ℕ, ◌^◌, ◌<◌, ◌≤◌, length, ℤ}
+use Rattle.std.specs.Prelude.{◌≡◌, List, ℕ, ◌^◌, ◌<◌, ◌≤◌, length, ℤ}
 use Rattle.std.proofs.Math.Option.{none, some}
 use Rattle.totals_spec.specs.Format.{Format}
 use Rattle.totals_spec.specs.Settings.{Settings}
@@ -39,9 +39,6 @@ pub record FitsTens (a : Answer) (buffer : List ℕ) : Type 0 where
 
 abbrev pub format_from : (kind exponent_bits width : ℕ) → Format
 format_from k e w = record { kind = k; E = e; W = w; named = none }
-
-abbrev pub format_with : (kind exponent_bits width : ℕ) (named : Bool) (bias : ℤ) → Format
-format_with k e w n b = record { kind = k; E = e; W = w; named = cond n (some b) none }
 
 abbrev pub biased_from : (kind exponent_bits width : ℕ) (bias : ℤ) → Format
 biased_from k e w b = record { kind = k; E = e; W = w; named = some b }

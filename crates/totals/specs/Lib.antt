@@ -8,3 +8,4 @@ pub mod Targets
 pub mod Tables
 pub mod Ranges
 pub mod Asked
+pub mod Spans

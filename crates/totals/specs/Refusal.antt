@@ -42,6 +42,10 @@ first_numbers offered f c = refuse_if (not offered) 3 (refuse_if (not (valid_set
 abbrev pub few_number : ℕ → ℕ
 few_number n = refuse_if (ltb limit n) 6 0
 
+-- refusals 1 and 2 of a byte entry, where a list is cut short or not, and the answer has so many bytes of those that are needed
+abbrev pub length_numbers : Bool → (room needed : ℕ) → ℕ
+length_numbers cut n m = refuse_if cut 1 (refuse_if (ltb n m) 2 0)
+
 -- n is the length of the list; a dot has n on the left and m on the right
 unfoldable pub sum_numbers : Format → Settings → ℕ → ℕ → ℕ
 sum_numbers f c u n =

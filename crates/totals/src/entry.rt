@@ -1,5 +1,5 @@
 // The byte entries, for callers in other languages.
-ghost use Rattle.std.specs.Prelude.{◌≡◌, true, ◌||◌, cond, ◌+◌, ◌*◌, ◌≤◌, length};
+ghost use Rattle.std.specs.Prelude.{◌≡◌, true, not, ◌||◌, cond, ◌+◌, ◌*◌, ◌%◌, ◌^◌, ◌<◌, ◌≤◌, eqb, length};
 ghost use Rattle.totals_spec.specs.Bytes as bytes;
 ghost use Rattle.totals_spec.specs.Bytes.{values_in};
 ghost use Rattle.totals_spec.specs.Extended as ten;
@@ -11,18 +11,20 @@ ghost use Rattle.format.specs.Joined.{format_of, settings_of};
 ghost use Rattle.page.specs.Paged.{laid_over};
 ghost use Rattle.reduction.specs.Answered.{answer_of, answer_as};
 ghost use Rattle.totals.specs.Ranges.{EntersRange};
-ghost use Rattle.totals.specs.Entered.{Enters, EntersFigure, EntersTable, Fits, FitsTens, format_from, format_with, biased_from, settings_from};
+ghost use Rattle.totals.specs.Refusal.{refusal_number, length_numbers};
+ghost use Rattle.totals.specs.Entered.{Enters, EntersFigure, EntersTable, Fits, FitsTens, format_from, biased_from, settings_from};
 
-use crate::pages::span_refusal;
+use crate::pages::span;
 use crate::pence::pence_of_sum;
 use crate::range::range_total;
+use crate::refusal::{Refusal, number, refuse_if};
 use crate::several::{Printed, Target, in_three};
 use crate::table::table;
 use crate::{dot_bytes, extended, sum_bytes};
 use format::Format;
 use format::env::Settings;
-use page::{PageError, write};
-use reduction::total::{Answer, Wide, refused};
+use page::{PageError, binary64, write};
+use reduction::total::{Answer, Wide};
 use values::{put_word, word_at};
 
 // The side is the third byte of its word, above the flags.
@@ -33,13 +35,22 @@ const TEN_FLAGS: u64 = 65536;
 
 const TEN_SIDE: u64 = 16777216;
 
+// The number that an entry returns where its call is refused.
+#[inline(always)]
+fn code(refusal: u64, place: u64) -> u64
+    requires { (refusal < 256) × (place < 2 ^ 32) }
+    ensures { result ≡ refusal + 256 * place }
+{
+    refusal + 256 * place
+}
+
 // An accepted record is written; any other leaves the buffer as it was. Returns the refusal, plus 256 times the place.
 fn enter(a: Answer, answer: &mut [u8]) -> u64
     requires { Fits (answer_of a) answer.old }
     ensures { Enters (bytes.entered (answer_of a) answer.old) result answer.new }
 {
     if a.refusal != 0 {
-        return a.refusal + 256 * a.place;
+        return code(a.refusal, a.place);
     }
     put_word(answer, 0, a.result);
     put_word(answer, 8, a.flags + SIDE * a.side);
@@ -63,18 +74,29 @@ fn enter_tens(t: Wide, answer: &mut [u8])
     put_word(answer, 24, a.passes);
 }
 
-// A format from an entry's numbers. The bias is looked at where it is named.
-fn format_with(kind: u64, exponent_bits: u64, width: u64, named: bool, bias: i64) -> Format
-    ensures { format_of result ≡ format_with kind exponent_bits width named bias }
+// Whether one of two lists ends within a value of so many bytes.
+#[inline(always)]
+fn either_cut(left: &[u8], right: &[u8], size: usize) -> bool
+    requires { 0 < size }
+    ensures { result ≡ (not (eqb (length left.now % size) 0) || not (eqb (length right.now % size) 0)) }
 {
-    if named {
-        return Format {
-            kind,
-            exponent_bits,
-            width,
-            named: Some(bias),
-        };
-    }
+    left.len() % size != 0 || right.len() % size != 0
+}
+
+// Refusals 1 and 2 of an entry: whether a list ends within a value, and the answer's bytes, of which some are needed.
+#[inline(always)]
+fn lengths(cut: bool, room: usize, needed: usize) -> Result<(), Refusal>
+    ensures { refusal_number result ≡ length_numbers cut room needed }
+{
+    refuse_if(cut, Refusal::UnevenLength)?;
+    refuse_if(room < needed, Refusal::ShortBuffer)
+}
+
+// Formats from an entry's numbers: one that names no bias, one that names it, and one where a number says whether it does.
+#[inline(always)]
+fn format_from(kind: u64, exponent_bits: u64, width: u64) -> Format
+    ensures { format_of result ≡ format_from kind exponent_bits width }
+{
     Format {
         kind,
         exponent_bits,
@@ -83,7 +105,29 @@ fn format_with(kind: u64, exponent_bits: u64, width: u64, named: bool, bias: i64
     }
 }
 
+#[inline(always)]
+fn biased_from(kind: u64, exponent_bits: u64, width: u64, bias: i64) -> Format
+    ensures { format_of result ≡ biased_from kind exponent_bits width bias }
+{
+    Format {
+        kind,
+        exponent_bits,
+        width,
+        named: Some(bias),
+    }
+}
+
+fn format_by(kind: u64, exponent_bits: u64, width: u64, bias_named: u64, bias: i64) -> Format
+    ensures { format_of result ≡ words.format_by kind exponent_bits width bias_named bias }
+{
+    if bias_named == 1 {
+        return biased_from(kind, exponent_bits, width, bias);
+    }
+    format_from(kind, exponent_bits, width)
+}
+
 // Settings from an entry's numbers, in its order.
+#[inline(always)]
 fn settings(
     rounding: u64,
     tininess: u64,
@@ -110,214 +154,60 @@ fn settings(
 
 // A total of kind 4, whose values have ten bytes: the lengths first.
 fn tens_sum(
-    exponent_bits: u64,
-    width: u64,
-    named: bool,
-    bias: i64,
-    rounding: u64,
-    tininess: u64,
-    nan_propagation: u64,
-    default_nan_negative: u64,
-    flush_to_zero: u64,
-    denormals_are_zero: u64,
-    saturate: u64,
-    precision: u64,
+    f: Format,
+    c: Settings,
     summand: u64,
     values: &[u8],
     answer: &mut [u8],
-) -> u64
-    ensures { Enters (ten.extended_sum_entry (format_with 4 exponent_bits width named bias) (settings_from rounding tininess nan_propagation default_nan_negative flush_to_zero denormals_are_zero saturate precision) summand values.now answer.old) result answer.new }
+) -> Result<(), Refusal>
+    ensures { Enters (ten.extended_sum_entry (format_of f) (settings_of c) summand values.now answer.old) (refusal_number result) answer.new }
 {
-    if values.len() % 10 != 0 {
-        return 1;
-    }
-    if answer.len() < 32 {
-        return 2;
-    }
-    let f = format_with(4, exponent_bits, width, named, bias);
-    let c = settings(
-        rounding,
-        tininess,
-        nan_propagation,
-        default_nan_negative,
-        flush_to_zero,
-        denormals_are_zero,
-        saturate,
-        precision,
-    );
-    match extended::sum_refusal(f, c, summand, values) {
-        Ok((env, summand)) => enter_tens(extended::sum(env, summand, values), answer),
-        Err(refusal) => return refusal.number(),
-    }
-    0
+    lengths(values.len() % 10 != 0, answer.len(), 32)?;
+    let (env, summand) = extended::sum_refusal(f, c, summand, values)?;
+    enter_tens(extended::sum(env, summand, values), answer);
+    Ok(())
 }
 
 fn tens_dot(
-    exponent_bits: u64,
-    width: u64,
-    named: bool,
-    bias: i64,
-    rounding: u64,
-    tininess: u64,
-    nan_propagation: u64,
-    default_nan_negative: u64,
-    flush_to_zero: u64,
-    denormals_are_zero: u64,
-    saturate: u64,
-    precision: u64,
+    f: Format,
+    c: Settings,
     left: &[u8],
     right: &[u8],
     answer: &mut [u8],
-) -> u64
-    ensures { Enters (ten.extended_dot_entry (format_with 4 exponent_bits width named bias) (settings_from rounding tininess nan_propagation default_nan_negative flush_to_zero denormals_are_zero saturate precision) left.now right.now answer.old) result answer.new }
+) -> Result<(), Refusal>
+    ensures { Enters (ten.extended_dot_entry (format_of f) (settings_of c) left.now right.now answer.old) (refusal_number result) answer.new }
 {
-    if left.len() % 10 != 0 {
-        return 1;
-    }
-    if right.len() % 10 != 0 {
-        return 1;
-    }
-    if answer.len() < 32 {
-        return 2;
-    }
-    let f = format_with(4, exponent_bits, width, named, bias);
-    let c = settings(
-        rounding,
-        tininess,
-        nan_propagation,
-        default_nan_negative,
-        flush_to_zero,
-        denormals_are_zero,
-        saturate,
-        precision,
-    );
-    match extended::dot_refusal(f, c, left, right) {
-        Ok(env) => enter_tens(extended::dot(env, left, right), answer),
-        Err(refusal) => return refusal.number(),
-    }
-    0
+    lengths(either_cut(left, right, 10), answer.len(), 32)?;
+    let env = extended::dot_refusal(f, c, left, right)?;
+    enter_tens(extended::dot(env, left, right), answer);
+    Ok(())
 }
 
-// What the entries of a total do: kind 4 first, then the lengths, then the total. They hand numbers over and no records, which would be stored and read again on the
-// way: of a call with one element that is a quarter.
-fn enter_sum(
-    kind: u64,
-    exponent_bits: u64,
-    width: u64,
-    named: bool,
-    bias: i64,
-    rounding: u64,
-    tininess: u64,
-    nan_propagation: u64,
-    default_nan_negative: u64,
-    flush_to_zero: u64,
-    denormals_are_zero: u64,
-    saturate: u64,
-    precision: u64,
-    summand: u64,
-    values: &[u8],
-    answer: &mut [u8],
-) -> u64
-    ensures { Enters (ten.sum_call (format_with kind exponent_bits width named bias) (settings_from rounding tininess nan_propagation default_nan_negative flush_to_zero denormals_are_zero saturate precision) summand values.now answer.old) result answer.new }
+// What the entries of a total do: kind 4 first, then the lengths, then the total. It is inlined, so that no record is stored and read again on the way: of a
+// call with one element that was a quarter.
+#[inline(always)]
+fn enter_sum(f: Format, c: Settings, summand: u64, values: &[u8], answer: &mut [u8]) -> u64
+    ensures { Enters (ten.sum_call (format_of f) (settings_of c) summand values.now answer.old) result answer.new }
 {
-    if kind == 4 {
-        return tens_sum(
-            exponent_bits,
-            width,
-            named,
-            bias,
-            rounding,
-            tininess,
-            nan_propagation,
-            default_nan_negative,
-            flush_to_zero,
-            denormals_are_zero,
-            saturate,
-            precision,
-            summand,
-            values,
-            answer,
-        );
+    if f.kind == 4 {
+        return number(tens_sum(f, c, summand, values, answer));
     }
-    if values.len() % 8 != 0 {
-        return 1;
+    if let Err(refusal) = lengths(values.len() % 8 != 0, answer.len(), 24) {
+        return refusal.number();
     }
-    if answer.len() < 24 {
-        return 2;
-    }
-    let f = format_with(kind, exponent_bits, width, named, bias);
-    let c = settings(
-        rounding,
-        tininess,
-        nan_propagation,
-        default_nan_negative,
-        flush_to_zero,
-        denormals_are_zero,
-        saturate,
-        precision,
-    );
     enter(sum_bytes(f, c, summand, values), answer)
 }
 
-fn enter_dot(
-    kind: u64,
-    exponent_bits: u64,
-    width: u64,
-    named: bool,
-    bias: i64,
-    rounding: u64,
-    tininess: u64,
-    nan_propagation: u64,
-    default_nan_negative: u64,
-    flush_to_zero: u64,
-    denormals_are_zero: u64,
-    saturate: u64,
-    precision: u64,
-    left: &[u8],
-    right: &[u8],
-    answer: &mut [u8],
-) -> u64
-    ensures { Enters (ten.dot_call (format_with kind exponent_bits width named bias) (settings_from rounding tininess nan_propagation default_nan_negative flush_to_zero denormals_are_zero saturate precision) left.now right.now answer.old) result answer.new }
+#[inline(always)]
+fn enter_dot(f: Format, c: Settings, left: &[u8], right: &[u8], answer: &mut [u8]) -> u64
+    ensures { Enters (ten.dot_call (format_of f) (settings_of c) left.now right.now answer.old) result answer.new }
 {
-    if kind == 4 {
-        return tens_dot(
-            exponent_bits,
-            width,
-            named,
-            bias,
-            rounding,
-            tininess,
-            nan_propagation,
-            default_nan_negative,
-            flush_to_zero,
-            denormals_are_zero,
-            saturate,
-            precision,
-            left,
-            right,
-            answer,
-        );
+    if f.kind == 4 {
+        return number(tens_dot(f, c, left, right, answer));
     }
-    if left.len() % 8 != 0 {
-        return 1;
+    if let Err(refusal) = lengths(either_cut(left, right, 8), answer.len(), 24) {
+        return refusal.number();
     }
-    if right.len() % 8 != 0 {
-        return 1;
-    }
-    if answer.len() < 24 {
-        return 2;
-    }
-    let f = format_with(kind, exponent_bits, width, named, bias);
-    let c = settings(
-        rounding,
-        tininess,
-        nan_propagation,
-        default_nan_negative,
-        flush_to_zero,
-        denormals_are_zero,
-        saturate,
-        precision,
-    );
     enter(dot_bytes(f, c, left, right), answer)
 }
 
@@ -340,12 +230,8 @@ pub fn totals_sum(
 ) -> u64
     ensures { Enters (ten.sum_call (format_from kind exponent_bits width) (settings_from rounding tininess nan_propagation default_nan_negative flush_to_zero denormals_are_zero saturate precision) summand values.now answer.old) result answer.new }
 {
-    enter_sum(
-        kind,
-        exponent_bits,
-        width,
-        false,
-        0,
+    let f = format_from(kind, exponent_bits, width);
+    let c = settings(
         rounding,
         tininess,
         nan_propagation,
@@ -354,10 +240,8 @@ pub fn totals_sum(
         denormals_are_zero,
         saturate,
         precision,
-        summand,
-        values,
-        answer,
-    )
+    );
+    enter_sum(f, c, summand, values, answer)
 }
 
 // The sum of the products of the pairs.
@@ -379,12 +263,8 @@ pub fn totals_dot(
 ) -> u64
     ensures { Enters (ten.dot_call (format_from kind exponent_bits width) (settings_from rounding tininess nan_propagation default_nan_negative flush_to_zero denormals_are_zero saturate precision) left.now right.now answer.old) result answer.new }
 {
-    enter_dot(
-        kind,
-        exponent_bits,
-        width,
-        false,
-        0,
+    let f = format_from(kind, exponent_bits, width);
+    let c = settings(
         rounding,
         tininess,
         nan_propagation,
@@ -393,10 +273,8 @@ pub fn totals_dot(
         denormals_are_zero,
         saturate,
         precision,
-        left,
-        right,
-        answer,
-    )
+    );
+    enter_dot(f, c, left, right, answer)
 }
 
 // The same in a format that names its bias.
@@ -419,12 +297,8 @@ pub fn totals_sum_biased(
 ) -> u64
     ensures { Enters (ten.sum_call (biased_from kind exponent_bits width bias) (settings_from rounding tininess nan_propagation default_nan_negative flush_to_zero denormals_are_zero saturate precision) summand values.now answer.old) result answer.new }
 {
-    enter_sum(
-        kind,
-        exponent_bits,
-        width,
-        true,
-        bias,
+    let f = biased_from(kind, exponent_bits, width, bias);
+    let c = settings(
         rounding,
         tininess,
         nan_propagation,
@@ -433,10 +307,8 @@ pub fn totals_sum_biased(
         denormals_are_zero,
         saturate,
         precision,
-        summand,
-        values,
-        answer,
-    )
+    );
+    enter_sum(f, c, summand, values, answer)
 }
 
 pub fn totals_dot_biased(
@@ -458,12 +330,8 @@ pub fn totals_dot_biased(
 ) -> u64
     ensures { Enters (ten.dot_call (biased_from kind exponent_bits width bias) (settings_from rounding tininess nan_propagation default_nan_negative flush_to_zero denormals_are_zero saturate precision) left.now right.now answer.old) result answer.new }
 {
-    enter_dot(
-        kind,
-        exponent_bits,
-        width,
-        true,
-        bias,
+    let f = biased_from(kind, exponent_bits, width, bias);
+    let c = settings(
         rounding,
         tininess,
         nan_propagation,
@@ -472,10 +340,8 @@ pub fn totals_dot_biased(
         denormals_are_zero,
         saturate,
         precision,
-        left,
-        right,
-        answer,
-    )
+    );
+    enter_dot(f, c, left, right, answer)
 }
 
 // The bias of a format as a caller names it: 1 and the bias, or 0 and 0. Anything else was not set up as a whole, and either reading would be a guess.
@@ -501,15 +367,16 @@ pub fn totals_pence(
     ensures { EntersFigure (words.pence_entry kind exponent_bits width bias_named bias values.now figure.old) result figure.new }
 {
     if misnamed(bias_named, bias) {
-        return 3;
+        return Refusal::NoSuchFormat.number();
     }
-    let f = format_with(kind, exponent_bits, width, bias_named == 1, bias);
-    let p = pence_of_sum(f, values);
+    let p = pence_of_sum(
+        format_by(kind, exponent_bits, width, bias_named, bias),
+        values,
+    );
     if p.refusal != 0 {
-        return p.refusal + 256 * p.place;
+        return code(p.refusal, p.place);
     }
-    let n = p.figure;
-    *figure = n;
+    *figure = p.figure;
     0
 }
 
@@ -538,13 +405,12 @@ pub fn totals_table(
     ensures { EntersTable (words.table_entry kind exponent_bits width bias_named bias (settings_from rounding tininess nan_propagation default_nan_negative flush_to_zero denormals_are_zero saturate precision) rows columns cells.now row_totals.old column_totals.old answer.old) result row_totals.new column_totals.new answer.new }
 {
     if answer.len() < 24 {
-        return 2;
+        return Refusal::ShortBuffer.number();
     }
     if misnamed(bias_named, bias) {
-        return 3;
+        return Refusal::NoSuchFormat.number();
     }
-    let named = bias_named == 1;
-    let f = format_with(kind, exponent_bits, width, named, bias);
+    let f = format_by(kind, exponent_bits, width, bias_named, bias);
     let c = settings(
         rounding,
         tininess,
@@ -571,7 +437,7 @@ pub fn totals_range(
     ensures { EntersRange (words.range_entry tags.now first.old second.old ceiling pair.old) result first.new second.new pair.new }
 {
     if pair.len() < 2 {
-        return 2;
+        return Refusal::ShortBuffer.number();
     }
     let r = range_total(tags, first, second, ceiling);
     if r.refusal != 0 {
@@ -598,14 +464,12 @@ fn format_at(targets: &[u8], j: usize) -> Format
     requires { 8 * (j + 13) ≤ length targets.now }
     ensures { format_of result ≡ several.format_at (values_in targets.now) j }
 {
-    let named = word_at(targets, j + 3) == 1;
-    let bias = signed_word(word_at(targets, j + 4));
-    format_with(
+    format_by(
         word_at(targets, j),
         word_at(targets, j + 1),
         word_at(targets, j + 2),
-        named,
-        bias,
+        word_at(targets, j + 3),
+        signed_word(word_at(targets, j + 4)),
     )
 }
 
@@ -640,13 +504,10 @@ fn named_answer(bad: bool, targets: &[u8], j: usize, a: Answer) -> Answer
     requires { 8 * (j + 13) ≤ length targets.now }
     ensures { answer_of result ≡ cond (bad || several.misnamed_at (values_in targets.now) j) (totals.refused 3 0) (answer_of a) }
 {
-    if bad {
-        return refused(3, 0);
-    }
     let named = word_at(targets, j + 3);
     let bias = signed_word(word_at(targets, j + 4));
-    if misnamed(named, bias) {
-        return refused(3, 0);
+    if bad || misnamed(named, bias) {
+        return Answer::from(Refusal::NoSuchFormat);
     }
     a
 }
@@ -675,7 +536,7 @@ fn put_slot(answer: &mut [u8], at: usize, a: Answer)
     requires { (at + 32 ≤ length answer.old) × Fits (answer_of a) answer.old }
     ensures { answer.new ≡ laid_over answer.old at (several.slot_of (answer_of a)) }
 {
-    put_word(answer, at, a.refusal + 256 * a.place);
+    put_word(answer, at, code(a.refusal, a.place));
     put_word(answer, at + 8, a.result);
     put_word(answer, at + 16, a.flags + SIDE * a.side);
     put_word(answer, at + 24, a.passes);
@@ -696,17 +557,13 @@ pub fn totals_sum_into(
     ensures { Enters (several.target_entry kind exponent_bits width bias_named bias denormals_are_zero targets.now values.now answer.old) result answer.new }
 {
     if targets.len() != 312 {
-        return 1;
+        return Refusal::UnevenLength.number();
     }
-    let cut = values.len() % 8;
-    if cut != 0 {
-        return 1;
-    }
-    if answer.len() < 96 {
-        return 2;
+    if let Err(refusal) = lengths(values.len() % 8 != 0, answer.len(), 96) {
+        return refusal.number();
     }
     let bad = misnamed(bias_named, bias);
-    let list = format_with(kind, exponent_bits, width, bias_named == 1, bias);
+    let list = format_by(kind, exponent_bits, width, bias_named, bias);
     let r = answers(bad, list, denormals_are_zero, targets, values);
     put_slot(answer, 0, r.first);
     put_slot(answer, 32, r.second);
@@ -714,7 +571,7 @@ pub fn totals_sum_into(
     0
 }
 
-// The total of a span of a career page, by `enter_sum` and not by `page_sum`: a second caller of `sum_bytes` in the archive would keep it from being inlined.
+// The total of a span of a career page.
 pub fn totals_page_sum(
     page: &[u8],
     start: usize,
@@ -733,20 +590,9 @@ pub fn totals_page_sum(
     ensures { Enters (pages.page_entry (settings_from rounding tininess nan_propagation default_nan_negative flush_to_zero denormals_are_zero saturate precision) summand page.now start end answer.old) result answer.new }
 {
     if answer.len() < 24 {
-        return 2;
+        return Refusal::ShortBuffer.number();
     }
-    let number = span_refusal(page, start, end);
-    if number != 0 {
-        return number;
-    }
-    let from = 8 * start;
-    let to = 8 * end;
-    enter_sum(
-        0,
-        11,
-        64,
-        false,
-        0,
+    let c = settings(
         rounding,
         tininess,
         nan_propagation,
@@ -755,10 +601,11 @@ pub fn totals_page_sum(
         denormals_are_zero,
         saturate,
         precision,
-        summand,
-        &page[from..to],
-        answer,
-    )
+    );
+    match span(page, start, end) {
+        Ok(bytes) => enter_sum(binary64(), c, summand, bytes, answer),
+        Err(refusal) => refusal.number(),
+    }
 }
 
 // The career page of some values.
@@ -767,7 +614,7 @@ pub fn totals_page_write(values: &[u64], page: &mut [u8]) -> u64
 {
     match write(values, page) {
         Ok(length) => 256 * length as u64,
-        Err(PageError::NoRoom) => 2,
-        Err(PageError::TooMany) => 6,
+        Err(PageError::NoRoom) => Refusal::ShortBuffer.number(),
+        Err(PageError::TooMany) => Refusal::TooManyElements.number(),
     }
 }

@@ -92,6 +92,16 @@ pub(crate) fn refuse_if(holds: bool, refusal: Refusal) -> Result<(), Refusal>
     if holds { Err(refusal) } else { Ok(()) }
 }
 
+// The number of what may be refused, 0 where it is accepted.
+pub(crate) fn number(done: Result<(), Refusal>) -> u64
+    ensures { result ≡ refusal_number done }
+{
+    match done {
+        Ok(()) => 0,
+        Err(refusal) => refusal.number(),
+    }
+}
+
 // A format that is offered, and settings in their ranges for it.
 #[derive(Clone, Copy)]
 pub struct Asked {
