@@ -12,7 +12,7 @@ use page::{binary64, open};
 use reduction::total::Answer;
 
 // The bytes of a span's values, which are a part of the page.
-pub fn span(page: &[u8], start: usize, end: usize) -> Result<&[u8], Refusal>
+pub(crate) fn span(page: &[u8], start: usize, end: usize) -> Result<&[u8], Refusal>
     ensures spanned { IfOk result (λ bytes. SpanIn page.now start end bytes.now) }
     ensures refused { IfErr result (RefusesSpan page.now start end) }
 {
