@@ -183,9 +183,8 @@ fn tens_dot(
     Ok(())
 }
 
-// What the entries of a total do: kind 4 first, then the lengths, then the total. It is inlined, so that no record is stored and read again on the way: of a
-// call with one element that was a quarter.
-#[inline(always)]
+// What the entries of a total do: kind 4 first, then the lengths, then the total. It is not inlined: `sum_bytes` would have several callers then, and be
+// compiled apart, and its records would go through memory once more, which takes a twentieth of a call with one element.
 fn enter_sum(f: Format, c: Settings, summand: u64, values: &[u8], answer: &mut [u8]) -> u64
     ensures { Enters (ten.sum_call (format_of f) (settings_of c) summand values.now answer.old) result answer.new }
 {
@@ -198,7 +197,6 @@ fn enter_sum(f: Format, c: Settings, summand: u64, values: &[u8], answer: &mut [
     enter(sum_bytes(f, c, summand, values), answer)
 }
 
-#[inline(always)]
 fn enter_dot(f: Format, c: Settings, left: &[u8], right: &[u8], answer: &mut [u8]) -> u64
     ensures { Enters (ten.dot_call (format_of f) (settings_of c) left.now right.now answer.old) result answer.new }
 {
@@ -453,10 +451,7 @@ pub fn totals_range(
 fn signed_word(x: u64) -> i64
     ensures { result ≡ several.signed_word x }
 {
-    if x < 9223372036854775808 {
-        return x as i64;
-    }
-    -1 - ((u64::MAX - x) as i64)
+    x.cast_signed()
 }
 
 // The format of the target whose first number is the j-th.
@@ -494,9 +489,10 @@ fn target_at(targets: &[u8], j: usize) -> Target
     requires { 8 * (j + 13) ≤ length targets.now }
     ensures { (format_of result.format ≡ several.format_at (values_in targets.now) j) × (settings_of result.settings ≡ several.settings_at (values_in targets.now) j) }
 {
-    let format = format_at(targets, j);
-    let settings = settings_at(targets, j);
-    Target { format, settings }
+    Target {
+        format: format_at(targets, j),
+        settings: settings_at(targets, j),
+    }
 }
 
 // The record of the target, where the list's format and its own are named as a whole.
@@ -571,7 +567,7 @@ pub fn totals_sum_into(
     0
 }
 
-// The total of a span of a career page.
+// The total of a span of a career page, by `enter_sum` and not by `page_sum`: a second caller of `sum_bytes` in the archive would keep it from being inlined.
 pub fn totals_page_sum(
     page: &[u8],
     start: usize,
