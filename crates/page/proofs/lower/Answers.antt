@@ -17,4 +17,4 @@ returns c =
     let stood = rw (c.layout.ensures, c.default-c.ensures) at c.looked_term-t.ensures.stands_for in
     let is = lower-bit c.looked_term-t.result c.args.low (item binary64 no_settings value c.args.x) stood
     c.if-t-eq0.false (omega arith) in
-    omega (arith, is, c.min.ensures, c.from.ensures)
+    omega (arith, is)
