@@ -73,20 +73,6 @@ fn number_of(v: Unpacked) -> u64 {
     }
 }
 
-// Every setting is 0, as in totals_spec.
-fn no_settings() -> Env {
-    Env {
-        rounding: Rounding::TiesToEven,
-        tininess: Tininess::BeforeRounding,
-        nan_propagation: NanPropagation::SignalingFirst,
-        default_nan_negative: false,
-        flush_to_zero: false,
-        denormals_are_zero: false,
-        saturate: false,
-        precision: None,
-    }
-}
-
 // What is decoded, encoded again.
 fn again(f: Layout, b: u64) -> u64 {
     encode(f, decode(f, b))
@@ -99,7 +85,7 @@ fn decodings(f: Layout, s: &[u8]) -> u64
     let e = again(f, b);
     let v = decode(f, b);
     let plain = is_plain(f, b);
-    let mut c = no_settings();
+    let mut c = Env::default();
     c.denormals_are_zero = true;
     let o = operand(f, c, b);
     let w = o.value;
@@ -151,7 +137,7 @@ fn choices(f: Layout, s: &[u8]) -> u64
     let mut agreed = 0;
     for j in 0..8u64 {
         if let Ok(rule) = NanPropagation::try_from(j % 4) {
-            let mut c = no_settings();
+            let mut c = Env::default();
             c.nan_propagation = rule;
             c.default_nan_negative = j / 4 == 1;
             agreed += agrees(chosen(f, c, a, b), number(s, 10 + 2 * (j as usize), 2));
@@ -271,7 +257,7 @@ pub fn settings_row(s: &[u8]) -> u64
         precision: number(s, 16, 2),
     };
     // The sign of a zero is told by the mode, be the other settings in their ranges or not. A number above the last is to odd, as in totals_spec.
-    let mut by_mode = no_settings();
+    let mut by_mode = Env::default();
     by_mode.rounding = Rounding::try_from(c.rounding).unwrap_or(Rounding::ToOdd);
     let zeros = number(s, 19, 1);
     let all = number(s, 21, 1);

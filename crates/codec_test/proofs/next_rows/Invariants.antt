@@ -2,5 +2,5 @@
 use Rattle.std.proofs.Common.{◌*◌, ◌≤◌}
 use Rattle.codec_test.proofs.next_rows.Given as goal
 
-abbrev pub invariant-loop-i : goal.invariant-loop-i
-invariant-loop-i g l = l.agreed ≤ 128 * l._i
+abbrev pub invariant-loop : goal.invariant-loop
+invariant-loop g l = l.agreed ≤ 128 * l.counter
