@@ -1,5 +1,5 @@
 // The rows of the vectors: each is read, worked out and compared, and the number of answers that agree is returned.
-ghost use Rattle.std.specs.Prelude.{◌≡◌, true, ◌^◌, ◌<◌, ◌≤◌};
+ghost use Rattle.std.specs.Prelude.{◌≡◌, true, ◌^◌, ◌<◌, ◌≤◌, length};
 ghost use Rattle.totals_spec.specs.Format as spec;
 ghost use Rattle.format.specs.Shapes.{shape_of};
 ghost use Rattle.format.specs.Layouts.{layout_of};
@@ -19,10 +19,11 @@ use format::shape::Shape;
 use format::unpacked::Unpacked;
 use hexadecimal::number;
 
-fn agrees(a: u64, b: u64) -> u64
-    ensures { result ≤ 1 }
+// How many of some answers agree, of which each says whether it does.
+fn count(agree: &[bool]) -> u64
+    ensures { result ≤ length agree.now }
 {
-    u64::from(a == b)
+    agree.iter().filter(|&&agrees| agrees).count() as u64
 }
 
 fn format_at(s: &[u8]) -> Format {
@@ -88,13 +89,13 @@ fn decodings(f: Layout, s: &[u8]) -> u64
     let mut c = Env::default();
     c.denormals_are_zero = true;
     let o = operand(f, c, b);
-    let w = o.value;
-    let mut agreed = agrees(tag(v, o.subnormal, plain), number(s, 7, 2));
-    agreed += agrees(shift_of(v), number(s, 9, 2));
-    agreed += agrees(number_of(v), number(s, 11, 2));
-    agreed += agrees(tag(w, o.subnormal, plain), number(s, 14, 2));
-    agreed += agrees(e, number(s, 17, 2));
-    agreed
+    count(&[
+        tag(v, o.subnormal, plain) == number(s, 7, 2),
+        shift_of(v) == number(s, 9, 2),
+        number_of(v) == number(s, 11, 2),
+        tag(o.value, o.subnormal, plain) == number(s, 14, 2),
+        e == number(s, 17, 2),
+    ])
 }
 
 pub fn decode_row(s: &[u8]) -> u64
@@ -134,13 +135,15 @@ fn choices(f: Layout, s: &[u8]) -> u64
 {
     let a = nan_at(f, number(s, 4, 2));
     let b = nan_at(f, number(s, 7, 2));
-    let mut agreed = 0;
+    let mut agreed: u64 = 0;
     for j in 0..8u64 {
         if let Ok(rule) = NanPropagation::try_from(j % 4) {
             let mut c = Env::default();
             c.nan_propagation = rule;
             c.default_nan_negative = j / 4 == 1;
-            agreed += agrees(chosen(f, c, a, b), number(s, 10 + 2 * (j as usize), 2));
+            if chosen(f, c, a, b) == number(s, 10 + 2 * (j as usize), 2) {
+                agreed += 1;
+            }
         }
     }
     agreed
@@ -191,7 +194,7 @@ fn roundings(f: Layout, s: &[u8]) -> u64
     let plus = value_at(s, false);
     let minus = value_at(s, true);
     let precision = number(s, 3, 1);
-    let mut agreed = 0;
+    let mut agreed: u64 = 0;
     for j in 0..128u64 {
         let settings = Settings {
             rounding: j % 8,
@@ -202,10 +205,10 @@ fn roundings(f: Layout, s: &[u8]) -> u64
             ..Settings::default()
         };
         let v = if j < 64 { plus } else { minus };
-        agreed += agrees(
-            rounded(f, settings, g, v).unwrap_or(65536),
-            number(s, 51 + 4 * (j as usize), 4),
-        );
+        let answer = rounded(f, settings, g, v).unwrap_or(65536);
+        if answer == number(s, 51 + 4 * (j as usize), 4) {
+            agreed += 1;
+        }
     }
     agreed
 }
@@ -219,27 +222,21 @@ pub fn round_row(s: &[u8]) -> u64
 fn widths(f: Shape, s: &[u8]) -> u64
     ensures { result ≤ 7 }
 {
-    let mut agreed = agrees(f.bias_above(), number(s, 8, 8));
-    agreed += agrees(f.exponent_range(), number(s, 17, 8));
-    agreed += agrees(f.depth(), number(s, 26, 8));
-    agreed += agrees(f.origin(false), number(s, 35, 8));
-    agreed += agrees(f.origin(true), number(s, 44, 8));
-    agreed += agrees(f.grid(false), number(s, 53, 8));
-    agreed += agrees(f.grid(true), number(s, 62, 8));
-    agreed
+    count(&[
+        f.bias_above() == number(s, 8, 8),
+        f.exponent_range() == number(s, 17, 8),
+        f.depth() == number(s, 26, 8),
+        f.origin(false) == number(s, 35, 8),
+        f.origin(true) == number(s, 44, 8),
+        f.grid(false) == number(s, 53, 8),
+        f.grid(true) == number(s, 62, 8),
+    ])
 }
 
 pub fn format_row(s: &[u8]) -> u64
     ensures { result ≤ 7 }
 {
     Layout::new(long_format_at(s)).map_or(0, |f| widths(f.shape, s))
-}
-
-// Whether a format and the settings are offered: 1 for the format, 2 for both.
-fn offered(f: Format, c: Settings) -> u64
-    ensures { result ≤ 3 }
-{
-    Layout::new(f).map_or(0, |f| 1 + flag(2, Env::new(f.shape, c).is_some()))
 }
 
 pub fn settings_row(s: &[u8]) -> u64
@@ -262,8 +259,12 @@ pub fn settings_row(s: &[u8]) -> u64
     let zeros = number(s, 19, 1);
     let all = number(s, 21, 1);
     let sign = by_mode.zero_sum_sign(zeros % 2 == 1, zeros / 2 % 2 == 1);
-    let mut agreed = 2 * agrees(offered(f, c), all % 4);
-    agreed += agrees(flag(1, sign), all / 4 % 2);
-    agreed += agrees(flag(1, by_mode.zero_sum_is_negative()), all / 8 % 2);
-    agreed
+    let layout = Layout::new(f);
+    let env = layout.and_then(|f| Env::new(f.shape, c));
+    count(&[
+        layout.is_some() == (all % 2 == 1),
+        env.is_some() == (all / 2 % 2 == 1),
+        sign == (all / 4 % 2 == 1),
+        by_mode.zero_sum_is_negative() == (all / 8 % 2 == 1),
+    ])
 }
