@@ -8,35 +8,31 @@ ghost use Rattle.std.specs.Prelude.{◌≡◌};
 ghost use Rattle.totals_spec.specs.Program.{program_format, program_settings, answer_text, program_text};
 ghost use Rattle.totals_spec.specs.Totals.{sum_answer};
 ghost use Rattle.totals_spec.specs.Pence.{sum_pence};
+ghost use Rattle.format.specs.Joined.{settings_of};
 
 use crate::read::read_lines;
 use crate::write::{Text, answer_lines, refused_line};
-use format::Format;
 use format::env::Settings;
+use page::binary64;
 use totals::pence::pence_of_sum;
 use totals::sum;
 
-// The text of the sum of some binary64 numbers. Every setting is 0 but the tininess.
+// Every setting is 0 but the tininess.
+fn settings() -> Settings
+    ensures { settings_of result ≡ program_settings }
+{
+    Settings {
+        tininess: 1,
+        ..Settings::default()
+    }
+}
+
+// The text of the sum of some binary64 numbers.
 fn sum_text(values: &[u64]) -> Text
     ensures { result ≡ answer_text (sum_answer program_format program_settings 0 values.now) (sum_pence program_format values.now) }
 {
-    let f = Format {
-        kind: 0,
-        exponent_bits: 11,
-        width: 64,
-        named: None,
-    };
-    let c = Settings {
-        rounding: 0,
-        tininess: 1,
-        nan_propagation: 0,
-        default_nan_negative: 0,
-        flush_to_zero: 0,
-        denormals_are_zero: 0,
-        saturate: 0,
-        precision: 0,
-    };
-    let a = sum(f, c, 0, values);
+    let f = binary64();
+    let a = sum(f, settings(), 0, values);
     let p = pence_of_sum(f, values);
     let pence = (p.refusal == 0).then_some(p.figure);
     answer_lines(a.result, a.flags, a.passes, pence)

@@ -51,9 +51,7 @@ impl Text {
         ensures text { result ≡ self ++ s.now }
         ensures len { length result ≡ length self + length s.now }
     {
-        for b in s {
-            self.bytes.push(*b);
-        }
+        let _fits = self.bytes.try_extend_from_slice(s);
         self
     }
 
