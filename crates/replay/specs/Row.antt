@@ -1,5 +1,5 @@
 -- The fields of a row, at the places that cases.py has: numbers in hex digits, and a sign before one of them.
-use Rattle.std.specs.Prelude.{Option, Some, None, Bool, cond, List, [], ◌∷◌, ◌++◌, set, map, replicate, ℕ, ◌+◌, ◌-◌, ◌*◌, ◌%◌, ◌^◌, ◌≡◌, eqb, ltb, ℤ, pos, neg_ℤ, length, get_or}
+use Rattle.std.specs.Prelude.{Option, Some, None, Bool, cond, List, [], ◌∷◌, ◌++◌, set, map, replicate, ℕ, ◌+◌, ◌-◌, ◌*◌, ◌%◌, ◌^◌, ◌≡◌, eqb, ltb, ℤ, pos, neg_ℤ, length, get_or, min}
 use Rattle.std.specs.List.{range_with_len}
 use Rattle.totals_spec.specs.Pages.{value_bytes}
 use Rattle.hexadecimal.specs.Digits.{number_at}
@@ -89,6 +89,10 @@ written_in s =
     let before = replicate 32 165 in
     let a = answer_in s in
     cond (eqb (word_at s 73 3) 0) (set (laid (laid (laid before 0 a.result) 8 a.flags) 16 a.passes) 10 (a.side % 256)) before
+
+-- the bytes that a row lends of the buffer
+abbrev pub lent_in : List ℕ → ℕ
+lent_in s = min (word_at s 29 2) 32
 
 -- a number says whether a format names a bias, and the bias is 0 where none is named
 abbrev pub IsTold : Option ℤ → ℕ → ℤ → Type 0

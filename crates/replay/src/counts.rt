@@ -4,16 +4,12 @@ ghost use Rattle.std.specs.Prelude.{◌≤◌};
 
 use format::Format;
 use format::env::Settings;
+use page::binary64;
 use totals::refusal::{Refusal, dot_refusal, sum_refusal};
 
 // binary64, or of a kind that there is not
 fn double(kind: u64) -> Format {
-    Format {
-        kind,
-        exponent_bits: 11,
-        width: 64,
-        named: None,
-    }
+    Format { kind, ..binary64() }
 }
 
 // every setting 0, but for the rounding

@@ -1,10 +1,9 @@
 // Rows of career pages: spans worked out by `page_sum` and through the exported entry, and pages written through theirs.
 ghost use Rattle.std.specs.Prelude.{◌<◌, ◌≤◌};
 
-use crate::row::{answer_at, at_most, byte_in, returned_at, settings_at, summand_at};
-use crate::ways::{leaves, written_at};
+use crate::row::{answer_at, at_most, byte_in, settings_at, summand_at};
+use crate::ways::entry_agrees;
 use hexadecimal::number;
-use reduction::total::Answer;
 use std::array;
 use totals::entry::{totals_page_sum, totals_page_write};
 use totals::pages::page_sum;
@@ -58,24 +57,24 @@ fn page_at(s: &[u8]) -> [u8; BUFFER] {
     laid(s, 0xa5, PAGE, at_most(s, 6, 1, 7), at_most(s, 2, 3, MOST))
 }
 
-fn worked(s: &[u8]) -> Answer {
+// What a function answers that is lent the row's page, and told the ends of the span.
+fn asked<T, F: FnOnce(&[u8], usize, usize) -> T>(s: &[u8], ask: F) -> T
+    requires { F.IsAlwaysCallable ask }
+{
     let bytes = page_at(s);
     let a = at_most(s, 6, 1, 7);
     let e = a + at_most(s, 2, 3, MOST);
     let start = number(s, START, 16) as usize;
     let end = number(s, END, 16) as usize;
-    page_sum(settings_at(s), summand_at(s), &bytes[a..e], start, end)
+    ask(&bytes[a..e], start, end)
 }
 
-fn enter(s: &[u8], answer: &mut [u8]) -> u64 {
+fn enter(s: &[u8], page: &[u8], start: usize, end: usize, answer: &mut [u8]) -> u64 {
     let c = settings_at(s);
-    let bytes = page_at(s);
-    let a = at_most(s, 6, 1, 7);
-    let e = a + at_most(s, 2, 3, MOST);
     totals_page_sum(
-        &bytes[a..e],
-        number(s, START, 16) as usize,
-        number(s, END, 16) as usize,
+        page,
+        start,
+        end,
         c.rounding,
         c.tininess,
         c.nan_propagation,
@@ -89,20 +88,24 @@ fn enter(s: &[u8], answer: &mut [u8]) -> u64 {
     )
 }
 
-// The entry with as much of the answer's buffer as the row says.
+fn by_function(s: &[u8]) -> bool {
+    let answer = asked(
+        s,
+        |page, start, end| page_sum(settings_at(s), summand_at(s), page, start, end),
+    );
+    answer == answer_at(s)
+}
+
 fn by_entry(s: &[u8]) -> bool {
-    leaves(
-        |answer| enter(s, answer),
-        [0xa5; 32],
-        at_most(s, 29, 2, 32),
-        returned_at(s),
-        written_at(s),
+    entry_agrees(
+        s,
+        |answer| asked(s, |page, start, end| enter(s, page, start, end, answer)),
     )
 }
 
 // Whether both ways agree with a row of a span.
 pub(crate) fn span_agrees(row: &[u8]) -> bool {
-    worked(row) == answer_at(row) && by_entry(row)
+    by_function(row) && by_entry(row)
 }
 
 // ---- pages that are written

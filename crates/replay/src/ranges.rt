@@ -82,18 +82,21 @@ fn told_as(s: &[u8], r: Range) -> bool {
         && r.place == 0
 }
 
-// The function with as much of the lists as the row says.
-fn worked(s: &[u8], firsts: &mut [u64; FIGURES], seconds: &mut [u64; FIGURES]) -> Range {
+// What a function answers that is lent as much of the tags and of the lists as the row says, and told the ceiling.
+fn asked<T, F: FnOnce(&[u64], &mut [u64], &mut [u64], u64) -> T>(
+    s: &[u8],
+    firsts: &mut [u64; FIGURES],
+    seconds: &mut [u64; FIGURES],
+    ask: F,
+) -> T
+    requires { F.IsAlwaysCallable ask }
+{
     let tags = tags_at(s);
     let t = at_most(s, 2, 1, 6);
     let n = at_most(s, 3, 1, 6);
     let m = at_most(s, 4, 1, 6);
-    range_total(
-        &tags[..t],
-        &mut firsts[..n],
-        &mut seconds[..m],
-        number(s, CEILING, 16),
-    )
+    let ceiling = number(s, CEILING, 16);
+    ask(&tags[..t], &mut firsts[..n], &mut seconds[..m], ceiling)
 }
 
 // Asked a second time, with the lists as they were left, it answers the same and leaves the same.
@@ -101,31 +104,10 @@ fn by_function(s: &[u8]) -> bool {
     let mut firsts = words_at(s, 0);
     let mut seconds = words_at(s, 6);
     let accepted = refusal_at(s) == 0;
-    let once = told_as(s, worked(s, &mut firsts, &mut seconds));
+    let once = told_as(s, asked(s, &mut firsts, &mut seconds, range_total));
     let kept = left(s, accepted, firsts, seconds);
-    let twice = told_as(s, worked(s, &mut firsts, &mut seconds));
+    let twice = told_as(s, asked(s, &mut firsts, &mut seconds, range_total));
     once && kept && twice && left(s, accepted, firsts, seconds)
-}
-
-// The entry with as much of the lists and of the pair as the row says.
-fn entered(
-    s: &[u8],
-    firsts: &mut [u64; FIGURES],
-    seconds: &mut [u64; FIGURES],
-    pair: &mut [u64; 4],
-) -> u64 {
-    let tags = tags_at(s);
-    let t = at_most(s, 2, 1, 6);
-    let n = at_most(s, 3, 1, 6);
-    let m = at_most(s, 4, 1, 6);
-    let lent = at_most(s, 6, 1, 4);
-    totals_range(
-        &tags[..t],
-        &mut firsts[..n],
-        &mut seconds[..m],
-        number(s, CEILING, 16),
-        &mut pair[..lent],
-    )
 }
 
 // The pair after a call.
@@ -137,11 +119,24 @@ fn written(s: &[u8], accepted: bool) -> [u64; 4] {
     }
 }
 
+// The entry with as much of the pair as the row says.
 fn by_entry(s: &[u8]) -> bool {
     let mut firsts = words_at(s, 0);
     let mut seconds = words_at(s, 6);
     let mut pair = [BEFORE; 4];
-    let returned = entered(s, &mut firsts, &mut seconds, &mut pair);
+    let lent = at_most(s, 6, 1, 4);
+    let returned = asked(
+        s,
+        &mut firsts,
+        &mut seconds,
+        |tags, firsts, seconds, ceiling| totals_range(
+            tags,
+            firsts,
+            seconds,
+            ceiling,
+            &mut pair[..lent],
+        ),
+    );
     let wanted = number(s, 11, 2);
     let accepted = wanted == 0;
     returned == wanted && pair == written(s, accepted) && left(s, accepted, firsts, seconds)

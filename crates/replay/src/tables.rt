@@ -2,7 +2,7 @@
 ghost use Rattle.std.specs.Prelude.{◌^◌, ◌<◌, ◌≤◌};
 
 use crate::row::{answer_at, at_most, format_at, returned_at, settings_at, words_at, words_in};
-use crate::ways::{bias_of, leaves, written_at};
+use crate::ways::{bias_of, entry_agrees};
 use format::Format;
 use format::env::Settings;
 use hexadecimal::number;
@@ -57,21 +57,31 @@ fn left(s: &[u8], refused: bool, row_totals: [u64; 16], column_totals: [u64; 16]
     row_totals == after(s, 0, rows) && column_totals == after(s, rows, sides.columns.min(16))
 }
 
-// The table with as much of the lists as the row says.
-fn worked(s: &[u8], row_totals: &mut [u64; 16], column_totals: &mut [u64; 16]) -> Answer {
+// What a function answers that is lent as much of the cells and of the lists as the row says.
+fn asked<T, F: FnOnce(&[u64], &mut [u64], &mut [u64]) -> T>(
+    s: &[u8],
+    row_totals: &mut [u64; 16],
+    column_totals: &mut [u64; 16],
+    ask: F,
+) -> T
+    requires { F.IsAlwaysCallable ask }
+{
     let cells = words_at(s, 0);
     let n = at_most(s, 21, 1, 12);
     let r = at_most(s, 23, 1, 16);
     let k = at_most(s, 24, 1, 16);
+    ask(&cells[..n], &mut row_totals[..r], &mut column_totals[..k])
+}
+
+fn worked(s: &[u8], row_totals: &mut [u64; 16], column_totals: &mut [u64; 16]) -> Answer {
+    let f = format_at(s);
+    let c = settings_at(s);
     let sides = sides_at(s);
-    table(
-        format_at(s),
-        settings_at(s),
-        sides.rows,
-        sides.columns,
-        &cells[..n],
-        &mut row_totals[..r],
-        &mut column_totals[..k],
+    asked(
+        s,
+        row_totals,
+        column_totals,
+        |cells, rows, columns| table(f, c, sides.rows, sides.columns, cells, rows, columns),
     )
 }
 
@@ -117,41 +127,31 @@ fn enter(
     )
 }
 
-// The entry with as much of the lists as the row says.
 fn entered(
     s: &[u8],
     row_totals: &mut [u64; 16],
     column_totals: &mut [u64; 16],
     answer: &mut [u8],
 ) -> u64 {
-    let cells = words_at(s, 0);
-    let n = at_most(s, 21, 1, 12);
-    let r = at_most(s, 23, 1, 16);
-    let k = at_most(s, 24, 1, 16);
-    enter(
-        format_at(s),
-        settings_at(s),
-        sides_at(s),
-        &cells[..n],
-        &mut row_totals[..r],
-        &mut column_totals[..k],
-        answer,
+    let f = format_at(s);
+    let c = settings_at(s);
+    let sides = sides_at(s);
+    asked(
+        s,
+        row_totals,
+        column_totals,
+        |cells, rows, columns| enter(f, c, sides, cells, rows, columns, answer),
     )
 }
 
-// And with as much of the buffer.
 fn by_entry(s: &[u8]) -> bool {
     let mut row_totals = before();
     let mut column_totals = before();
-    let wanted = returned_at(s);
-    let agrees = leaves(
+    let agrees = entry_agrees(
+        s,
         |answer| entered(s, &mut row_totals, &mut column_totals, answer),
-        [0xa5; 32],
-        at_most(s, 29, 2, 32),
-        wanted,
-        written_at(s),
     );
-    agrees && left(s, wanted != 0, row_totals, column_totals)
+    agrees && left(s, returned_at(s) != 0, row_totals, column_totals)
 }
 
 // Whether both ways agree with the row.

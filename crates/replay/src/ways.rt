@@ -1,10 +1,10 @@
 // A case worked out over words, over bytes and through the byte entries.
-ghost use Rattle.std.specs.Prelude.{◌≡◌, ◌<◌, ◌≤◌, IsTrue, take, drop};
+ghost use Rattle.std.specs.Prelude.{◌≡◌, ◌<◌, ◌≤◌, IsTrue, take, drop, replicate};
 ghost use Rattle.std.specs.Fn.{FnOnceReturnsAtMut};
 ghost use Rattle.totals_spec.specs.Extended.{sum_call, dot_call};
 ghost use Rattle.format.specs.Joined.{format_of, settings_of};
 ghost use Rattle.totals.specs.Entered.{Enters};
-ghost use Rattle.replay.specs.Row.{IsTold, written_in};
+ghost use Rattle.replay.specs.Row.{IsTold, word_at, lent_in, written_in};
 
 use crate::row::{
     answer_at, at_most, bytes_at, format_at, is_dot, returned_at, right_bytes, right_words,
@@ -163,7 +163,7 @@ fn enter(s: &[u8], answer: &mut [u8]) -> u64 {
 }
 
 // The buffer after the call: an accepted record is written, a refused one is not.
-pub fn written_at(s: &[u8]) -> [u8; 32]
+fn written_at(s: &[u8]) -> [u8; 32]
     ensures { result ≡ written_in s.now }
 {
     let mut answer = [0xa5u8; 32];
@@ -195,13 +195,20 @@ pub fn leaves<const N: usize, F: FnOnce(&mut [u8]) -> u64>(
     enter(&mut buffer[..lent]) == returned && buffer == after
 }
 
-// With as much of the buffer as the row says.
-pub(crate) fn by_entry(s: &[u8]) -> bool {
+// Whether an entry agrees with a row, with as much of the answer's buffer as that says.
+pub fn entry_agrees<F: FnOnce(&mut [u8]) -> u64>(s: &[u8], enter: F) -> bool
+    requires { F.IsAlwaysCallable enter }
+    ensures { IsTrue result → FnOnceReturnsAtMut F.FnOnce enter (take (lent_in s.now) (replicate 32 165)) (word_at s.now 73 3) (take (lent_in s.now) (written_in s.now)) }
+{
     leaves(
-        |answer| enter(s, answer),
+        enter,
         [0xa5; 32],
         at_most(s, 29, 2, 32),
         returned_at(s),
         written_at(s),
     )
+}
+
+pub(crate) fn by_entry(s: &[u8]) -> bool {
+    entry_agrees(s, |answer| enter(s, answer))
 }
