@@ -53,13 +53,6 @@ pub fn negate(a: [u64; 12]) -> [u64; 12]
     sub([0; 12], a)
 }
 
-// Whether no word has a bit.
-pub fn is_zero(a: [u64; 12]) -> bool
-    ensures { result ≡ eqb (value a) 0 }
-{
-    a.iter().all(|w| *w == 0)
-}
-
 // The number of bits up to the highest set one, 0 for 0.
 pub fn bit_length(a: [u64; 12]) -> usize
     ensures { result ≡ bit_length (value a) }

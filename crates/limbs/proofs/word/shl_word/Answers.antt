@@ -1,4 +1,4 @@
-use Rattle.limbs.proofs.Funnel.{shl-law}
+use Rattle.limbs.proofs.Shifted.{shl-law}
 use Rattle.limbs.proofs.word.shl_word.Goals as goal
 
 pub returns : goal.returns
