@@ -2,12 +2,12 @@
 use mathlib.Core.Path.{◌≡◌, refl, sym, ap, ap₂, ◌∙◌}
 use mathlib.Core.Bool.{Bool, true, false, ◌||◌, cond}
 use mathlib.Core.List.{List, [], ◌∷◌}
-use Prim.Native.Nat.{ℕ, zero, suc, ◌+◌, ◌-◌, ◌*◌, ◌/◌, ◌^◌, ◌≤◌, ◌<◌}
-use native.Mathlib.Nat.{not-suc-le-zero, le_of_suc-le-suc, div-eq_of_lt-le, suc-mul, add-mul}
-use native.Mathlib.Numerals.{add-one-le, sub-one}
+use Prim.Native.Nat.{ℕ, zero, suc, ◌+◌, ◌-◌, ◌^◌, ◌≤◌, ◌<◌}
+use native.Mathlib.Nat.{not-suc-le-zero, le_of_suc-le-suc}
+use native.Mathlib.Numerals.{add-one-le}
 use native.Mathlib.Omega.{arith}
 use lib.ListN.{length, take, get_or}
-use lib.Pow.{pow-add, pow_pos, pow_mono}
+use lib.Pow.{pow_pos, pow_mono}
 use Rattle.totals_spec.specs.Basics.{any}
 use Rattle.totals_spec.specs.Totals.{first_index}
 use borrow.Author.Tests.{le-leb, lt-leb}
@@ -28,11 +28,11 @@ module _ (t : ℕ → Bool) where
   none_below b (x ∷ l) h f = ap₂ ◌||◌ (h x (f 0)) (none_below b l h (λ k. f (suc k)))
 
 -- a stray bit is one above the greatest encoding
-pub stray-is : (w m x : ℕ) → m + 1 ≡ 2 ^ w → m < x → stray_at w x ≡ true
+pub stray-is : (w m x : ℕ) → m ≡ 2 ^ w - 1 → m < x → stray_at w x ≡ true
 stray-is w m x e h = let k : 2 ^ w ≤ x = omega (arith, e) in le-leb _ _ k
 
-pub stray-not : (w m x : ℕ) → m + 1 ≡ 2 ^ w → x ≤ m → stray_at w x ≡ false
-stray-not w m x e h = let k : x < 2 ^ w = omega (arith, e) in lt-leb _ _ k
+pub stray-not : (w m x : ℕ) → m ≡ 2 ^ w - 1 → x ≤ m → stray_at w x ≡ false
+stray-not w m x e h = let k : x < 2 ^ w = omega (arith, e, pow_pos w) in lt-leb _ _ k
 
 -- ---- the search: none of the first i elements has a stray bit
 
@@ -41,7 +41,7 @@ pub record Clear (w : ℕ) (l : List ℕ) (i : ℕ) : Type 0 where
   pub none : any (stray_at w) (take i l) ≡ false
 
 -- m is the greatest encoding, x the element i
-module _ {w m : ℕ} (most : m + 1 ≡ 2 ^ w) {l : List ℕ} {i : ℕ} (k : Clear w l i) (h : i < length l) {x : ℕ} (at : x ≡ get_or l i 0) where
+module _ {w m : ℕ} (most : m ≡ 2 ^ w - 1) {l : List ℕ} {i : ℕ} (k : Clear w l i) (h : i < length l) {x : ℕ} (at : x ≡ get_or l i 0) where
   pub clear_next : x ≤ m → Clear w l (i + 1)
   clear_next g = record { within = add-one-le h; none = none-next (stray_at w) l i 0 x h at k.none (stray-not w m x most g) }
 
@@ -56,26 +56,3 @@ clear-end {w} {l} {i} k h = none-all (stray_at w) l i (omega arith) k.none
 -- a width of a whole word or more leaves no room for one
 pub word_wide : (w : ℕ) (l : List ℕ) → 64 ≤ w → ((k : ℕ) → get_or l k 0 < 18446744073709551616) → FoundIn None w l
 word_wide w l e = none_below (stray_at w) _ l (λ x h. lt-leb (2 ^ w) x (omega (arith, h, pow_mono {j = w} e)))
-
--- 2^64 − 1 without its lowest 64 − w bits
-pub ones_shifted : (w : ℕ) → w ≤ 64 → 18446744073709551615 / 2 ^ (64 - w) + 1 ≡ 2 ^ w
-ones_shifted w h = ap (λ (n : ℕ). n + 1) (div-eq_of_lt-le {k = 2 ^ w - 1} (2 ^ (64 - w)) {m = 18446744073709551615} low high) ∙ back (2 ^ w) (pow_pos w)
-  where
-    whole : 2 ^ w * 2 ^ (64 - w) ≡ 18446744073709551616
-    whole = sym (pow-add 2 w (64 - w)) ∙ ap (λ (n : ℕ). 2 ^ n) place
-      where
-        place : w + (64 - w) ≡ 64
-        place = omega arith
-
-    less : (a b n : ℕ) → 0 < a → 0 < b → a * b ≡ n → (a - 1) * b + b ≡ n
-    less zero b n h k e = absurd (not-suc-le-zero h)
-    less (suc a) b n h k e = ap (λ (x : ℕ). x * b + b) (sub-one (suc a)) ∙ sym (suc-mul a b) ∙ e
-
-    back : (a : ℕ) → 0 < a → a - 1 + 1 ≡ a
-    back a h = omega arith
-
-    low : (2 ^ w - 1) * 2 ^ (64 - w) ≤ 18446744073709551615
-    low = omega (arith, less (2 ^ w) (2 ^ (64 - w)) 18446744073709551616 (pow_pos w) (pow_pos (64 - w)) whole, pow_pos (64 - w))
-
-    high : 18446744073709551615 < (2 ^ w - 1 + 1) * 2 ^ (64 - w)
-    high = omega (arith, add-mul (2 ^ w - 1) 1 (2 ^ (64 - w)), less (2 ^ w) (2 ^ (64 - w)) 18446744073709551616 (pow_pos w) (pow_pos (64 - w)) whole)

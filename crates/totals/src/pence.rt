@@ -16,7 +16,7 @@ ghost use Rattle.totals.specs.PenceRecord.{pence_record, list_figure, Countable}
 
 use crate::lists::met_special;
 use crate::refusal::Refusal;
-use crate::stray::{find_stray, greatest};
+use crate::stray::find_stray;
 use arithmetic::summand::Summand;
 use binary::decode;
 use exact::Unrounded;
@@ -29,7 +29,7 @@ use format::modes::Rounding;
 use format::shape::Shape;
 use format::unpacked::Unpacked;
 use limbs::pair;
-use limbs::word::widening_mul;
+use limbs::word::{ones, widening_mul};
 use reduction::terms::Hundreds;
 use reduction::total::left;
 use reduction::walk::exact;
@@ -136,7 +136,7 @@ pub fn pence_of(f: Format, b: u64) -> Pence
     let Some(layout) = Layout::new(f) else {
         return Pence::from(Refusal::NoSuchFormat);
     };
-    if b > greatest(f.width) {
+    if b > ones(f.width) {
         return Pence::from(Refusal::StrayBit(0));
     }
     let shape = layout.shape;

@@ -9,8 +9,8 @@ use Rattle.totals.proofs.pence.pence_of.Goals as goal
 pub returns-in_default : goal.returns-in_default
 returns-in_default c = c.from.ensures ∙ bad-format _ _ c.in_default.ensures
 
-pub returns-then-b-greatest : goal.returns-then-b-greatest
-returns-then-b-greatest c = c.from-then-b-greatest.ensures ∙ stray-bit _ _ c.in-Some.ensures.valid (stray-is _ _ _ c.greatest.ensures c.if-b-greatest.true)
+pub returns-then-b-ones : goal.returns-then-b-ones
+returns-then-b-ones c = c.from-then-b-ones.ensures ∙ stray-bit _ _ c.in-Some.ensures.valid (stray-is _ _ _ c.ones.ensures c.if-b-ones.true)
 
 pub figure_of-requires : goal.figure_of-requires
 figure_of-requires c = (c.lift.ensures.bound, decode-bounded _ _ (layout_bounds c.in-Some.layout) _ c.decode.ensures)
@@ -20,4 +20,4 @@ returns c =
     let l = c.in-Some.ensures in
     c.figure_of.ensures
     ∙ (λ i. figure_of (c.depth.ensures.value i) (c.lift.ensures.value i) (c.decode.ensures i))
-    ∙ rw l.is (no-stray-bit _ _ l.valid (stray-not _ _ _ c.greatest.ensures c.if-b-greatest.false))
+    ∙ rw l.is (no-stray-bit _ _ l.valid (stray-not _ _ _ c.ones.ensures c.if-b-ones.false))
