@@ -1,31 +1,26 @@
--- The search for an element with a stray bit: what a walk knows of the elements before i, and what it finds.
-use mathlib.Core.Path.{◌≡◌, refl, sym, ap, ap₂, ◌∙◌}
-use mathlib.Core.Bool.{Bool, true, false, ◌||◌, cond}
-use mathlib.Core.List.{List, [], ◌∷◌}
-use Prim.Native.Nat.{ℕ, zero, suc, ◌+◌, ◌-◌, ◌^◌, ◌≤◌, ◌<◌}
-use native.Mathlib.Nat.{not-suc-le-zero, le_of_suc-le-suc}
-use native.Mathlib.Numerals.{add-one-le}
-use native.Mathlib.Omega.{arith}
-use lib.ListN.{length, take, get_or}
+-- The search for an element with a stray bit, and what it finds.
+use Rattle.std.proofs.Common.{◌≡◌, refl, ap, ap₂, Bool, true, false, ◌||◌, List, [], ◌∷◌, ℕ, zero, suc, ◌-◌, ◌^◌, ◌≤◌, ◌<◌, length, get_or, arith}
+use Rattle.std.proofs.Common.{not-suc-le-zero, le_of_suc-le-suc, suc-le-suc, zero-le, le-leb}
+use Rattle.std.specs.Prelude.{Option, Some, None}
+use Rattle.std.specs.Option.{MatchOption}
 use lib.Pow.{pow_pos, pow_mono}
+use borrow.Author.Tests.{lt-leb}
 use Rattle.totals_spec.specs.Basics.{any}
 use Rattle.totals_spec.specs.Totals.{first_index}
-use borrow.Author.Tests.{le-leb, lt-leb}
-use Rattle.totals_spec.proofs.Order.{or_split}
 use Rattle.totals.specs.Stray.{stray_at, FoundIn}
-use Rattle.std.specs.Prelude.{Some, None}
-pub use Rattle.totals_spec.proofs.Walk.{none-next, none-all, first_some}
 
 module _ (t : ℕ → Bool) where
-  first-index : (l : List ℕ) (i : ℕ) → i < length l → any t (take i l) ≡ false → t (get_or l i 0) ≡ true → first_index t l ≡ i
-  first-index [] i h p q = absurd (not-suc-le-zero h)
-  first-index (x ∷ l) zero h p q = ap (λ (b : Bool). cond b 0 (suc (first_index t l))) q
-  first-index (x ∷ l) (suc i) h p q = rw (or_split (t x) _ p).0 (ap suc (first-index l i (le_of_suc-le-suc h) (or_split (t x) _ p).1 q))
+  none : (l : List ℕ) → ((k : ℕ) → k < length l → t (get_or l k 0) ≡ false) → any t l ≡ false
+  none [] h = refl
+  none (x ∷ l) h = ap₂ ◌||◌ (h 0 (omega arith)) (none l (λ k i. h (suc k) (suc-le-suc i)))
 
-  -- no element has what every number below b lacks
-  none_below : (b : ℕ) (l : List ℕ) → ((x : ℕ) → x < b → t x ≡ false) → ((k : ℕ) → get_or l k 0 < b) → any t l ≡ false
-  none_below b [] h f = refl
-  none_below b (x ∷ l) h f = ap₂ ◌||◌ (h x (f 0)) (none_below b l h (λ k. f (suc k)))
+  first : (l : List ℕ) (i : ℕ) → i < length l → t (get_or l i 0) ≡ true → ((k : ℕ) → k < i → t (get_or l k 0) ≡ false)
+      → (any t l ≡ true) × (first_index t l ≡ i)
+  first [] i h e before = absurd (not-suc-le-zero h)
+  first (x ∷ l) zero h e before = rw e (refl, refl)
+  first (x ∷ l) (suc i) h e before =
+      let (some, at) = first l i (le_of_suc-le-suc h) e (λ k j. before (suc k) (suc-le-suc j)) in
+      rw (before 0 (omega arith)) (some, ap suc at)
 
 -- a stray bit is one above the greatest encoding
 pub stray-is : (w m x : ℕ) → m ≡ 2 ^ w - 1 → m < x → stray_at w x ≡ true
@@ -34,25 +29,16 @@ stray-is w m x e h = let k : 2 ^ w ≤ x = omega (arith, e) in le-leb _ _ k
 pub stray-not : (w m x : ℕ) → m ≡ 2 ^ w - 1 → x ≤ m → stray_at w x ≡ false
 stray-not w m x e h = let k : x < 2 ^ w = omega (arith, e, pow_pos w) in lt-leb _ _ k
 
--- ---- the search: none of the first i elements has a stray bit
-
-pub record Clear (w : ℕ) (l : List ℕ) (i : ℕ) : Type 0 where
-  pub within : i ≤ length l
-  pub none : any (stray_at w) (take i l) ≡ false
-
--- m is the greatest encoding, x the element i
-module _ {w m : ℕ} (most : m ≡ 2 ^ w - 1) {l : List ℕ} {i : ℕ} (k : Clear w l i) (h : i < length l) {x : ℕ} (at : x ≡ get_or l i 0) where
-  pub clear_next : x ≤ m → Clear w l (i + 1)
-  clear_next g = record { within = add-one-le h; none = none-next (stray_at w) l i 0 x h at k.none (stray-not w m x most g) }
-
-  pub clear-found : m < x → FoundIn (Some i) w l
-  clear-found g =
-      let q = ap (stray_at w) (sym at) ∙ stray-is w m x most g in
-      (first_some (stray_at w) l i 0 h k.none q, first-index (stray_at w) l i h k.none q)
-
-pub clear-end : {w : ℕ} {l : List ℕ} {i : ℕ} → Clear w l i → length l ≤ i → FoundIn None w l
-clear-end {w} {l} {i} k h = none-all (stray_at w) l i (omega arith) k.none
+-- the search of a list from its start, m the greatest encoding
+pub searched : (w m : ℕ) (l : List ℕ) (r : Option ℕ) → m ≡ 2 ^ w - 1
+    → MatchOption r ((k : ℕ) → 0 ≤ k → k < length l → get_or l k 0 ≤ m)
+    (λ i. (0 ≤ i) × (i < length l) × (m < get_or l i 0) × ((k : ℕ) → 0 ≤ k → k < i → get_or l k 0 ≤ m))
+    → FoundIn r w l
+searched w m l None e h = none (stray_at w) l (λ k i. stray-not w m _ e (h k zero-le i))
+searched w m l (Some i) e h =
+    let (start, inside, above, before) = h in
+    first (stray_at w) l i inside (stray-is w m _ e above) (λ k j. stray-not w m _ e (before k zero-le j))
 
 -- a width of a whole word or more leaves no room for one
 pub word_wide : (w : ℕ) (l : List ℕ) → 64 ≤ w → ((k : ℕ) → get_or l k 0 < 18446744073709551616) → FoundIn None w l
-word_wide w l e = none_below (stray_at w) _ l (λ x h. lt-leb (2 ^ w) x (omega (arith, h, pow_mono {j = w} e)))
+word_wide w l e fit = none (stray_at w) l (λ k i. lt-leb (2 ^ w) _ (omega (arith, fit k, pow_mono {j = w} e)))

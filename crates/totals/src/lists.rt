@@ -17,7 +17,7 @@ ghost use Rattle.totals.specs.Walked.{Scans, Totals, sum_in, dot_in};
 ghost use Rattle.totals.specs.Kept.{met, KeptIn};
 
 use crate::refusal::Refusal;
-use crate::stray::find_stray;
+use crate::stray::no_stray;
 use arithmetic::summand::Summand;
 use format::environment::Env;
 use format::layout::Layout;
@@ -105,9 +105,7 @@ pub fn sum<E: Elements>(f: Layout, c: Env, u: Summand, elements: E) -> Result<An
     ensures told { answer_in result ≡ totals.sum_answer (layout_of f) (env_of c) (summand_number u) (E.list elements) }
     ensures accepted { ForOk result (λ a. totals.sum_refusal (layout_of f) (env_of c) (summand_number u) (E.list elements) ≡ 0) }
 {
-    if let Some(i) = find_stray(f.shape.width, &elements) {
-        return Err(Refusal::StrayBit(i));
-    }
+    no_stray(f.shape.width, &elements)?;
     let w = sum_of(
         c,
         u,
@@ -125,12 +123,8 @@ pub fn dot<E: Elements>(f: Layout, c: Env, left: E, right: E) -> Result<Answer, 
     ensures { answer_in result ≡ totals.dot_answer (layout_of f) (env_of c) (E.list left) (E.list right) }
 {
     let width = f.shape.width;
-    if let Some(i) = find_stray(width, &left) {
-        return Err(Refusal::StrayBit(i));
-    }
-    if let Some(i) = find_stray(width, &right) {
-        return Err(Refusal::StrayBit(i));
-    }
+    no_stray(width, &left)?;
+    no_stray(width, &right)?;
     let w = dot_of(
         c,
         Encoded {
@@ -165,9 +159,7 @@ pub fn keep(f: Layout, c: Env, values: &[u8]) -> Result<Kept, Refusal>
     ensures { KeptIn (layout_of f) (env_of c) (values_in values.now) result }
 {
     let elements = Bytes { values };
-    if let Some(i) = find_stray(f.shape.width, &elements) {
-        return Err(Refusal::StrayBit(i));
-    }
+    no_stray(f.shape.width, &elements)?;
     let numbers = Encoded {
         layout: f,
         elements,

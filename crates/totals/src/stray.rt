@@ -1,7 +1,8 @@
 // The search for an element that does not fit the width, refusal 7.
 ghost use Rattle.std.specs.Prelude.{◌<◌};
-ghost use Rattle.totals.specs.Stray.{FoundIn};
+ghost use Rattle.totals.specs.Stray.{FoundIn, Unstrayed};
 
+use crate::refusal::Refusal;
 use limbs::word::ones;
 use values::elements::Elements;
 
@@ -15,10 +16,16 @@ pub fn find_stray<E: Elements>(width: u64, elements: &E) -> Option<usize>
         return None;
     }
     let most = ones(width);
-    for i in 0..n {
-        if elements.at(i) > most {
-            return Some(i);
-        }
+    (0..n).find(|i| elements.at(*i) > most)
+}
+
+// No element is above it; refused with the place of the first that is.
+pub fn no_stray<E: Elements>(width: u64, elements: &E) -> Result<(), Refusal>
+    requires { 0 < width }
+    ensures { Unstrayed result width (E.list elements.now) }
+{
+    match find_stray(width, elements) {
+        Some(i) => Err(Refusal::StrayBit(i)),
+        None => Ok(()),
     }
-    None
 }
