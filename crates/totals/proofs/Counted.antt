@@ -71,9 +71,6 @@ module _ (f : Format) (v : Unrounded) (h : Countable v) where
     pub penny-above : fall f false ≤ origin f false
     penny-above = omega (arith, g, h.high)
 
-    pub sticky-below : v.sticky ≡ true → v.position < penny f
-    sticky-below t = omega (arith, g, h.long t)
-
     module _ (r : Cut) (u : ℕ) (e : u ≡ penny f) (c : CutAt v u r) where
       pub kept-fits : r.kept < 2 ^ 63
       kept-fits =

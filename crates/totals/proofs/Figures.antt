@@ -1,25 +1,18 @@
--- Laws of the pence figure: twice the figure cut to a whole number and halved, where a figure is too large, its sign, and the record by its refusals.
+-- Laws of the pence figure: twice the figure cut to a whole number and halved, where it is too long, and the record by its refusals.
 use mathlib.Core.Path.{◌≡◌, sym, ap, ap₂, ◌∙◌, subst}
-use mathlib.Core.Bool.{Bool, true, false, not, cond}
-use Prim.Native.Nat.{ℕ, zero, suc, ◌+◌, ◌-◌, ◌*◌, ◌/◌, ◌%◌, ◌^◌, ◌≤◌, ◌<◌, min}
+use mathlib.Core.Bool.{true, false}
+use Prim.Native.Nat.{ℕ, suc, ◌+◌, ◌-◌, ◌*◌, ◌/◌, ◌%◌, ◌^◌, ◌≤◌, ◌<◌, min}
 use native.Mathlib.Nat.{zero-add, add-mul, suc-add, mul_assoc, sub-add_cancel, div-one, div-div-eq-div-mul, add-div_right, mul-div-mul_right, pow-suc}
-use native.Mathlib.Nat.{mul-le-mul_right, le_trans, le_of_lt, lt_of_lt_of_le, min-eq_left, min-eq_right, mod-eq_of_lt}
+use native.Mathlib.Nat.{mul-le-mul_right, le_trans, lt_of_lt_of_le, min-eq_right, mod-eq_of_lt}
 use native.Mathlib.Omega.{arith}
-use lib.Dec.{T, ltb, ltb→lt, nltb→le}
-use lib.IntN.{ℤ, pos, neg_ℤ, ◌-ℤ◌, +ℤ_idl}
-use lib.Signed.{mag}
 use lib.Pow.{pow-add, pow_pos, pow_mono, shl_lt}
 use lib.Ieee.{size}
 use lib.Ieee.Digits.{size-lt, size_reaches}
-use mir.Syntax.{w64}
-use mir.Val.{SFits, to_z, of_z}
-use mir.ValLaws.{to_z_pos, to_z-of_z}
 use Rattle.totals_spec.specs.Format.{Format, valid_format, depth, lift}
 use Rattle.totals_spec.specs.Decode.{Unpacked, decode, operand}
 use Rattle.totals_spec.specs.Bounds.{FormatBounds}
 use Rattle.totals_spec.specs.Totals.{stray}
-use Rattle.totals_spec.specs.Pence.{refused_pence, pence_of, in_range, figure_of, pence_answer}
-use borrow.Author.Tests.{lt-ltb, le-ltb}
+use Rattle.totals_spec.specs.Pence.{refused_pence, pence_of, figure_of, pence_answer}
 use Rattle.totals_spec.proofs.Bits.{pow-split, size-pos}
 use Rattle.arithmetic.specs.Joined.{Bounded}
 use Rattle.arithmetic.proofs.Elements.{operand-bounded}
@@ -96,42 +89,7 @@ module _ (d k m x : ℕ) (twice : x ≡ 200 * m) where
       fits : x * 2 ^ (k - d) < 2 ^ 128
       fits = lt_of_lt_of_le (shl_lt (size x) (k - d) (size-lt x)) (pow_mono {j = 128} (omega (arith, short)))
 
--- ---- the sign
-
-module _ (n : ℕ) (h : n < 2 ^ 63) where
-  pub negated : to_z w64 0 -ℤ to_z w64 n ≡ neg_ℤ (pos n)
-  negated = ap (λ (z : ℤ). pos 0 -ℤ z) (to_z_pos w64 n h) ∙ +ℤ_idl (neg_ℤ (pos n))
-
-  pub negated_fits : SFits w64 (neg_ℤ (pos n))
-  negated_fits = record { sfits = go n h }
-    where
-      go : (n : ℕ) → n < 2 ^ 63 → mag (neg_ℤ (pos n)) < 2 ^ 63
-      go zero h = h
-      go (suc n) h = omega (arith, h)
-
-  pub signed-fits : (s : Bool) → SFits w64 (cond s (neg_ℤ (pos n)) (pos n))
-  signed-fits true = negated_fits
-  signed-fits false = record { sfits = h }
-
 -- ---- the record
-
-module _ (s : Bool) (n : ℕ) where
-  pub beyond-range : 2 ^ 63 ≤ n → refused_pence 8 ≡ in_range s n
-  beyond-range h = rw (le-ltb _ _ h)
-
-  pub within-range : (z : ℤ) → n < 2 ^ 63 → z ≡ cond s (neg_ℤ (pos n)) (pos n)
-      → record { figure = to_z w64 (of_z w64 z); refusal = 0; place = 0 } ≡ in_range s n
-  within-range z h e =
-      rw (lt-ltb _ _ h)
-      (ap (λ (x : ℤ). record { figure = x; refusal = 0; place = 0 }) (ap (λ (x : ℤ). to_z w64 (of_z w64 x)) e ∙ to_z-of_z w64 _ (signed-fits n h s)))
-
-  -- a magnitude that the code holds at 2^63 is refused as the greater one is
-  pub held : (m : ℕ) → m ≡ min n (2 ^ 63) → in_range s m ≡ in_range s n
-  held m e = ap (in_range s) e ∙ go (ltb n (2 ^ 63)) (ltb→lt n (2 ^ 63)) (nltb→le n (2 ^ 63))
-    where
-      go : (t : Bool) → (T t → n < 2 ^ 63) → (T (not t) → 2 ^ 63 ≤ n) → in_range s (min n (2 ^ 63)) ≡ in_range s n
-      go true f g = ap (in_range s) (min-eq_left (le_of_lt (f tt)))
-      go false f g = ap (in_range s) (min-eq_right (g tt)) ∙ beyond-range (g tt)
 
 module _ (f : Format) (b : ℕ) where
   pub bad-format : valid_format f ≡ false → refused_pence 3 ≡ pence_answer f b

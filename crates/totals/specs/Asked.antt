@@ -1,23 +1,28 @@
 -- What a total is asked with, once it is in its ranges, or the refusal's number; and the record of what may be refused.
 use Rattle.std.specs.Prelude.{◌≡◌, Bool, true, false, ℕ, ◌<◌, Result, Ok, Err}
-use Rattle.totals_spec.specs.Format.{Format}
+use Rattle.totals_spec.specs.Format.{Format, valid_format}
 use Rattle.totals_spec.specs.Settings.{Settings, valid_settings}
 use Rattle.totals_spec.specs.Totals.{Answer, refused}
+use Rattle.format.specs.declared.layout.Layout.{Layout}
 use Rattle.format.specs.declared.environment.Env.{Env}
-use Rattle.format.specs.Layouts.{layout_of}
+use Rattle.format.specs.Layouts.{layout_of, IsLayout}
 use Rattle.format.specs.Environments.{env_of, IsEnv}
 use Rattle.arithmetic.specs.declared.summand.Summand.{Summand}
 use Rattle.arithmetic.specs.Summands.{summand_number}
 use Rattle.reduction.specs.declared.total.Answer as code
 use Rattle.reduction.specs.Answered.{answer_of}
 use Rattle.totals.specs.declared.refusal.Refusal.{Refusal}
-use Rattle.totals.specs.declared.refusal.Refusal.TheVariants.{SettingOutOfRange}
+use Rattle.totals.specs.declared.refusal.Refusal.TheVariants.{NoSuchFormat, SettingOutOfRange}
 use Rattle.totals.specs.declared.refusal.Asked.{Asked}
 use Rattle.totals.specs.Refusal.{number_of, place_of}
 
 abbrev pub RefusesIf : Bool → Refusal → Result (Unit {0}) Refusal → Type 0
 RefusesIf holds r (Ok x) = holds ≡ false
 RefusesIf holds r (Err e) = (holds ≡ true) × (e ≡ r)
+
+abbrev pub LayoutFor : Format → Result Layout Refusal → Type 0
+LayoutFor f (Ok l) = IsLayout f l
+LayoutFor f (Err r) = (r ≡ NoSuchFormat) × (valid_format f ≡ false)
 
 abbrev pub SetFor : Format → Settings → Result Env Refusal → Type 0
 SetFor f c (Ok e) = IsEnv f c e

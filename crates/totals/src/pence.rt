@@ -12,11 +12,11 @@ ghost use Rattle.exact.specs.Joined.{significand_of, Stands};
 ghost use Rattle.arithmetic.specs.Joined.{Bounded};
 ghost use Rattle.window.specs.Joined.{LeftOf};
 ghost use Rattle.totals.specs.Refusal.{number_of, place_of};
-ghost use Rattle.totals.specs.PenceRecord.{pence_record, list_figure, Countable};
+ghost use Rattle.totals.specs.PenceRecord.{pence_record, figure_in, list_figure, Countable};
 
 use crate::lists::met_special;
-use crate::refusal::Refusal;
-use crate::stray::find_stray;
+use crate::refusal::{Refusal, layout_for, refuse_if};
+use crate::stray::no_stray;
 use arithmetic::summand::Summand;
 use binary::decode;
 use exact::Unrounded;
@@ -67,6 +67,20 @@ impl From<Refusal> for Pence {
     }
 }
 
+// The record of a figure that may be refused.
+fn recorded(figure: Result<i64, Refusal>) -> Pence
+    ensures { pence_record result ≡ figure_in figure }
+{
+    match figure {
+        Ok(figure) => Pence {
+            figure,
+            refusal: 0,
+            place: 0,
+        },
+        Err(refusal) => Pence::from(refusal),
+    }
+}
+
 // Half of a number, a half upwards; 2^63 where it is more.
 fn halved(n: u128) -> u64
     ensures { result ≡ min ((n + 1) / 2) (2 ^ 63) }
@@ -99,61 +113,60 @@ fn signed(negative: bool, n: u64) -> i64
     if negative { -x } else { x }
 }
 
-// The record of a sign and a magnitude.
-pub fn in_range(negative: bool, n: u64) -> Pence
-    ensures { pence_record result ≡ spec.in_range negative n }
+// The figure of a sign and a magnitude.
+pub fn in_range(negative: bool, n: u64) -> Result<i64, Refusal>
+    ensures { figure_in result ≡ spec.in_range negative n }
 {
     if n >= TOO_LARGE {
-        return Pence::from(Refusal::NoPence);
+        return Err(Refusal::NoPence);
     }
-    Pence {
-        figure: signed(negative, n),
-        refusal: 0,
-        place: 0,
-    }
+    Ok(signed(negative, n))
 }
 
-// The record of a decoded value, where the least number is 2^(n - d).
-fn figure_of(d: u64, n: u64, v: Unpacked) -> Pence
+// The figure of a decoded value, where the least number is 2^(n - d).
+fn figure_of(d: u64, n: u64, v: Unpacked) -> Result<i64, Refusal>
     requires { (n ≤ 268435456) × Bounded (unpacked_of v) }
-    ensures { pence_record result ≡ spec.figure_of d n (unpacked_of v) }
+    ensures { figure_in result ≡ spec.figure_of d n (unpacked_of v) }
 {
     match v {
-        Unpacked::Zero(_) => in_range(false, 0),
+        Unpacked::Zero(_) => Ok(0),
         Unpacked::Finite {
             negative,
             shift,
             significand,
         } => in_range(negative, magnitude(d, shift + n, significand)),
-        Unpacked::Infinity(_) | Unpacked::Nan { .. } => Pence::from(Refusal::NoPence),
+        Unpacked::Infinity(_) | Unpacked::Nan { .. } => Err(Refusal::NoPence),
     }
+}
+
+// The figure of an encoding.
+fn figure(f: Format, b: u64) -> Result<i64, Refusal>
+    ensures { figure_in result ≡ spec.pence_answer (format_of f) b }
+{
+    let layout = layout_for(f)?;
+    refuse_if(b > ones(f.width), Refusal::StrayBit(0))?;
+    let shape = layout.shape;
+    figure_of(shape.depth(), shape.lift(), decode(layout, b))
 }
 
 // The pence of an encoding, or why there are none.
 pub fn pence_of(f: Format, b: u64) -> Pence
     ensures { pence_record result ≡ spec.pence_answer (format_of f) b }
 {
-    let Some(layout) = Layout::new(f) else {
-        return Pence::from(Refusal::NoSuchFormat);
-    };
-    if b > ones(f.width) {
-        return Pence::from(Refusal::StrayBit(0));
-    }
-    let shape = layout.shape;
-    figure_of(shape.depth(), shape.lift(), decode(layout, b))
+    recorded(figure(f, b))
 }
 
 // The figure of a sum in pence. What has its highest bit at 2^63 pence or above is too large; of all else the whole pence fit a word, with room for one
 // more.
-fn nearest(f: Shape, v: Unrounded) -> Pence
+fn nearest(f: Shape, v: Unrounded) -> Result<i64, Refusal>
     requires { Countable v }
-    ensures { (x : ℕ) → Stands v x → pence_record result ≡ whole_figure (shape_of f) (record { neg = v.negative; mag = x }) }
+    ensures { (x : ℕ) → Stands v x → figure_in result ≡ whole_figure (shape_of f) (record { neg = v.negative; mag = x }) }
 {
     let one = f.origin(false);
     let down = f.fall(false);
     let end = v.position + v.length();
     if end + down > one + 63 {
-        return Pence::from(Refusal::NoPence);
+        return Err(Refusal::NoPence);
     }
     let whole = v.cut(one - down);
     let d = whole.dropped;
@@ -162,31 +175,29 @@ fn nearest(f: Shape, v: Unrounded) -> Pence
 }
 
 // The figure of a sum of hundredfold terms, of which v is left.
-pub fn whole_pence(f: Shape, v: Unrounded) -> Pence
+pub fn whole_pence(f: Shape, v: Unrounded) -> Result<i64, Refusal>
     requires { 0 < significand_of v → Countable v }
-    ensures { (x : Signed) → LeftOf 64 x v → pence_record result ≡ whole_figure (shape_of f) x }
+    ensures { (x : Signed) → LeftOf 64 x v → figure_in result ≡ whole_figure (shape_of f) x }
 {
     if v.is_nothing() {
-        return in_range(false, 0);
+        return Ok(0);
     }
     nearest(f, v)
 }
 
-// The pence of a list without a stray bit.
-fn hundredfold<E: Elements>(f: Layout, elements: E) -> Pence
+// The figure of a list without a stray bit.
+fn hundredfold<E: Elements>(f: Layout, elements: E) -> Result<i64, Refusal>
     requires { length (E.list elements) ≤ limit }
-    ensures { pence_record result ≡ list_figure (layout_of f) (E.list elements) }
+    ensures { figure_in result ≡ list_figure (layout_of f) (E.list elements) }
 {
     let numbers = Encoded {
         layout: f,
         elements,
     };
     let s = scan_list(&numbers, Env::default(), Summand::Value);
-    if met_special(&s) {
-        return Pence::from(Refusal::NoPence);
-    }
+    refuse_if(met_special(&s), Refusal::NoPence)?;
     if s.top == 0 {
-        return in_range(false, 0);
+        return Ok(0);
     }
     let list = Hundreds {
         layout: f,
@@ -196,19 +207,20 @@ fn hundredfold<E: Elements>(f: Layout, elements: E) -> Pence
     whole_pence(f.shape, left(DIGITS, e))
 }
 
+// The figure of the exact sum of a list.
+fn sum_figure(f: Format, values: &[u64]) -> Result<i64, Refusal>
+    ensures { figure_in result ≡ spec.sum_pence (format_of f) values.now }
+{
+    let layout = layout_for(f)?;
+    refuse_if(values.len() > LIMIT, Refusal::TooManyElements)?;
+    let elements = Words { values };
+    no_stray(layout.shape.width, &elements)?;
+    hundredfold(layout, elements)
+}
+
 // The pence of the exact sum of a list, or why there are none. Its settings are all 0.
 pub fn pence_of_sum(f: Format, values: &[u64]) -> Pence
     ensures { pence_record result ≡ spec.sum_pence (format_of f) values.now }
 {
-    let Some(layout) = Layout::new(f) else {
-        return Pence::from(Refusal::NoSuchFormat);
-    };
-    if values.len() > LIMIT {
-        return Pence::from(Refusal::TooManyElements);
-    }
-    let elements = Words { values };
-    if let Some(i) = find_stray(layout.shape.width, &elements) {
-        return Pence::from(Refusal::StrayBit(i));
-    }
-    hundredfold(layout, elements)
+    recorded(sum_figure(f, values))
 }

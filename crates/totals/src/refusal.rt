@@ -6,7 +6,7 @@ ghost use Rattle.format.specs.Shapes.{shape_of};
 ghost use Rattle.format.specs.Joined.{format_of, settings_of};
 ghost use Rattle.reduction.specs.Answered.{answer_of};
 ghost use Rattle.totals.specs.Refusal.{number_of, place_of, refusal_number, first_numbers, few_number, sum_numbers, dot_numbers};
-ghost use Rattle.totals.specs.Asked.{RefusesIf, SetFor, SummandFor, Asks, AsksSum, answer_in};
+ghost use Rattle.totals.specs.Asked.{RefusesIf, LayoutFor, SetFor, SummandFor, Asks, AsksSum, answer_in};
 
 use arithmetic::summand::Summand;
 use format::Format;
@@ -109,6 +109,13 @@ pub struct Asked {
     pub env: Env,
 }
 
+// The layout of a format that is offered.
+pub(crate) fn layout_for(f: Format) -> Result<Layout, Refusal>
+    ensures { LayoutFor (format_of f) result }
+{
+    Layout::new(f).ok_or(Refusal::NoSuchFormat)
+}
+
 // Settings in their ranges, for a format that is offered.
 pub(crate) fn settings_for(shape: Shape, c: Settings) -> Result<Env, Refusal>
     ensures { SetFor (shape_of shape) (settings_of c) result }
@@ -120,9 +127,7 @@ pub(crate) fn settings_for(shape: Shape, c: Settings) -> Result<Env, Refusal>
 fn ranged(f: Format, c: Settings) -> Result<Asked, Refusal>
     ensures { Asks (format_of f) (settings_of c) (first_numbers (valid_format (format_of f)) (format_of f) (settings_of c)) result }
 {
-    let Some(layout) = Layout::new(f) else {
-        return Err(Refusal::NoSuchFormat);
-    };
+    let layout = layout_for(f)?;
     let env = settings_for(layout.shape, c)?;
     Ok(Asked { layout, env })
 }

@@ -12,7 +12,7 @@ ghost use Rattle.totals.specs.Kept.{KeptIn};
 ghost use Rattle.totals.specs.Targets.{target_numbers, Aims, Printable, Prints, Listed, Answers};
 
 use crate::lists::{Kept, keep, met_special};
-use crate::refusal::{Refusal, few, refuse_if, settings_for, sum_refusal};
+use crate::refusal::{Refusal, few, layout_for, refuse_if, settings_for, sum_refusal};
 use format::Format;
 use format::env::Settings;
 use format::environment::Env;
@@ -56,12 +56,8 @@ struct Aim {
 fn aimed(f: Format, target: Target) -> Result<Aim, Refusal>
     ensures { Aims (format_of f) (format_of target.format) (settings_of target.settings) (first_numbers (valid_format (format_of f) && valid_format (format_of target.format)) (format_of target.format) (settings_of target.settings)) result }
 {
-    let Some(list) = Layout::new(f) else {
-        return Err(Refusal::NoSuchFormat);
-    };
-    let Some(layout) = Layout::new(target.format) else {
-        return Err(Refusal::NoSuchFormat);
-    };
+    let list = layout_for(f)?;
+    let layout = layout_for(target.format)?;
     let env = settings_for(layout.shape, target.settings)?;
     Ok(Aim { list, layout, env })
 }

@@ -1,5 +1,6 @@
 -- By what the scan has met, and else by the chain over the values a hundred times each.
 use Rattle.std.proofs.Common.{◌∙◌, arith}
+use Rattle.std.proofs.lemmas.Result.{err_from_is_err_and}
 use Rattle.totals_spec.specs.Settings.{no_settings}
 use Rattle.format.specs.Layouts.{layout_of}
 use Rattle.format.proofs.Layouts.{layout_bounds}
@@ -8,15 +9,17 @@ use Rattle.totals.proofs.Counted.{met-figure, zero-figure, chain-figure, raised-
 use Rattle.totals.proofs.Keeping.{scanned, top-room}
 use Rattle.totals.proofs.pence.hundredfold.Goals as goal
 
-pub returns-then-met_special : goal.returns-then-met_special
-returns-then-met_special g c =
+pub returns-in_err-refuse_if : goal.returns-in_err-refuse_if
+returns-in_err-refuse_if g c =
+    let p = err_from_is_err_and c.from_residual.result c.from_residual.ensures.1 in
+    let (special, is) = c.in_err-refuse_if.ensures {u = tt} in
     let seen = scanned c.args.f no_settings _ _ (rw c.default.ensures at c.scan_list-s.ensures) in
-    c.from.ensures ∙ met-figure _ _ seen c.met_special.ensures c.if-met_special.true
+    rw (p.1, p.2, is) (met-figure _ _ seen c.met_special.ensures special)
 
 pub returns-then-s-eq0 : goal.returns-then-s-eq0
 returns-then-s-eq0 g c =
     let seen = scanned c.args.f no_settings _ _ (rw c.default.ensures at c.scan_list-s.ensures) in
-    c.in_range.ensures ∙ zero-figure _ _ seen c.met_special.ensures c.if-met_special.false c.if-s-eq0.true
+    zero-figure _ _ seen c.met_special.ensures (c.in_ok-refuse_if.ensures {u = tt}) c.if-s-eq0.true
 
 pub overflow_add-s : goal.overflow_add-s
 overflow_add-s g c = record { fits = omega (arith, top-room c.args.f _ _ _ c.scan_list-s.ensures) }
@@ -34,4 +37,4 @@ pub returns : goal.returns
 returns g c =
     let seen = scanned c.args.f no_settings _ _ (rw c.default.ensures at c.scan_list-s.ensures) in
     c.whole_pence.ensures _ c.left.ensures
-    ∙ chain-figure _ _ seen c.met_special.ensures c.if-met_special.false c.requires _ c.exact-e.ensures
+    ∙ chain-figure _ _ seen c.met_special.ensures (c.in_ok-refuse_if.ensures {u = tt}) c.requires _ c.exact-e.ensures

@@ -9,8 +9,7 @@ use Rattle.totals.proofs.pence.nearest.Goals as goal
 
 pub returns-then-end-down : goal.returns-then-end-down
 returns-then-end-down c = λ x st.
-    c.from.ensures
-    ∙ too_large (shape_of c.args.f) c.args.v c.requires
+    too_large (shape_of c.args.f) c.args.v c.requires
     (omega (arith, c.if-end-down.true, c.length.ensures.0, c.fall-down.ensures.value, c.origin-one.ensures.value)) x st
 
 pub overflow_add-whole : goal.overflow_add-whole

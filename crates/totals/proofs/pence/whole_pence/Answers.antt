@@ -8,4 +8,4 @@ use Rattle.totals.proofs.pence.whole_pence.Goals as goal
 pub returns-then-is_nothing : goal.returns-then-is_nothing
 returns-then-is_nothing c x l =
     let f = shape_of c.args.f in
-    c.in_range.ensures ∙ sym (figure-none f) ∙ ap (whole_figure f) (sym (l.none (eqb-true _ 0 (sym c.is_nothing.ensures ∙ c.if-is_nothing.true))))
+    sym (figure-none f) ∙ ap (whole_figure f) (sym (l.none (eqb-true _ 0 (sym c.is_nothing.ensures ∙ c.if-is_nothing.true))))
