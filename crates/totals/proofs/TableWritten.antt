@@ -11,8 +11,6 @@ use Rattle.totals_spec.specs.Totals as totals
 use Rattle.totals_spec.specs.Bytes.{entered}
 use Rattle.totals_spec.specs.Table.{table_answer}
 use Rattle.totals_spec.specs.Words.{misnamed, format_by, table_entry}
-use Rattle.reduction.specs.declared.total.Answer.{Answer}
-use Rattle.reduction.specs.Answered.{answer_of}
 use Rattle.totals.specs.Entered.{Enters, EntersTable}
 use Rattle.totals.specs.Tables.{Tables}
 
@@ -26,9 +24,9 @@ module _ (k e w named : ℕ) (b : ℤ) (c : Settings) (rows columns : ℕ) (cell
     unfolding table_entry
     table-misnamed m = rw (le-ltb (length buffer) 24 room, m) (record { code_is = refl; rows_are = refl; columns-are = refl; buffer-is = refl })
 
-    pub table-enters : misnamed named b ≡ false → (a : Answer) (row_totals column_totals : List ℕ)
+    pub table-enters : misnamed named b ≡ false → (a : totals.Answer) (row_totals column_totals : List ℕ)
         → Tables (table_answer (format_by k e w named b) c rows columns cells old other) a row_totals column_totals → (code : ℕ) (new : List ℕ)
-        → Enters (entered (answer_of a) buffer) code new
+        → Enters (entered a buffer) code new
         → EntersTable (table_entry k e w named b c rows columns cells old other buffer) code row_totals column_totals new
     unfolding table_entry
     table-enters m a r s t code new h =

@@ -4,11 +4,13 @@ ghost use Rattle.totals_spec.specs.Table as spec;
 ghost use Rattle.format.specs.Layouts.{layout_of};
 ghost use Rattle.format.specs.Environments.{env_of};
 ghost use Rattle.format.specs.Joined.{format_of, settings_of};
+ghost use Rattle.reduction.specs.Answered.{answer_of};
 ghost use Rattle.totals.specs.Refusal.{sum_numbers};
+ghost use Rattle.totals.specs.Asked.{answer_in};
 ghost use Rattle.totals.specs.Tables.{Tables};
 
 use crate::lists::sum;
-use crate::refusal::{Refusal, answered, sum_refusal};
+use crate::refusal::{Refusal, answered, refuse_if, sum_refusal};
 use arithmetic::summand::Summand;
 use format::Format;
 use format::env::Settings;
@@ -55,6 +57,30 @@ fn fill_columns(f: Layout, c: Env, rows: usize, columns: usize, cells: &[u64], t
 }
 
 // The total of all cells comes first, and with it the last refusal: nothing is written before.
+fn filled(
+    f: Format,
+    c: Settings,
+    rows: usize,
+    columns: usize,
+    cells: &[u64],
+    row_totals: &mut [u64],
+    column_totals: &mut [u64],
+) -> Result<Answer, Refusal>
+    ensures { Tables (spec.table_answer (format_of f) (settings_of c) rows columns cells.now row_totals.old column_totals.old) (answer_in result) row_totals.new column_totals.new }
+{
+    let (asked, _) = sum_refusal(f, c, 0, cells.len())?;
+    refuse_if(misshapen(rows, columns, cells.len()), Refusal::BadShape)?;
+    if row_totals.len() < rows || column_totals.len() < columns {
+        return Err(Refusal::NoRoom);
+    }
+    let all = Words { values: cells };
+    let grand = sum(asked.layout, asked.env, Summand::Value, all)?;
+    fill_rows(asked.layout, asked.env, rows, columns, cells, row_totals);
+    fill_columns(asked.layout, asked.env, rows, columns, cells, column_totals);
+    Ok(grand)
+}
+
+// The totals of a table, or why there are none.
 pub fn table(
     f: Format,
     c: Settings,
@@ -64,24 +90,7 @@ pub fn table(
     row_totals: &mut [u64],
     column_totals: &mut [u64],
 ) -> Answer
-    ensures { Tables (spec.table_answer (format_of f) (settings_of c) rows columns cells.now row_totals.old column_totals.old) result row_totals.new column_totals.new }
+    ensures { Tables (spec.table_answer (format_of f) (settings_of c) rows columns cells.now row_totals.old column_totals.old) (answer_of result) row_totals.new column_totals.new }
 {
-    let asked = match sum_refusal(f, c, 0, cells.len()) {
-        Ok((asked, _)) => asked,
-        Err(refusal) => return Answer::from(refusal),
-    };
-    if misshapen(rows, columns, cells.len()) {
-        return Answer::from(Refusal::BadShape);
-    }
-    if row_totals.len() < rows || column_totals.len() < columns {
-        return Answer::from(Refusal::NoRoom);
-    }
-    let all = Words { values: cells };
-    let grand = match sum(asked.layout, asked.env, Summand::Value, all) {
-        Ok(grand) => grand,
-        Err(refusal) => return Answer::from(refusal),
-    };
-    fill_rows(asked.layout, asked.env, rows, columns, cells, row_totals);
-    fill_columns(asked.layout, asked.env, rows, columns, cells, column_totals);
-    grand
+    answered(filled(f, c, rows, columns, cells, row_totals, column_totals))
 }
