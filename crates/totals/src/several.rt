@@ -8,11 +8,12 @@ ghost use Rattle.format.specs.Environments.{env_of};
 ghost use Rattle.format.specs.Joined.{format_of, settings_of};
 ghost use Rattle.reduction.specs.Answered.{answer_of};
 ghost use Rattle.totals.specs.Refusal.{first_numbers, sum_numbers};
+ghost use Rattle.totals.specs.Asked.{answer_in};
 ghost use Rattle.totals.specs.Kept.{KeptIn};
 ghost use Rattle.totals.specs.Targets.{target_numbers, Aims, Printable, Prints, Listed, Answers};
 
 use crate::lists::{Kept, keep, met_special};
-use crate::refusal::{Refusal, few, layout_for, refuse_if, settings_for, sum_refusal};
+use crate::refusal::{Refusal, answered, few, layout_for, refuse_if, settings_for, sum_refusal};
 use format::Format;
 use format::env::Settings;
 use format::environment::Env;
@@ -78,16 +79,16 @@ fn target_refusal(
 }
 
 // The record of a target, where no element has a stray bit: 17, a zero, or what the list leaves, rounded.
-fn print_one(aim: Aim, kept: Kept) -> Answer
+fn print_one(aim: Aim, kept: Kept) -> Result<Answer, Refusal>
     requires { Printable (layout_of aim.list) (layout_of aim.layout) (env_of aim.env) kept }
-    ensures { Prints (layout_of aim.list) (layout_of aim.layout) (env_of aim.env) kept (answer_of result) }
+    ensures { Prints (layout_of aim.list) (layout_of aim.layout) (env_of aim.env) kept (answer_in result) }
 {
     let list = aim.list.shape;
     let s = kept.scan;
     if aim.layout.shape.digits() > list.digits() || met_special(&s) {
-        return Answer::from(Refusal::TargetOutOfReach);
+        return Err(Refusal::TargetOutOfReach);
     }
-    match kept.sum {
+    Ok(match kept.sum {
         Some(e) => print(list, aim.layout, aim.env, s.subnormal, e),
         None => print_zero(
             aim.layout,
@@ -96,7 +97,7 @@ fn print_one(aim: Aim, kept: Kept) -> Answer
             s.positive_zero,
             s.negative_zero,
         ),
-    }
+    })
 }
 
 // The record of a target of a list of n values.
@@ -106,15 +107,12 @@ fn into_target(
     n: usize,
     list: Result<Kept, Refusal>,
     target: Target,
-) -> Answer
+) -> Result<Answer, Refusal>
     requires { sum_numbers (format_of f) (spec.reading_with denormals_are_zero) 0 n ≡ 0 → Listed (format_of f) denormals_are_zero n list }
-    ensures { Answers (format_of f) denormals_are_zero n (format_of target.format) (settings_of target.settings) list (answer_of result) }
+    ensures { Answers (format_of f) denormals_are_zero n (format_of target.format) (settings_of target.settings) list (answer_in result) }
 {
-    match (target_refusal(f, denormals_are_zero, n, target), list) {
-        (Err(refusal), _) => Answer::from(refusal),
-        (Ok(_), Err(refusal)) => Answer::from(refusal),
-        (Ok(aim), Ok(kept)) => print_one(aim, kept),
-    }
+    let aim = target_refusal(f, denormals_are_zero, n, target)?;
+    print_one(aim, list?)
 }
 
 // The walk of a list that is not refused as it stands.
@@ -138,9 +136,9 @@ pub fn in_three(
 {
     let n = values.len() / 8;
     let list = walk_once(f, denormals_are_zero, values);
-    let first = into_target(f, denormals_are_zero, n, list, a);
-    let second = into_target(f, denormals_are_zero, n, list, b);
-    let third = into_target(f, denormals_are_zero, n, list, c);
+    let first = answered(into_target(f, denormals_are_zero, n, list, a));
+    let second = answered(into_target(f, denormals_are_zero, n, list, b));
+    let third = answered(into_target(f, denormals_are_zero, n, list, c));
     Printed {
         first,
         second,

@@ -14,10 +14,9 @@ pub returns-then-digits : goal.returns-then-digits
 returns-then-digits c = λ d l a n k.
     elim c.then-digits.branch [
       | then-digits-via-then-digits w ↦
-          c.from.ensures ∙ too_wide _ d l _ _ a n (omega (arith, c.digits.ensures, c.digits-2.ensures, w.if-digits.true))
+          too_wide _ d l _ _ a n (omega (arith, c.digits.ensures, c.digits-2.ensures, w.if-digits.true))
       | then-digits-via-else-digits+then-met_special w ↦
-          c.from.ensures
-          ∙ not_finite _ d l _ _ a n (omega (arith, c.digits.ensures, c.digits-2.ensures, w.if-digits.false))
+          not_finite _ d l _ _ a n (omega (arith, c.digits.ensures, c.digits-2.ensures, w.if-digits.false))
           (k.special ∙ sym w.met_special.ensures ∙ w.if-met_special.true)
     ]
 
