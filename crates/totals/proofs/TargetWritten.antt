@@ -1,7 +1,7 @@
 -- The entry of three targets: its numbers and its slots in bytes, and what it leaves by its tests.
 use mathlib.Core.Path.{◌≡◌, refl, sym, ap, ap₂, ◌∙◌, subst}
 use mathlib.Core.Logic.{◌≢◌}
-use mathlib.Core.Bool.{Bool, ◌||◌, cond}
+use mathlib.Core.Bool.{Bool, true, false, ◌||◌}
 use mathlib.Core.List.{List, ◌++◌}
 use Prim.Native.Nat.{ℕ, ◌+◌, ◌*◌, ◌<◌, ◌≤◌}
 use native.Mathlib.Omega.{arith}
@@ -9,20 +9,25 @@ use lib.IntN.{ℤ}
 use lib.ListN.{length}
 use borrow.Author.Tests.{eq-eqb, ne_eqb}
 use Rattle.totals_spec.specs.Format.{Format}
-use Rattle.totals_spec.specs.Settings.{Settings}
 use Rattle.totals_spec.specs.Totals.{Answer, refused}
 use Rattle.totals_spec.specs.Bytes.{to_bytes, values_in, uneven, written}
 use Rattle.totals_spec.specs.Table.{filled}
 use Rattle.totals_spec.specs.Words.{misnamed, format_by}
-use Rattle.further_spec.specs.Several.{misnamed_at, format_at, settings_at, answer_at, slot_of, slots, target_answer, target_entry}
+use Rattle.further_spec.specs.Several.{misnamed_at, format_at, settings_at, answer_at, slot_of, slots, target_entry}
 use Rattle.totals_spec.proofs.Accepted.{cond_has}
 use Rattle.further_spec.proofs.Targets.{target_small, target_fits}
 use Rattle.values.specs.Laid.{laid}
 use Rattle.page.specs.Paged.{laid_over}
 use Rattle.page.proofs.Laying.{over-next}
+use Rattle.std.specs.Prelude.{Result, Ok, Err}
+use Rattle.reduction.specs.Answered.{answer_of}
 use Rattle.totals.specs.declared.refusal.Refusal.{Refusal}
+use Rattle.totals.specs.declared.refusal.Refusal.TheVariants.{NoSuchFormat}
+use Rattle.totals.specs.declared.several.Target.{Target}
+use Rattle.totals.specs.declared.several.Printed.{Printed}
 use Rattle.totals.specs.Entered.{Enters, Fits}
-use Rattle.totals.specs.Refusal.{number_of, length_numbers}
+use Rattle.totals.specs.Refusal.{number_of, place_of, length_numbers}
+use Rattle.totals.specs.Targets.{Told, TargetAt, ThreeAnswers}
 use Rattle.totals.proofs.Written.{flags-side, turned-away, let-through}
 
 -- ---- slots
@@ -82,11 +87,23 @@ slot-fits bad f d l ns j r is old room =
     (record { room = omega (arith, room); number = omega arith; place = omega arith; flags = omega arith; side = omega arith })
     (record { room = omega (arith, room); number = small.number; place = small.place; flags = fit.flags; side = fit.side }))
 
--- the record of a target, by its answer a
-pub at_told : (bad : Bool) (f : Format) (d : ℕ) (l ns : List ℕ) (j : ℕ) (t : Format) (c : Settings) (a r : Answer) → t ≡ format_at ns j
-    → c ≡ settings_at ns j → a ≡ target_answer f d l t c → r ≡ cond (bad || misnamed_at ns j) (refused 3 0) a → r ≡ answer_at bad f d l ns j
+-- the record of the target whose first number is the j-th
+at_told : (f : Format) (d : ℕ) (l ns : List ℕ) (j : ℕ) (t : Result Target Refusal) (a : Answer) → TargetAt ns j t → Told f d l t a
+    → a ≡ answer_at false f d l ns j
 unfolding answer_at
-at_told bad f d l ns j t c a r p q e h = h ∙ ap (cond (bad || misnamed_at ns j) (refused 3 0)) (e ∙ ap₂ (target_answer f d l) p q)
+at_told f d l ns j (Ok t) a (named, format, settings) h = rw named (rw (format, settings) at h)
+at_told f d l ns j (Err e) a (bad, is) h = rw bad (rw is at h)
+
+module _ (bad : Bool) (f : Format) (d : ℕ) (l ns : List ℕ) (r : Printed) where
+  pub three-named : bad ≡ false → (g : Format) → g ≡ f → (a b c : Result Target Refusal) → TargetAt ns 0 a → TargetAt ns 13 b → TargetAt ns 26 c
+      → Told g d l a (answer_of r.first) → Told g d l b (answer_of r.second) → Told g d l c (answer_of r.third) → ThreeAnswers bad f d l ns r
+  three-named e g is a b c p q s x y z =
+      rw (e, ← is) (record { first = at_told g d l ns 0 a _ p x; second = at_told g d l ns 13 b _ q y; third = at_told g d l ns 26 c _ s z })
+
+  pub three-misnamed : bad ≡ true → (e : Refusal) → e ≡ NoSuchFormat → let a = refused (number_of e) (place_of e) in
+      answer_of r.first ≡ a → answer_of r.second ≡ a → answer_of r.third ≡ a → ThreeAnswers bad f d l ns r
+  unfolding answer_at
+  three-misnamed q e is x y z = rw q (record { first = rw is at x; second = rw is at y; third = rw is at z })
 
 -- ---- the entry
 

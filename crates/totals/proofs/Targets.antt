@@ -15,7 +15,7 @@ use Rattle.totals_spec.specs.Decode.{zero_of, is_subnormal}
 use Rattle.totals_spec.specs.Terms.{item, is_zero}
 use Rattle.totals_spec.specs.Chain.{chain}
 use Rattle.totals_spec.specs.Settled.{settled}
-use Rattle.totals_spec.specs.Totals.{refused, special, towards_negative, zero_sign, limit, stray, refuse_if, first_index, sum_terms}
+use Rattle.totals_spec.specs.Totals.{Answer, refused, special, towards_negative, zero_sign, limit, stray, refuse_if, first_index, sum_terms}
 use Rattle.totals_spec.specs.Pence.{not_number}
 use Rattle.further_spec.specs.Several.{reading_with, rounded_into, printed, printed_items, target_refusal, target_answer}
 use Rattle.totals_spec.proofs.Valid.{and_left, and_right, format-bounds, settings-bounds}
@@ -24,7 +24,12 @@ use Rattle.totals_spec.proofs.Order.{first-zero}
 use Rattle.further_spec.proofs.Several.{target-by-chain, target-exact}
 use Rattle.totals.specs.declared.refusal.Refusal.{Refusal}
 use Rattle.totals.specs.Refusal.{number_of, place_of, first_numbers, few_number, sum_numbers}
-use Rattle.totals.specs.Targets.{target_numbers}
+use Rattle.std.specs.Prelude.{Result, Ok, Err}
+use Rattle.format.specs.Joined.{format_of, settings_of}
+use Rattle.totals.specs.declared.lists.Kept.{Kept}
+use Rattle.totals.specs.declared.several.Target.{Target}
+use Rattle.totals.specs.Kept.{KeptIn}
+use Rattle.totals.specs.Targets.{target_numbers, Answers, AnswersTo, Told}
 use Rattle.totals.proofs.Refusals.{number-some, first-passed}
 use Rattle.totals.proofs.Answers.{Tests, no_test, test, stopped, seventh}
 
@@ -98,6 +103,16 @@ module _ (f : Format) (d : ℕ) (l : List ℕ) (t : Format) (c : Settings) {n : 
   pub target-strayed : target_numbers f d n t c ≡ 0 → any (stray f) l ≡ true → refused 7 (first_index (stray f) l) ≡ target_answer f d l t c
   unfolding target_numbers target_answer target_refusal
   target-strayed e some = rw (long, some) (seventh _ (target-tests f d n t c) (first_index (stray f) l) _ e)
+
+-- a target that was not refused before, and one that was or was not, by the walk of its list
+pub answers-target : (f : Format) (d n : ℕ) (r : Result Kept Refusal) (a : Answer) {t : Target} (o : Result Target Refusal) → o ≡ Ok t
+    → Answers f d n (format_of t.format) (settings_of t.settings) r a → AnswersTo f d n o r a
+answers-target f d n r a o e h = rw e h
+
+pub target-told : (f : Format) (d n : ℕ) (r : Result Kept Refusal) (a b : Answer) (o : Result Target Refusal) (l : List ℕ) → AnswersTo f d n o r a
+    → n ≡ length l → (sum_numbers f (reading_with d) 0 n ≡ 0 → KeptIn f (reading_with d) l r) → b ≡ a → Told f d l o b
+target-told f d n r a b (Ok t) l h many kept e = e ∙ h l many kept
+target-told f d n r a b (Err q) l h many kept e = e ∙ h
 
 -- ---- a list of which all is known but its values
 

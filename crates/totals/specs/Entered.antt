@@ -1,11 +1,16 @@
 -- What a byte entry leaves behind: the number that it gives, and the buffer. And a format and settings from an entry's numbers, in its order.
-use Rattle.std.specs.Prelude.{◌≡◌, List, ℕ, ◌^◌, ◌<◌, ◌≤◌, length, ℤ}
+use Rattle.std.specs.Prelude.{◌≡◌, true, false, List, ℕ, ◌^◌, ◌<◌, ◌≤◌, length, ℤ, Option, Result, Ok, Err}
 use Rattle.std.proofs.Math.Option.{none, some}
 use Rattle.totals_spec.specs.Format.{Format}
 use Rattle.totals_spec.specs.Settings.{Settings}
 use Rattle.totals_spec.specs.Totals.{Answer}
 use Rattle.totals_spec.specs.Bytes.{Entry}
-use Rattle.totals_spec.specs.Words.{FigureEntry, TableEntry}
+use Rattle.totals_spec.specs.Words.{FigureEntry, TableEntry, misnamed, format_by}
+use Rattle.format.specs.Kinds.{bias_in}
+use Rattle.format.specs.declared.Format as code
+use Rattle.format.specs.Joined.{format_of}
+use Rattle.totals.specs.declared.refusal.Refusal.{Refusal}
+use Rattle.totals.specs.declared.refusal.Refusal.TheVariants.{NoSuchFormat}
 
 pub record Enters (e : Entry) (code : ℕ) (buffer : List ℕ) : Type 0 where
   pub code_is : code ≡ e.code
@@ -37,6 +42,9 @@ pub record FitsTens (a : Answer) (buffer : List ℕ) : Type 0 where
   pub flags : a.flags < 256
   pub side : a.side < 4
 
+abbrev pub format_with : (kind exponent_bits width : ℕ) → Option ℤ → Format
+format_with k e w n = record { kind = k; E = e; W = w; named = bias_in n }
+
 abbrev pub format_from : (kind exponent_bits width : ℕ) → Format
 format_from k e w = record { kind = k; E = e; W = w; named = none }
 
@@ -54,3 +62,8 @@ settings_from r t n s f d a q = record {
   saturate = a;
   precision = q;
 }
+
+-- a format that is named as a whole, or not
+abbrev pub Named : (kind exponent_bits width named : ℕ) (bias : ℤ) → Result code.Format Refusal → Type 0
+Named k e w n b (Ok f) = (misnamed n b ≡ false) × (format_of f ≡ format_by k e w n b)
+Named k e w n b (Err r) = (misnamed n b ≡ true) × (r ≡ NoSuchFormat)

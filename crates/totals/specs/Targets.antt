@@ -1,17 +1,22 @@
 -- The targets of a list (document 02, A.14): the tests that do not look at the elements, and what the walk that all targets share keeps.
-use Rattle.std.specs.Prelude.{◌≡◌, false, not, ◌&&◌, List, ℕ, leb, ltb, length, Result, Ok, Err}
+use Rattle.std.specs.Prelude.{◌≡◌, Bool, true, false, not, ◌&&◌, List, ℕ, leb, ltb, length, Result, Ok, Err}
 use Rattle.totals_spec.specs.Basics.{any}
 use Rattle.totals_spec.specs.Format.{Format, valid_format}
 use Rattle.totals_spec.specs.Settings.{Settings, valid_settings}
 use Rattle.totals_spec.specs.Bounds.{SettingsBounds}
-use Rattle.totals_spec.specs.Totals.{Answer, refuse_if, limit, stray}
-use Rattle.further_spec.specs.Several.{reading_with, target_answer}
+use Rattle.totals_spec.specs.Totals.{Answer, refused, refuse_if, limit, stray}
+use Rattle.further_spec.specs.Several.{reading_with, target_answer, misnamed_at, format_at, settings_at, answer_at}
 use Rattle.totals.specs.declared.lists.Kept.{Kept}
-use Rattle.totals.specs.Refusal.{number_of, sum_numbers}
+use Rattle.totals.specs.Refusal.{number_of, place_of, sum_numbers}
 use Rattle.totals.specs.Kept.{Keeps, KeptIn}
 use Rattle.format.specs.Layouts.{layout_of}
 use Rattle.format.specs.Environments.{env_of}
+use Rattle.format.specs.Joined.{format_of, settings_of}
+use Rattle.reduction.specs.Answered.{answer_of}
 use Rattle.totals.specs.declared.refusal.Refusal.{Refusal}
+use Rattle.totals.specs.declared.refusal.Refusal.TheVariants.{NoSuchFormat}
+use Rattle.totals.specs.declared.several.Target.{Target}
+use Rattle.totals.specs.declared.several.Printed.{Printed}
 use Rattle.totals.specs.declared.several.Aim.{Aim}
 
 -- refusals 3, 4 and 6 of a target, for a list of n values
@@ -47,3 +52,24 @@ pub record Listed (f : Format) (d n : ℕ) (r : Result Kept Refusal) : Type 0 wh
 abbrev pub Answers : Format → ℕ → ℕ → Format → Settings → Result Kept Refusal → Answer → Type 0
 Answers f d n t c r a =
     (l : List ℕ) → n ≡ length l → (sum_numbers f (reading_with d) 0 n ≡ 0 → KeptIn f (reading_with d) l r) → a ≡ target_answer f d l t c
+
+-- the same of a target that may be refused before
+abbrev pub AnswersTo : Format → ℕ → ℕ → Result Target Refusal → Result Kept Refusal → Answer → Type 0
+AnswersTo f d n (Ok t) r a = Answers f d n (format_of t.format) (settings_of t.settings) r a
+AnswersTo f d n (Err e) r a = a ≡ refused (number_of e) (place_of e)
+
+-- and of one that was walked
+abbrev pub Told : Format → ℕ → List ℕ → Result Target Refusal → Answer → Type 0
+Told f d l (Ok t) a = a ≡ target_answer f d l (format_of t.format) (settings_of t.settings)
+Told f d l (Err e) a = a ≡ refused (number_of e) (place_of e)
+
+-- the target whose first number is the j-th
+abbrev pub TargetAt : List ℕ → ℕ → Result Target Refusal → Type 0
+TargetAt ns j (Ok t) = (misnamed_at ns j ≡ false) × (format_of t.format ≡ format_at ns j) × (settings_of t.settings ≡ settings_at ns j)
+TargetAt ns j (Err e) = (misnamed_at ns j ≡ true) × (e ≡ NoSuchFormat)
+
+-- the three records of a list, whose format is named as a whole or is not
+pub record ThreeAnswers (bad : Bool) (f : Format) (d : ℕ) (l ns : List ℕ) (r : Printed) : Type 0 where
+  pub first : answer_of r.first ≡ answer_at bad f d l ns 0
+  pub second : answer_of r.second ≡ answer_at bad f d l ns 13
+  pub third : answer_of r.third ≡ answer_at bad f d l ns 26

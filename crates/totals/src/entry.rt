@@ -12,13 +12,14 @@ ghost use Rattle.page.specs.Paged.{laid_over};
 ghost use Rattle.reduction.specs.Answered.{answer_of, answer_as};
 ghost use Rattle.totals.specs.Ranges.{EntersRange};
 ghost use Rattle.totals.specs.Refusal.{refusal_number, length_numbers};
-ghost use Rattle.totals.specs.Entered.{Enters, EntersFigure, EntersTable, Fits, FitsTens, format_from, biased_from, settings_from};
+ghost use Rattle.totals.specs.Entered.{Enters, EntersFigure, EntersTable, Fits, FitsTens, format_with, format_from, biased_from, settings_from, Named};
+ghost use Rattle.totals.specs.Targets.{TargetAt, ThreeAnswers};
 
 use crate::pages::span;
 use crate::pence::pence_of_sum;
 use crate::range::range_total;
 use crate::refusal::{Refusal, number, refuse_if};
-use crate::several::{Printed, Target, in_three};
+use crate::several::{Printed, Target, into_three};
 use crate::table::table;
 use crate::{dot_bytes, extended, sum_bytes};
 use format::Format;
@@ -92,38 +93,35 @@ fn lengths(cut: bool, room: usize, needed: usize) -> Result<(), Refusal>
     refuse_if(room < needed, Refusal::ShortBuffer)
 }
 
-// Formats from an entry's numbers: one that names no bias, one that names it, and one where a number says whether it does.
+// A format from an entry's numbers, and the bias where it names one.
 #[inline(always)]
-fn format_from(kind: u64, exponent_bits: u64, width: u64) -> Format
-    ensures { format_of result ≡ format_from kind exponent_bits width }
+fn format_with(kind: u64, exponent_bits: u64, width: u64, named: Option<i64>) -> Format
+    ensures { format_of result ≡ format_with kind exponent_bits width named }
 {
     Format {
         kind,
         exponent_bits,
         width,
-        named: None,
+        named,
     }
 }
 
-#[inline(always)]
-fn biased_from(kind: u64, exponent_bits: u64, width: u64, bias: i64) -> Format
-    ensures { format_of result ≡ biased_from kind exponent_bits width bias }
+// A format whose bias a caller names by two numbers: 1 and the bias, or 0 and 0. Anything else was not set up as a whole, and either reading would be a guess.
+fn named_format(
+    kind: u64,
+    exponent_bits: u64,
+    width: u64,
+    bias_named: u64,
+    bias: i64,
+) -> Result<Format, Refusal>
+    ensures { Named kind exponent_bits width bias_named bias result }
 {
-    Format {
-        kind,
-        exponent_bits,
-        width,
-        named: Some(bias),
-    }
-}
-
-fn format_by(kind: u64, exponent_bits: u64, width: u64, bias_named: u64, bias: i64) -> Format
-    ensures { format_of result ≡ words.format_by kind exponent_bits width bias_named bias }
-{
-    if bias_named == 1 {
-        return biased_from(kind, exponent_bits, width, bias);
-    }
-    format_from(kind, exponent_bits, width)
+    let named = match (bias_named, bias) {
+        (0, 0) => None,
+        (1, _) => Some(bias),
+        _ => return Err(Refusal::NoSuchFormat),
+    };
+    Ok(format_with(kind, exponent_bits, width, named))
 }
 
 // Settings from an entry's numbers, in its order.
@@ -228,7 +226,7 @@ pub fn totals_sum(
 ) -> u64
     ensures { Enters (ten.sum_call (format_from kind exponent_bits width) (settings_from rounding tininess nan_propagation default_nan_negative flush_to_zero denormals_are_zero saturate precision) summand values.now answer.old) result answer.new }
 {
-    let f = format_from(kind, exponent_bits, width);
+    let f = format_with(kind, exponent_bits, width, None);
     let c = settings(
         rounding,
         tininess,
@@ -261,7 +259,7 @@ pub fn totals_dot(
 ) -> u64
     ensures { Enters (ten.dot_call (format_from kind exponent_bits width) (settings_from rounding tininess nan_propagation default_nan_negative flush_to_zero denormals_are_zero saturate precision) left.now right.now answer.old) result answer.new }
 {
-    let f = format_from(kind, exponent_bits, width);
+    let f = format_with(kind, exponent_bits, width, None);
     let c = settings(
         rounding,
         tininess,
@@ -295,7 +293,7 @@ pub fn totals_sum_biased(
 ) -> u64
     ensures { Enters (ten.sum_call (biased_from kind exponent_bits width bias) (settings_from rounding tininess nan_propagation default_nan_negative flush_to_zero denormals_are_zero saturate precision) summand values.now answer.old) result answer.new }
 {
-    let f = biased_from(kind, exponent_bits, width, bias);
+    let f = format_with(kind, exponent_bits, width, Some(bias));
     let c = settings(
         rounding,
         tininess,
@@ -328,7 +326,7 @@ pub fn totals_dot_biased(
 ) -> u64
     ensures { Enters (ten.dot_call (biased_from kind exponent_bits width bias) (settings_from rounding tininess nan_propagation default_nan_negative flush_to_zero denormals_are_zero saturate precision) left.now right.now answer.old) result answer.new }
 {
-    let f = biased_from(kind, exponent_bits, width, bias);
+    let f = format_with(kind, exponent_bits, width, Some(bias));
     let c = settings(
         rounding,
         tininess,
@@ -340,16 +338,6 @@ pub fn totals_dot_biased(
         precision,
     );
     enter_dot(f, c, left, right, answer)
-}
-
-// The bias of a format as a caller names it: 1 and the bias, or 0 and 0. Anything else was not set up as a whole, and either reading would be a guess.
-fn misnamed(bias_named: u64, bias: i64) -> bool
-    ensures { result ≡ words.misnamed bias_named bias }
-{
-    if bias_named == 0 {
-        return bias.unsigned_abs() != 0;
-    }
-    bias_named > 1
 }
 
 // The pence of the exact sum of a list of words.
@@ -364,13 +352,10 @@ pub fn totals_pence(
 ) -> u64
     ensures { EntersFigure (words.pence_entry kind exponent_bits width bias_named bias values.now figure.old) result figure.new }
 {
-    if misnamed(bias_named, bias) {
+    let Ok(format) = named_format(kind, exponent_bits, width, bias_named, bias) else {
         return Refusal::NoSuchFormat.number();
-    }
-    let p = pence_of_sum(
-        format_by(kind, exponent_bits, width, bias_named, bias),
-        values,
-    );
+    };
+    let p = pence_of_sum(format, values);
     if p.refusal != 0 {
         return code(p.refusal, p.place);
     }
@@ -405,10 +390,9 @@ pub fn totals_table(
     if answer.len() < 24 {
         return Refusal::ShortBuffer.number();
     }
-    if misnamed(bias_named, bias) {
+    let Ok(f) = named_format(kind, exponent_bits, width, bias_named, bias) else {
         return Refusal::NoSuchFormat.number();
-    }
-    let f = format_by(kind, exponent_bits, width, bias_named, bias);
+    };
     let c = settings(
         rounding,
         tininess,
@@ -454,21 +438,7 @@ fn signed_word(x: u64) -> i64
     x.cast_signed()
 }
 
-// The format of the target whose first number is the j-th.
-fn format_at(targets: &[u8], j: usize) -> Format
-    requires { 8 * (j + 13) ≤ length targets.now }
-    ensures { format_of result ≡ several.format_at (values_in targets.now) j }
-{
-    format_by(
-        word_at(targets, j),
-        word_at(targets, j + 1),
-        word_at(targets, j + 2),
-        word_at(targets, j + 3),
-        signed_word(word_at(targets, j + 4)),
-    )
-}
-
-// Its settings.
+// The settings of the target whose first number is the j-th.
 fn settings_at(targets: &[u8], j: usize) -> Settings
     requires { 8 * (j + 13) ≤ length targets.now }
     ensures { settings_of result ≡ several.settings_at (values_in targets.now) j }
@@ -485,45 +455,55 @@ fn settings_at(targets: &[u8], j: usize) -> Settings
     )
 }
 
-fn target_at(targets: &[u8], j: usize) -> Target
+// That target, where it is named as a whole.
+fn target_at(targets: &[u8], j: usize) -> Result<Target, Refusal>
     requires { 8 * (j + 13) ≤ length targets.now }
-    ensures { (format_of result.format ≡ several.format_at (values_in targets.now) j) × (settings_of result.settings ≡ several.settings_at (values_in targets.now) j) }
+    ensures { TargetAt (values_in targets.now) j result }
 {
-    Target {
-        format: format_at(targets, j),
+    let format = named_format(
+        word_at(targets, j),
+        word_at(targets, j + 1),
+        word_at(targets, j + 2),
+        word_at(targets, j + 3),
+        signed_word(word_at(targets, j + 4)),
+    )?;
+    Ok(Target {
+        format,
         settings: settings_at(targets, j),
-    }
+    })
 }
 
-// The record of the target, where the list's format and its own are named as a whole.
-fn named_answer(bad: bool, targets: &[u8], j: usize, a: Answer) -> Answer
-    requires { 8 * (j + 13) ≤ length targets.now }
-    ensures { answer_of result ≡ cond (bad || several.misnamed_at (values_in targets.now) j) (totals.refused 3 0) (answer_of a) }
-{
-    let named = word_at(targets, j + 3);
-    let bias = signed_word(word_at(targets, j + 4));
-    if bad || misnamed(named, bias) {
-        return Answer::from(Refusal::NoSuchFormat);
-    }
-    a
-}
-
-// The records of the three targets.
-fn answers(bad: bool, f: Format, denormals_are_zero: u64, targets: &[u8], values: &[u8]) -> Printed
+// The records of the three targets: each is refused where the list's format is not named as a whole.
+fn answers(
+    kind: u64,
+    exponent_bits: u64,
+    width: u64,
+    bias_named: u64,
+    bias: i64,
+    denormals_are_zero: u64,
+    targets: &[u8],
+    values: &[u8],
+) -> Printed
     requires { 312 ≤ length targets.now }
-    ensures { (answer_of result.first ≡ several.answer_at bad (format_of f) denormals_are_zero (values_in values.now) (values_in targets.now) 0) × (answer_of result.second ≡ several.answer_at bad (format_of f) denormals_are_zero (values_in values.now) (values_in targets.now) 13) × (answer_of result.third ≡ several.answer_at bad (format_of f) denormals_are_zero (values_in values.now) (values_in targets.now) 26) }
+    ensures { ThreeAnswers (words.misnamed bias_named bias) (words.format_by kind exponent_bits width bias_named bias) denormals_are_zero (values_in values.now) (values_in targets.now) result }
 {
-    let a = target_at(targets, 0);
-    let b = target_at(targets, 13);
-    let c = target_at(targets, 26);
-    let r = in_three(f, denormals_are_zero, values, a, b, c);
-    let first = named_answer(bad, targets, 0, r.first);
-    let second = named_answer(bad, targets, 13, r.second);
-    let third = named_answer(bad, targets, 26, r.third);
-    Printed {
-        first,
-        second,
-        third,
+    match named_format(kind, exponent_bits, width, bias_named, bias) {
+        Ok(f) => into_three(
+            f,
+            denormals_are_zero,
+            values,
+            target_at(targets, 0),
+            target_at(targets, 13),
+            target_at(targets, 26),
+        ),
+        Err(refusal) => {
+            let a = Answer::from(refusal);
+            Printed {
+                first: a,
+                second: a,
+                third: a,
+            }
+        }
     }
 }
 
@@ -558,9 +538,16 @@ pub fn totals_sum_into(
     if let Err(refusal) = lengths(values.len() % 8 != 0, answer.len(), 96) {
         return refusal.number();
     }
-    let bad = misnamed(bias_named, bias);
-    let list = format_by(kind, exponent_bits, width, bias_named, bias);
-    let r = answers(bad, list, denormals_are_zero, targets, values);
+    let r = answers(
+        kind,
+        exponent_bits,
+        width,
+        bias_named,
+        bias,
+        denormals_are_zero,
+        targets,
+        values,
+    );
     put_slot(answer, 0, r.first);
     put_slot(answer, 32, r.second);
     put_slot(answer, 64, r.third);

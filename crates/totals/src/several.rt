@@ -10,7 +10,7 @@ ghost use Rattle.reduction.specs.Answered.{answer_of};
 ghost use Rattle.totals.specs.Refusal.{first_numbers, sum_numbers};
 ghost use Rattle.totals.specs.Asked.{answer_in};
 ghost use Rattle.totals.specs.Kept.{KeptIn};
-ghost use Rattle.totals.specs.Targets.{target_numbers, Aims, Printable, Prints, Listed, Answers};
+ghost use Rattle.totals.specs.Targets.{target_numbers, Aims, Printable, Prints, Listed, AnswersTo, Told};
 
 use crate::lists::{Kept, keep, met_special};
 use crate::refusal::{Refusal, answered, few, layout_for, refuse_if, settings_for, sum_refusal};
@@ -106,12 +106,12 @@ fn into_target(
     denormals_are_zero: u64,
     n: usize,
     list: Result<Kept, Refusal>,
-    target: Target,
+    target: Result<Target, Refusal>,
 ) -> Result<Answer, Refusal>
     requires { sum_numbers (format_of f) (spec.reading_with denormals_are_zero) 0 n ≡ 0 → Listed (format_of f) denormals_are_zero n list }
-    ensures { Answers (format_of f) denormals_are_zero n (format_of target.format) (settings_of target.settings) list (answer_in result) }
+    ensures { AnswersTo (format_of f) denormals_are_zero n target list (answer_in result) }
 {
-    let aim = target_refusal(f, denormals_are_zero, n, target)?;
+    let aim = target_refusal(f, denormals_are_zero, n, target?)?;
     print_one(aim, list?)
 }
 
@@ -121,6 +121,29 @@ fn walk_once(f: Format, denormals_are_zero: u64, values: &[u8]) -> Result<Kept, 
 {
     let (asked, _) = sum_refusal(f, reading(denormals_are_zero), 0, values.len() / 8)?;
     keep(asked.layout, asked.env, values)
+}
+
+// The plain sum of the values in three targets, or why a target is refused before.
+pub(crate) fn into_three(
+    f: Format,
+    denormals_are_zero: u64,
+    values: &[u8],
+    a: Result<Target, Refusal>,
+    b: Result<Target, Refusal>,
+    c: Result<Target, Refusal>,
+) -> Printed
+    ensures { Told (format_of f) denormals_are_zero (values_in values.now) a (answer_of result.first) × Told (format_of f) denormals_are_zero (values_in values.now) b (answer_of result.second) × Told (format_of f) denormals_are_zero (values_in values.now) c (answer_of result.third) }
+{
+    let n = values.len() / 8;
+    let list = walk_once(f, denormals_are_zero, values);
+    let first = answered(into_target(f, denormals_are_zero, n, list, a));
+    let second = answered(into_target(f, denormals_are_zero, n, list, b));
+    let third = answered(into_target(f, denormals_are_zero, n, list, c));
+    Printed {
+        first,
+        second,
+        third,
+    }
 }
 
 // The plain sum of the values in three targets. Bytes past the last whole value are not looked at.
@@ -134,14 +157,5 @@ pub fn in_three(
 ) -> Printed
     ensures { (answer_of result.first ≡ spec.target_answer (format_of f) denormals_are_zero (values_in values.now) (format_of a.format) (settings_of a.settings)) × (answer_of result.second ≡ spec.target_answer (format_of f) denormals_are_zero (values_in values.now) (format_of b.format) (settings_of b.settings)) × (answer_of result.third ≡ spec.target_answer (format_of f) denormals_are_zero (values_in values.now) (format_of c.format) (settings_of c.settings)) }
 {
-    let n = values.len() / 8;
-    let list = walk_once(f, denormals_are_zero, values);
-    let first = answered(into_target(f, denormals_are_zero, n, list, a));
-    let second = answered(into_target(f, denormals_are_zero, n, list, b));
-    let third = answered(into_target(f, denormals_are_zero, n, list, c));
-    Printed {
-        first,
-        second,
-        third,
-    }
+    into_three(f, denormals_are_zero, values, Ok(a), Ok(b), Ok(c))
 }

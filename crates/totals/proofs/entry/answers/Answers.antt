@@ -1,14 +1,15 @@
--- Each target by its own.
-use Rattle.totals.proofs.TargetWritten.{at_told}
+-- Each target by its own, or each refused as the list is. The bias is the number that its 64 bits are read as.
+use Rattle.limbs.proofs.Signs.{read}
+use Rattle.totals.proofs.TargetWritten.{three-named, three-misnamed}
 use Rattle.totals.proofs.entry.answers.Goals as goal
 
-pub returns : goal.returns
-returns c =
-    let (e₁, e₂, e₃) = c.in_three-r.ensures in
-    let (f₁, s₁) = c.target_at-a.ensures in
-    let (f₂, s₂) = c.target_at-b.ensures in
-    let (f₃, s₃) = c.target_at-c.ensures in (
-      at_told _ _ _ _ _ _ _ _ _ _ f₁ s₁ e₁ c.named_answer-first.ensures,
-      at_told _ _ _ _ _ _ _ _ _ _ f₂ s₂ e₂ c.named_answer-second.ensures,
-      at_told _ _ _ _ _ _ _ _ _ _ f₃ s₃ e₃ c.named_answer-third.ensures,
-    )
+pub returns-in-Ok : goal.returns-in-Ok
+returns-in-Ok c =
+    let (named, is) = rw (read c.args.bias c.ranges.bias.sfits) at c.in-Ok.ensures in
+    let (x, y, z) = c.into_three.ensures in
+    three-named _ _ _ _ _ _ named _ is _ _ _ c.target_at.ensures c.target_at-in-Ok.ensures c.target_at-in-Ok-2.ensures x y z
+
+pub returns-in-Err : goal.returns-in-Err
+returns-in-Err c =
+    let (bad, is) = rw (read c.args.bias c.ranges.bias.sfits) at c.in-Err.ensures in
+    three-misnamed _ _ _ _ _ _ bad _ is c.from-a.ensures c.from-a.ensures c.from-a.ensures

@@ -15,28 +15,24 @@ returns-in-Err c = rw c.number-in-Err.ensures (targets-turned _ _ _ _ _ _ _ _ _ 
 pub put_slot-requires : goal.put_slot-requires
 put_slot-requires c =
     let room = (let_in (uneven c.args.values.now) (length c.args.answer.now) 96 (c.in_default.ensures {u = tt})).1 in
-    (omega (arith, room), slot-fits _ _ _ _ _ _ _ c.answers-r.ensures.0 _ room)
+    (omega (arith, room), slot-fits _ _ _ _ _ _ _ c.answers-r.ensures.first _ room)
 
 pub put_slot-requires-2 : goal.put_slot-requires-2
 put_slot-requires-2 c =
     let room = (let_in (uneven c.args.values.now) (length c.args.answer.now) 96 (c.in_default.ensures {u = tt})).1 in
     let kept = c.put_slot.auto.answer in
-    (omega (arith, room, kept), slot-fits _ _ _ _ _ _ _ c.answers-r.ensures.1 _ (omega (arith, room, kept)))
+    (omega (arith, room, kept), slot-fits _ _ _ _ _ _ _ c.answers-r.ensures.second _ (omega (arith, room, kept)))
 
 pub put_slot-requires-3 : goal.put_slot-requires-3
 put_slot-requires-3 c =
     let room = (let_in (uneven c.args.values.now) (length c.args.answer.now) 96 (c.in_default.ensures {u = tt})).1 in
     let kept = c.put_slot.auto.answer in
     let kept-2 = c.put_slot-2.auto.answer in
-    (omega (arith, room, kept, kept-2), slot-fits _ _ _ _ _ _ _ c.answers-r.ensures.2 _ (omega (arith, room, kept, kept-2)))
+    (omega (arith, room, kept, kept-2), slot-fits _ _ _ _ _ _ _ c.answers-r.ensures.third _ (omega (arith, room, kept, kept-2)))
 
 pub returns : goal.returns
 returns c =
-    let bias = read c.args.bias c.ranges.bias.sfits in
-    let named = rw bias at c.misnamed-bad.ensures in
-    let format = rw bias at c.format_by-list.ensures in
-    let (first, second, third) = c.answers-r.ensures in
+    let t = rw (read c.args.bias c.ranges.bias.sfits) at c.answers-r.ensures in
     let passed = c.in_default.ensures {u = tt} in
     targets-enter _ _ _ _ _ _ _ _ _ c.if-targets-ne312.false passed _
-    (rw (named, format) at
-    (slots-laid _ _ _ _ _ _ _ _ first second third _ _ _ _ (let_in _ _ _ passed).1 c.put_slot.ensures c.put_slot-2.ensures c.put_slot-3.ensures))
+    (slots-laid _ _ _ _ _ _ _ _ t.first t.second t.third _ _ _ _ (let_in _ _ _ passed).1 c.put_slot.ensures c.put_slot-2.ensures c.put_slot-3.ensures)

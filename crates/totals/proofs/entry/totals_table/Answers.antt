@@ -1,5 +1,4 @@
 -- By the two tests, and by the table. The bias is the number that its 64 bits are read as.
-use Rattle.std.proofs.Common.{sym}
 use Rattle.limbs.proofs.Signs.{read}
 use Rattle.totals_spec.proofs.Table.{table-small, table-fields}
 use Rattle.totals.proofs.TableWritten.{table-short, table-misnamed, table-enters}
@@ -9,18 +8,16 @@ use Rattle.totals.proofs.entry.totals_table.Goals as goal
 pub returns-then-answer-lt24 : goal.returns-then-answer-lt24
 returns-then-answer-lt24 c = rw c.number.ensures (table-short _ _ _ _ _ _ _ _ _ _ _ _ c.if-answer-lt24.true)
 
-pub returns-then-misnamed : goal.returns-then-misnamed
-returns-then-misnamed c =
-    let named = rw (read c.args.bias c.ranges.bias.sfits, c.if-misnamed.true) at (sym c.misnamed.ensures) in
-    rw c.number-then-misnamed.ensures (table-misnamed _ _ _ _ _ _ _ _ _ _ _ _ c.if-answer-lt24.false named)
+pub returns-in_default : goal.returns-in_default
+returns-in_default c =
+    let (named, is) = rw (read c.args.bias c.ranges.bias.sfits) at c.in_default.ensures in
+    rw c.number-in_default.ensures (table-misnamed _ _ _ _ _ _ _ _ _ _ _ _ c.if-answer-lt24.false named)
 
 pub enter-requires : goal.enter-requires
 enter-requires c = rw c.table-grand.ensures.grand-is (fits (table-small _ _ _ _ _ _ _) (table-fields _ _ _ _ _ _ _) _ c.if-answer-lt24.false)
 
 pub returns : goal.returns
 returns c =
-    let bias = read c.args.bias c.ranges.bias.sfits in
-    let named = rw (bias, c.if-misnamed.false) at (sym c.misnamed.ensures) in
-    let format = rw bias at c.format_by-f.ensures in
-    table-enters _ _ _ _ _ _ _ _ _ _ _ _ c.if-answer-lt24.false named _ _ _ (rw (format, c.settings-c.ensures) at c.table-grand.ensures)
+    let (named, is) = rw (read c.args.bias c.ranges.bias.sfits) at c.in-Ok.ensures in
+    table-enters _ _ _ _ _ _ _ _ _ _ _ _ c.if-answer-lt24.false named _ _ _ (rw (is, c.settings-c.ensures) at c.table-grand.ensures)
     _ _ c.enter.ensures

@@ -1,8 +1,9 @@
 -- The list is walked once, and its walk serves each target.
-use Rattle.std.proofs.Common.{sym, ◌∙◌}
+use Rattle.std.proofs.Common.{sym}
 use Rattle.totals_spec.specs.Bytes.{values_in}
 use Rattle.totals_spec.proofs.Values.{values_length}
-use Rattle.totals.proofs.several.in_three.Goals as goal
+use Rattle.totals.proofs.Targets.{target-told}
+use Rattle.totals.proofs.several.into_three.Goals as goal
 
 pub into_target-requires : goal.into_target-requires
 into_target-requires c = λ e.
@@ -20,7 +21,7 @@ pub returns : goal.returns
 returns c =
     let l = values_in c.args.values.now in
     let many = sym (values_length c.args.values.now) in (
-      c.answered-first.ensures ∙ c.into_target.ensures l many c.walk_once-list.ensures,
-      c.answered-second.ensures ∙ c.into_target-2.ensures l many c.walk_once-list.ensures,
-      c.answered-third.ensures ∙ c.into_target-3.ensures l many c.walk_once-list.ensures,
+      target-told _ _ _ _ _ _ c.args.a l c.into_target.ensures many c.walk_once-list.ensures c.answered-first.ensures,
+      target-told _ _ _ _ _ _ c.args.b l c.into_target-2.ensures many c.walk_once-list.ensures c.answered-second.ensures,
+      target-told _ _ _ _ _ _ c.args.c l c.into_target-3.ensures many c.walk_once-list.ensures c.answered-third.ensures,
     )
