@@ -1,13 +1,14 @@
 -- What the loop of passes may count on, for the terms of an accepted list, of words or of bytes.
 use mathlib.Core.Path.{◌≡◌}
 use mathlib.Core.List.{List, [], ◌∷◌}
-use Prim.Native.Nat.{ℕ, ◌+◌, ◌≤◌, ◌<◌}
+use Prim.Native.Nat.{ℕ, ◌+◌, ◌-◌, ◌*◌, ◌≤◌, ◌<◌}
 use native.Mathlib.Nat.{le_trans, not-suc-le-zero, zero-lt-suc}
 use native.Mathlib.Omega.{arith}
 use lib.Dec.{lit≤}
 use lib.ListN.{length}
 use lib.Pow.{pow_mono}
 use Rattle.std.specs.declared.ops.ControlFlow.TheVariants.{Continue, Break}
+use Rattle.std.specs.Prelude.{Ok, Err}
 use Rattle.totals_spec.specs.Format.{Format}
 use Rattle.totals_spec.specs.Settings.{Settings}
 use Rattle.totals_spec.specs.Bounds.{RangeBounds}
@@ -22,9 +23,10 @@ use Rattle.totals_spec.proofs.Edges.{first_edge}
 use Rattle.window.specs.declared.Pass.{Pass}
 use Rattle.window.specs.declared.Chain.{Chain}
 use Rattle.window.specs.declared.Outcome.{Outcome}
-use Rattle.window.specs.Joined.{Passed, Ready, Steps, started}
-use Rattle.window.proofs.Walked.{Walked, Lower, walked_start, walked-ready, walked_next, walked-done}
-use Rattle.reduction.specs.Held.{Base, Summable, Sums}
+use Rattle.window.specs.declared.Stopped.{Stopped}
+use Rattle.window.specs.Joined.{Passed, Ready, Steps, Stops, started}
+use Rattle.window.proofs.Walked.{Walked, Lower, walked_start, walked-ready, walked_next, walked-done, walked-stopped}
+use Rattle.reduction.specs.Held.{Base, Summable, SumsWithin}
 use Rattle.totals_spec.proofs.Tops.{top_most, top_product}
 
 some_of : (ts : List Term) → 0 < top_of ts → 0 < length ts
@@ -76,5 +78,24 @@ module _ {p : ℕ} {ts : List Term} (b : Base p ts) where
     pub loop-next : (r : Chain) → Steps p c q (Continue r) → Lower p ts c r
     loop-next r s = walked_next p ts b.digits_le b.good b.few b.small c q h g r s
 
-    pub loop-done : (o : Outcome) → Steps p c q (Break o) → Sums p ts (record { outcome = o; passes = c.passes + 1; edge = c.edge })
-    loop-done o s = let d = walked-done p ts b.digits_le b.good b.few b.small c q h g o s in record { run = d.0; ended = d.1 }
+    module _ (a : ℕ) (l : c.passes < a) where
+      pub loop-done : (o : Outcome) → Steps p c q (Break o)
+          → SumsWithin p ts a (Ok (record { outcome = o; passes = c.passes + 1; edge = c.edge }))
+      loop-done o s =
+          let d = walked-done p ts b.digits_le b.good b.few b.small c q h g o s in
+          (record { run = d.0; ended = d.1 }, omega (arith, l))
+
+      module _ (r : Chain) (s : Steps p c q (Continue r)) (m : a ≤ r.passes) where
+        -- there is room for the passes that are counted up to the allowance
+        pub loop-room : 766 * (a - c.passes - 1) ≤ c.edge
+        loop-room = (walked-stopped p ts b.digits_le b.good b.few b.small c q h g r s a l m).0
+
+        pub loop-stopped : (x : Stopped) → Stops a c q x → SumsWithin p ts a (Err x)
+        loop-stopped x y =
+            let w = walked-stopped p ts b.digits_le b.good b.few b.small c q h g r s a l m in
+            record {
+              stands = rw (y.edge, y.sum, y.boundary) w.1;
+              bound = rw y.boundary h.kept.bound;
+              edge = omega (arith, y.edge, h.most, b.small);
+              few = omega (arith, w.0, l, h.most, b.small);
+            }

@@ -1,9 +1,9 @@
 // A chain of passes over a list of terms. All of a walk is inlined by name, down from its scan: calls that hand a scan, a window or a sum over in memory cost
 // a total of one element two fifths.
-ghost use Rattle.std.specs.Prelude.{◌≡◌, true};
+ghost use Rattle.std.specs.Prelude.{◌≡◌, true, ◌<◌};
 ghost use Rattle.totals_spec.specs.Terms as terms;
 ghost use Rattle.window.specs.Joined.{Passed};
-ghost use Rattle.reduction.specs.Held.{Base, Sums};
+ghost use Rattle.reduction.specs.Held.{Base, Sums, SumsWithin};
 
 use crate::pass::{finished, start as middle};
 use crate::terms::Terms;
@@ -11,7 +11,7 @@ use limbs::pair::low;
 use limbs::word::add_word;
 use limbs_term::{goes_on, move_term, settle, settle_single};
 use std::ops::ControlFlow;
-use window::{Chain, ExactSum, Pass, window_part};
+use window::{Chain, ExactSum, Pass, Stopped, window_part};
 
 // One pass at the edge w over a list of terms of one word, which reach two words of the window: of that, an array of the loop, only these are stored, unless a
 // carry goes on.
@@ -96,23 +96,40 @@ fn pass<T: Terms>(list: &T, w: u64) -> Pass
     }
 }
 
-// The exact sum of the terms, the highest of whose bits lies at `top`: pass after pass until one of them decides its first p digits.
+// The exact sum of the terms, the highest of whose bits lies at `top`: pass after pass until one of them decides its first p digits, or is the last that is
+// allowed.
+#[inline(always)]
+pub fn within<T: Terms>(list: &T, p: u64, top: u64, allowance: u64) -> Result<ExactSum, Stopped>
+    requires { Base p (terms.terms (T.items list.now)) × (top ≡ terms.top_of (terms.terms (T.items list.now))) × (0 < allowance) }
+    ensures { SumsWithin p (terms.terms (T.items list.now)) allowance result }
+{
+    let mut at = Chain::start(top);
+    loop {
+        let q = pass(list, at.edge);
+        match at.advance(p, q) {
+            ControlFlow::Continue(next) => {
+                if next.passes >= allowance {
+                    break Err(at.stopped(q, allowance));
+                }
+                at = next;
+            }
+            ControlFlow::Break(outcome) => break Ok(ExactSum {
+                outcome,
+                passes: at.passes + 1,
+                edge: at.edge,
+            }),
+        }
+    }
+}
+
+// The same with every pass that it takes: no chain is as long as what is allowed here.
 #[inline(always)]
 pub fn exact<T: Terms>(list: &T, p: u64, top: u64) -> ExactSum
     requires { Base p (terms.terms (T.items list.now)) × (top ≡ terms.top_of (terms.terms (T.items list.now))) }
     ensures { Sums p (terms.terms (T.items list.now)) result }
 {
-    let mut at = Chain::start(top);
-    let outcome = loop {
-        let q = pass(list, at.edge);
-        match at.advance(p, q) {
-            ControlFlow::Continue(next) => at = next,
-            ControlFlow::Break(outcome) => break outcome,
-        }
-    };
-    ExactSum {
-        outcome,
-        passes: at.passes + 1,
-        edge: at.edge,
+    match within(list, p, top, u64::MAX) {
+        Ok(e) => e,
+        Err(_) => unreachable!(),
     }
 }

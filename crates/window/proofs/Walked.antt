@@ -3,7 +3,7 @@
 use mathlib.Core.Path.{◌≡◌, refl, sym, ap, ap₂, ◌∙◌, subst}
 use mathlib.Core.Bool.{Bool, true, false, cond}
 use mathlib.Core.List.{List}
-use Prim.Native.Nat.{ℕ, ◌+◌, ◌-◌, ◌*◌, ◌/◌, ◌≤◌, ◌<◌}
+use Prim.Native.Nat.{ℕ, suc, ◌+◌, ◌-◌, ◌*◌, ◌/◌, ◌≤◌, ◌<◌}
 use native.Mathlib.Nat.{add-zero}
 use native.Mathlib.Numerals.{add-one}
 use native.Mathlib.Omega.{arith}
@@ -19,15 +19,15 @@ use Rattle.totals_spec.proofs.Margin.{terms-max}
 use Rattle.totals_spec.proofs.Invariant.{Inv}
 use Rattle.totals_spec.proofs.Limit.{GoesOn, fair-look, pass-goes-on, lost-deep}
 use Rattle.totals_spec.proofs.Vanish.{vanishes}
-use Rattle.further_spec.proofs.Reached.{Reached, at-start, at_next, at_done}
+use Rattle.further_spec.proofs.Reached.{Reached, at-start, at_next, at_done, at_onward}
 use Rattle.totals_spec.proofs.Kept.{Kept, KeptStep, EndsAs, kept-start, kept-pass}
-use Rattle.further_spec.proofs.Skip.{Empty, Skipped, pass-empty, skip}
+use Rattle.further_spec.proofs.Skip.{Empty, Skipped, pass-empty, skip, empty-sum, inside}
 use Rattle.window.specs.declared.Pass.{Pass}
 use Rattle.window.specs.declared.Chain.{Chain}
 use Rattle.window.specs.declared.Outcome.{Outcome}
 use Rattle.window.specs.declared.Outcome.TheVariants as out
 use Rattle.window.specs.declared.ExactSum.{ExactSum}
-use Rattle.window.specs.Joined.{Passed, bound_of, outcome_by, run_of, Ready, Follows, total_of, width_of, Steps, Deep, EndsWith, Ended, started}
+use Rattle.window.specs.Joined.{Passed, bound_of, outcome_by, run_of, Ready, Follows, total_of, width_of, Steps, Deep, EndsWith, Ended, started, StoppedAt}
 use Rattle.window.proofs.Decided.{no_bits}
 
 -- S without the boundary is S
@@ -169,3 +169,46 @@ module _ (p : ℕ) (ts : List terms.Term) (hp : p ≤ 64) (good : AllGood ts) (l
         edge = omega (arith, h.most, small);
       },
     )
+
+    -- a step that goes on past the allowance: pass number a is the pass at hand, or an empty one that was counted with it, 766 lower each
+    module _ (r : Chain) (s : Steps p c q (Continue r)) (a : ℕ) (l : c.passes < a) (m : a ≤ r.passes) where
+      abbrev down : ℕ
+      down = 766 * (a - c.passes - 1)
+
+      -- the pass at hand
+      at-hand : (b : chain.Boundary) (w : ℕ) → says p c q ≡ chain.next b w → r.passes ≡ c.passes + 1
+          → (down ≤ c.edge) × StoppedAt p ts a (bound_of c) (c.edge - down) (total_of q)
+      at-hand b w e k =
+          let n : suc c.passes ≡ a = omega (arith, l, m, k) in
+          let d : c.edge ≡ c.edge - down = omega (arith, n) in
+          let o = at_onward p ts hp good len c.passes (bound_of c) c.edge b w h.reached (seen ∙ e) in (
+            omega (arith, n),
+            subst (λ (y : ℕ). StoppedAt p ts a (bound_of c) y (total_of q)) d
+                (subst (λ (x : ℕ). StoppedAt p ts x (bound_of c) c.edge (total_of q)) n
+                (record { stands = o.stands; longer = o.longer; sum = total-seen p ts (bound_of c) c.edge q h.reached.inv g })),
+          )
+
+      -- an empty one
+      hollow : width_of q ≡ 0 → q.lost + 63 < c.edge → 0 < q.lost → r.passes ≡ c.passes + (c.edge - q.lost + 702) / 766
+          → (down ≤ c.edge) × StoppedAt p ts a (bound_of c) (c.edge - down) (total_of q)
+      hollow z far some k =
+          let n : suc (c.passes + (a - c.passes - 1)) ≡ a = omega (arith, l) in
+          let room : down + q.lost + 63 < c.edge = omega (arith, l, m, k, far) in
+          let e = inside p ts hp good len (a - c.passes - 1) c.passes (bound_of c) c.edge q.lost h.reached (empty z) some room in
+          let none : total_of q ≡ record { neg = false; mag = 0 } =
+          sym (total-seen p ts (bound_of c) c.edge q h.reached.inv g)
+          ∙ empty-sum p ts hp good len (bound_of c) c.edge q.lost h.reached.inv (empty z) in (
+            omega (arith, room),
+            subst (λ (x : ℕ). StoppedAt p ts x (bound_of c) (c.edge - down) (total_of q)) n
+                (record { stands = e.onward.stands; longer = e.onward.longer; sum = e.none ∙ sym none }),
+          )
+
+      pub walked-stopped : (down ≤ c.edge) × StoppedAt p ts a (bound_of c) (c.edge - down) (total_of q)
+      walked-stopped = go (eqb (width_of q) 0) (eqb→eq (width_of q) 0) (ltb (q.lost + 63) c.edge) (ltb→lt (q.lost + 63) c.edge) s
+        where
+          go : (x : Bool) → (T x → width_of q ≡ 0) → (b : Bool) → (T b → q.lost + 63 < c.edge)
+              → Follows (Continue r) (says p c q) (cond x (cond b ((c.edge - q.lost + 702) / 766) 1) 1) c
+              → (down ≤ c.edge) × StoppedAt p ts a (bound_of c) (c.edge - down) (total_of q)
+          go true z true y f = hollow (z tt) (y tt) (subst (λ (n : ℕ). 0 < n) (sym g.lost) (going _ _ f.0).0) f.1
+          go true z false y f = at-hand _ _ f.0 f.1
+          go false z b y f = at-hand _ _ f.0 f.1

@@ -9,6 +9,7 @@ use Rattle.totals_spec.specs.Basics as words
 use Rattle.totals_spec.specs.Terms as terms
 use Rattle.totals_spec.specs.Chain as chain
 use Rattle.totals_spec.specs.Settled as settled
+use Rattle.further_spec.specs.Estimate.{pass_of}
 use Rattle.exact.specs.declared.Unrounded.{Unrounded}
 use Rattle.exact.specs.Joined.{significand_of, Stands}
 use Rattle.arithmetic.specs.declared.Term.{Term}
@@ -18,6 +19,7 @@ use Rattle.window.specs.declared.Part.{Part}
 use Rattle.window.specs.declared.Pass.{Pass}
 use Rattle.window.specs.declared.Units.{Units}
 use Rattle.window.specs.declared.Chain.{Chain}
+use Rattle.window.specs.declared.Stopped.{Stopped}
 use Rattle.window.specs.declared.ExactSum.{ExactSum}
 use Rattle.window.specs.declared.Outcome.{Outcome}
 use Rattle.window.specs.declared.Outcome.TheVariants as out
@@ -119,6 +121,20 @@ width_of q = size (total_of q).mag
 
 abbrev pub Steps : ℕ → Chain → Pass → ControlFlow Outcome Chain → Type 0
 Steps p c q r = Follows r (chain.decide p (bound_of c) c.edge q.lost (total_of q) (width_of q)) (counted c.edge (width_of q) q.lost) c
+
+-- ---- an allowance of a passes
+
+-- a chain c that stops at its pass number a: its pass at hand, or one that is counted with it
+pub record Stops (a : ℕ) (c : Chain) (q : Pass) (r : Stopped) : Type 0 where
+  pub sum : signed_of r.sum ≡ total_of q
+  pub edge : r.sum.place ≡ c.edge - 766 * (a - c.passes - 1)
+  pub boundary : r.boundary ≡ c.boundary
+
+-- pass number a of the definitions' chain, which is longer, with its boundary, its edge and its S
+pub record StoppedAt (p : ℕ) (ts : List terms.Term) (a : ℕ) (b : chain.Boundary) (w : ℕ) (s : words.Signed) : Type 0 where
+  pub stands : pass_of p ts a ≡ record { bound = b; edge = w }
+  pub longer : a < (chain.chain p ts).passes
+  pub sum : chain.sum_of b w (chain.look_at ts w) ≡ s
 
 -- ---- the end of a chain
 

@@ -7,7 +7,7 @@ ghost use Rattle.totals_spec.specs.Basics.{flag};
 ghost use Rattle.totals_spec.specs.Chain as spec;
 ghost use Rattle.arithmetic.specs.Joined.{magnitude};
 ghost use Rattle.exact.specs.Joined.{Narrows};
-ghost use Rattle.window.specs.Joined.{PartAt, started, boundary_of, bound_of, beside_of, signed_of, near_by, counted, Ready, Goes, Bounds, Follows, Steps, Roundable, Quarters, Leaves};
+ghost use Rattle.window.specs.Joined.{PartAt, started, boundary_of, bound_of, beside_of, signed_of, near_by, counted, Ready, Goes, Bounds, Follows, Steps, Stops, Roundable, Quarters, Leaves};
 
 use arithmetic::Term;
 use exact::{Unrounded, narrowed, nothing};
@@ -123,6 +123,13 @@ pub enum Outcome {
     Below(Units),
     On(Units),
     Above(Units),
+}
+
+// A chain that is not done within an allowance of passes: S of the last pass allowed, at its edge, and the boundary that this pass was compared against.
+#[derive(Clone, Copy)]
+pub struct Stopped {
+    pub sum: Units,
+    pub boundary: Option<Units>,
 }
 
 // How many passes a step counts for. Where S, of n bits, is 0 and the lost bit lies far below the edge w, the passes until an edge is at most 64
@@ -301,6 +308,22 @@ impl Chain {
         match self.boundary {
             Some(b) => self.step_beside(b, s, n, seen.lost),
             None => self.step(p, s, n, seen.lost),
+        }
+    }
+
+    // This chain after a pass at its edge, where the passes that are allowed end with it, or with one of those that are counted with it and not run: they
+    // have the same S, 0, and the edge 766 lower for each.
+    pub fn stopped(self, seen: Pass, allowance: u64) -> Stopped
+        requires { (self.passes < allowance) × (766 * (allowance - self.passes - 1) ≤ self.edge) }
+        ensures { Stops allowance self seen result }
+    {
+        let s = sum_at(self.edge, seen.total);
+        Stopped {
+            sum: Units {
+                place: self.edge - 766 * (allowance - self.passes - 1),
+                ..s
+            },
+            boundary: self.boundary,
         }
     }
 }
