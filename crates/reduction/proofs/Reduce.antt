@@ -45,8 +45,18 @@ module _ {f : spec.Format} {c : env.Settings} {sub sig : Bool} {ops : List dec.U
   pub top-is : d ≡ None → (s.top ≡ terms.top_of (terms.terms l)) × (0 < s.top)
   top-is e = (g.top, (some e).2)
 
+  -- the record of the chain over them, and its passes
+  chain-is : d ≡ None → chain_total f c sub products false (terms.terms l) ≡ totals.finite_total f c sub products false (terms.terms l)
+      → told f c products sub (chain.chain (spec.digits f) (terms.terms l)) ≡ answer
+  unfolding chain_total
+  chain-is t b = (rw (some t).1 at b) ∙ sym (some t).0
+
+  pub chain-passes : d ≡ None → chain_total f c sub products false (terms.terms l) ≡ totals.finite_total f c sub products false (terms.terms l)
+      → answer.passes ≡ (chain.chain (spec.digits f) (terms.terms l)).passes
+  unfolding totals.reported
+  chain-passes t b = sym (ap (λ (a : totals.Answer). a.passes) (chain-is t b))
+
   pub finish-is : d ≡ None → (e : ExactSum) → run_of e ≡ chain.chain (spec.digits f) (terms.terms l)
       → chain_total f c sub products false (terms.terms l) ≡ totals.finite_total f c sub products false (terms.terms l) → (a : totals.Answer)
       → a ≡ told f c products s.subnormal (run_of e) → a ≡ answer
-  unfolding chain_total
-  finish-is t e r b a q = q ∙ ap₂ (told f c products) g.subnormal r ∙ (rw (some t).1 at b) ∙ sym (some t).0
+  finish-is t e r b a q = q ∙ ap₂ (told f c products) g.subnormal r ∙ chain-is t b

@@ -1,6 +1,6 @@
 -- The total of a list of items: what its scan and its chain ask and tell; and the totals of numbers in the definitions' words.
-use Rattle.std.proofs.Common.{◌≡◌, refl, ap, ◌∙◌, ℕ, Bool, false, List, [], ◌∷◌, map, arith}
-use Rattle.std.specs.Prelude.{Option, Some, None}
+use Rattle.std.proofs.Common.{◌≡◌, refl, ap, ◌∙◌, ℕ, Bool, false, List, [], ◌∷◌, map, ◌≤◌, zero-le, subst, arith}
+use Rattle.std.specs.Prelude.{Option, Some, None, Ok, Err}
 use Rattle.totals_spec.specs.Format as spec
 use Rattle.totals_spec.specs.Settings as env
 use Rattle.totals_spec.specs.Bounds.{SettingsBounds}
@@ -9,7 +9,7 @@ use Rattle.totals_spec.specs.Decode.{decode}
 use Rattle.totals_spec.specs.Terms.{Item, item, pair_item, terms, top_of}
 use Rattle.totals_spec.specs.Totals as totals
 use Rattle.totals_spec.specs.Extended.{both_of}
-use Rattle.totals_spec.specs.Settled.{settled}
+use Rattle.totals_spec.specs.Settled.{settled, chain_total}
 use Rattle.totals_spec.proofs.ByChain.{finite-by-chain}
 use Rattle.format.specs.declared.shape.Shape.{Shape}
 use Rattle.format.specs.declared.layout.Layout.{Layout}
@@ -23,12 +23,13 @@ use Rattle.scan.specs.declared.Given.{Given}
 use Rattle.scan.specs.Joined.{Decides}
 use Rattle.scan.specs.Encodings.{of_layout}
 use Rattle.window.specs.declared.ExactSum.{ExactSum}
+use Rattle.window.specs.declared.Stopped.{Stopped}
 use Rattle.window.specs.Joined.{outcome_of, run_of}
 use Rattle.reduction.specs.declared.total.Wide.{Wide}
-use Rattle.reduction.specs.Held.{Base, Summable, Sums}
+use Rattle.reduction.specs.Held.{Base, Summable, SumsWithin}
 use Rattle.reduction.specs.Answered.{wide, answer_as, given_as}
 use Rattle.reduction.proofs.Loop.{summable-base, summable-few}
-use Rattle.reduction.proofs.Reduce.{given, given_is, top-is, finish-is}
+use Rattle.reduction.proofs.Reduce.{given, given_is, top-is, chain-passes, finish-is}
 use Rattle.totals.specs.Walked.{Scans, Totals, sum_in, dot_in}
 
 module _ (s : Shape) (c : env.Settings) (products first : Bool) (l : List Item) (n : Scan) (d : Option Given) (h : Decides d c first n) where
@@ -40,9 +41,12 @@ module _ (s : Shape) (c : env.Settings) (products first : Bool) (l : List Item) 
     pub early-asks : Summable f l → Scans f c l n → Encodes f (unpacked_of v.value) × Alone (spec.kind_of f.kind) (unpacked_of v.value)
     early-asks a g = let t = given g.gathered products first d h v is in (t.encodes, t.alone a.gives)
 
-    pub early-told : (r : Wide) → answer_as (wide f) r ≡ given_as (wide f) (totals.special f n.subnormal (unpacked_of v.value) v.invalid)
-        → Totals f c products first l n r
-    early-told r t sub sig ops g = t ∙ ap (given_as (wide f)) (given_is g products first d h v is _ refl)
+    pub early-told : (a : ℕ) (r : Wide) → answer_as (wide f) r ≡ given_as (wide f) (totals.special f n.subnormal (unpacked_of v.value) v.invalid)
+        → Totals f c products first l a n (Ok r)
+    unfolding totals.special
+    early-told a r t sub sig ops g =
+        let e = given_is g products first d h v is _ refl in
+        (t ∙ ap (given_as (wide f)) e, subst (λ (x : totals.Answer). x.passes ≤ a) e zero-le)
 
   -- and where it leaves terms
   module _ (is : d ≡ None) (a : Summable f l) where
@@ -52,16 +56,23 @@ module _ (s : Shape) (c : env.Settings) (products first : Bool) (l : List Item) 
         let t = top-is g.gathered products first d h is in
         (summable-base {p = p} (omega (arith, b.w-ge, b.p-le, e)) f b l a (rw t.0 at t.1), t.0)
 
-    pub end-told : SettingsBounds f c → (e : ExactSum) → Sums (spec.digits f) (terms l) e → (r : Wide)
+    -- the chain is that of the definitions
+    by-chain : SettingsBounds f c → (sub : Bool) → chain_total f c sub products false (terms l) ≡ totals.finite_total f c sub products false (terms l)
+    by-chain k sub = finite-by-chain f c sub products false (terms l) (range_bounds s) k a.good (summable-few f l a)
+
+    pub end-told : SettingsBounds f c → (n₀ : ℕ) (e : ExactSum) → SumsWithin (spec.digits f) (terms l) n₀ (Ok e) → (r : Wide)
         → answer_as (wide f) r
         ≡ given_as (wide f)
         (totals.reported f n.subnormal products (totals.on_grid f products (settled (outcome_of e)))
         (totals.sum_rounded f c (spec.grid f products) (totals.towards_negative c) (totals.on_grid f products (settled (outcome_of e)))) (run_of e))
-        → Totals f c products first l n r
-    end-told k e m r t sub sig ops g =
-        t
-        ∙ ap (given_as (wide f))
-        (finish-is g products first d h is e m.run (finite-by-chain f c sub products false (terms l) (range_bounds s) k a.good (summable-few f l a)) _ refl)
+        → Totals f c products first l n₀ n (Ok r)
+    end-told k n₀ e m r t sub sig ops g = (
+      t ∙ ap (given_as (wide f)) (finish-is g products first d h is e m.0.run (by-chain k sub) _ refl),
+      rw (chain-passes g products first d h is (by-chain k sub), ← m.0.run) m.1,
+    )
+
+    pub stopped-told : SettingsBounds f c → (n₀ : ℕ) (x : Stopped) → SumsWithin (spec.digits f) (terms l) n₀ (Err x) → Totals f c products first l n₀ n (Err x)
+    stopped-told k n₀ x m sub sig ops g = (m, chain-passes g products first d h is (by-chain k sub))
 
 -- ---- the totals of numbers of an offered format
 

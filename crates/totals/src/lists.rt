@@ -1,5 +1,5 @@
 // The totals of lists that pass the tests that do not look at the elements: wherever these stand, and however they are encoded.
-ghost use Rattle.std.specs.Prelude.{◌≡◌, map, length};
+ghost use Rattle.std.specs.Prelude.{◌≡◌, ◌<◌, map, length};
 ghost use Rattle.std.specs.Result.{ForOk};
 ghost use Rattle.totals_spec.specs.Bounds.{SettingsBounds};
 ghost use Rattle.totals_spec.specs.Bytes.{values_in};
@@ -13,7 +13,7 @@ ghost use Rattle.scan.specs.Encodings.{item_in, pair_in};
 ghost use Rattle.reduction.specs.Held.{Summable};
 ghost use Rattle.totals.specs.Refusal.{sum_numbers, dot_numbers};
 ghost use Rattle.totals.specs.Asked.{answer_in};
-ghost use Rattle.totals.specs.Walked.{Scans, Totals, sum_in, dot_in};
+ghost use Rattle.totals.specs.Walked.{Scans, Totals, Within, sum_in, dot_in, terms_in, products_in};
 ghost use Rattle.totals.specs.Kept.{met, KeptIn};
 
 use crate::refusal::Refusal;
@@ -24,14 +24,14 @@ use format::layout::Layout;
 use format::shape::Shape;
 use reduction::terms::{Paired, Summed, Terms};
 use reduction::total::{Answer, Wide, finish, special};
-use reduction::walk::exact;
+use reduction::walk::{exact, within};
 use scan::numbers::{Encoded, Numbers};
 use scan::walk::{scan_list, scan_pairs};
 use scan::{Scan, decided};
 use values::elements::{Bytes, Elements};
-use window::ExactSum;
+use window::{ExactSum, Stopped};
 
-// The record of a list of terms, of which s is the scan: what that decides alone, or the sum of the terms.
+// The record of a list of terms, of which s is the scan: what that decides alone, or the sum of the terms; or where this stops, within an allowance of passes.
 #[inline(always)]
 fn total<T: Terms>(
     f: Shape,
@@ -40,26 +40,27 @@ fn total<T: Terms>(
     infinity_first: bool,
     s: &Scan,
     list: &T,
-) -> Wide
-    requires known { Known (wide (shape_of f)) (shape_of f) × SettingsBounds (shape_of f) (env_of c) }
+    allowance: u64,
+) -> Result<Wide, Stopped>
+    requires known { Known (wide (shape_of f)) (shape_of f) × SettingsBounds (shape_of f) (env_of c) × (0 < allowance) }
     requires summable { Summable (shape_of f) (T.items list.now) × Scans (shape_of f) (env_of c) (T.items list.now) s.now }
-    ensures { Totals (shape_of f) (env_of c) products infinity_first (T.items list.now) s.now result }
+    ensures { Totals (shape_of f) (env_of c) products infinity_first (T.items list.now) allowance s.now result }
 {
     match decided(c, infinity_first, s) {
-        Some(given) => special(f, s.subnormal, given.value, given.invalid),
-        None => {
-            let e = exact(list, f.digits(), s.top);
-            finish(f, c, products, s.subnormal, e)
-        }
+        Some(given) => Ok(special(f, s.subnormal, given.value, given.invalid)),
+        None => match within(list, f.digits(), s.top, allowance) {
+            Ok(e) => Ok(finish(f, c, products, s.subnormal, e)),
+            Err(stopped) => Err(stopped),
+        },
     }
 }
 
-// The sum of some numbers.
+// The sum of some numbers, within an allowance of passes.
 #[inline(always)]
-pub fn sum_of<N: Numbers>(c: Env, u: Summand, numbers: N) -> Wide
-    requires known { Known (wide (N.encoding numbers).format) (N.encoding numbers).format × SettingsBounds (N.encoding numbers).format (env_of c) }
+fn sum_in<N: Numbers>(c: Env, u: Summand, numbers: N, allowance: u64) -> Result<Wide, Stopped>
+    requires known { Known (wide (N.encoding numbers).format) (N.encoding numbers).format × SettingsBounds (N.encoding numbers).format (env_of c) × (0 < allowance) }
     requires summable { Summable (N.encoding numbers).format (map (item_in (N.encoding numbers) (env_of c) (summand_in u)) (N.codes numbers)) }
-    ensures { answer_as (wide (N.encoding numbers).format) result ≡ given_as (wide (N.encoding numbers).format) (sum_in (N.encoding numbers) (env_of c) (summand_in u) (N.codes numbers)) }
+    ensures { Within (N.encoding numbers).format (sum_in (N.encoding numbers) (env_of c) (summand_in u) (N.codes numbers)) (terms_in (N.encoding numbers) (env_of c) (summand_in u) (N.codes numbers)) allowance result }
 {
     let s = scan_list(&numbers, c, u);
     total(
@@ -73,16 +74,17 @@ pub fn sum_of<N: Numbers>(c: Env, u: Summand, numbers: N) -> Wide
             env: c,
             summand: u,
         },
+        allowance,
     )
 }
 
-// The sum of the products of the pairs of two lists.
+// The sum of the products of the pairs of two lists, likewise.
 #[inline(always)]
-pub fn dot_of<N: Numbers>(c: Env, left: N, right: N) -> Wide
+fn dot_in<N: Numbers>(c: Env, left: N, right: N, allowance: u64) -> Result<Wide, Stopped>
     requires as_long { length (N.codes right) ≡ length (N.codes left) }
-    requires known { Known (wide (N.encoding left).format) (N.encoding left).format × SettingsBounds (N.encoding left).format (env_of c) }
+    requires known { Known (wide (N.encoding left).format) (N.encoding left).format × SettingsBounds (N.encoding left).format (env_of c) × (0 < allowance) }
     requires summable { Summable (N.encoding left).format (map (pair_in (N.encoding left) (env_of c)) (totals.pairs (N.codes left) (N.codes right))) }
-    ensures { answer_as (wide (N.encoding left).format) result ≡ given_as (wide (N.encoding left).format) (dot_in (N.encoding left) (env_of c) (totals.pairs (N.codes left) (N.codes right))) }
+    ensures { Within (N.encoding left).format (dot_in (N.encoding left) (env_of c) (totals.pairs (N.codes left) (N.codes right))) (products_in (N.encoding left) (env_of c) (totals.pairs (N.codes left) (N.codes right))) allowance result }
 {
     let s = scan_pairs(&left, &right, c);
     total(
@@ -96,7 +98,34 @@ pub fn dot_of<N: Numbers>(c: Env, left: N, right: N) -> Wide
             right,
             env: c,
         },
+        allowance,
     )
+}
+
+// The same with every pass that they take.
+#[inline(always)]
+pub fn sum_of<N: Numbers>(c: Env, u: Summand, numbers: N) -> Wide
+    requires known { Known (wide (N.encoding numbers).format) (N.encoding numbers).format × SettingsBounds (N.encoding numbers).format (env_of c) }
+    requires summable { Summable (N.encoding numbers).format (map (item_in (N.encoding numbers) (env_of c) (summand_in u)) (N.codes numbers)) }
+    ensures { answer_as (wide (N.encoding numbers).format) result ≡ given_as (wide (N.encoding numbers).format) (sum_in (N.encoding numbers) (env_of c) (summand_in u) (N.codes numbers)) }
+{
+    match sum_in(c, u, numbers, u64::MAX) {
+        Ok(w) => w,
+        Err(_) => unreachable!(),
+    }
+}
+
+#[inline(always)]
+pub fn dot_of<N: Numbers>(c: Env, left: N, right: N) -> Wide
+    requires as_long { length (N.codes right) ≡ length (N.codes left) }
+    requires known { Known (wide (N.encoding left).format) (N.encoding left).format × SettingsBounds (N.encoding left).format (env_of c) }
+    requires summable { Summable (N.encoding left).format (map (pair_in (N.encoding left) (env_of c)) (totals.pairs (N.codes left) (N.codes right))) }
+    ensures { answer_as (wide (N.encoding left).format) result ≡ given_as (wide (N.encoding left).format) (dot_in (N.encoding left) (env_of c) (totals.pairs (N.codes left) (N.codes right))) }
+{
+    match dot_in(c, left, right, u64::MAX) {
+        Ok(w) => w,
+        Err(_) => unreachable!(),
+    }
 }
 
 // The sum of the elements of a list, unless one of them has a stray bit.
