@@ -97,5 +97,6 @@ module _ {p : ℕ} {ts : List Term} (b : Base p ts) where
               stands = rw (y.edge, y.sum, y.boundary) w.1;
               bound = rw y.boundary h.kept.bound;
               edge = omega (arith, y.edge, h.most, b.small);
+              small = b.small;
               few = omega (arith, w.0, l, h.most, b.small);
             }

@@ -1,14 +1,10 @@
 -- Laws of the record: its side, its last edge, and a sum rounded once.
-use mathlib.Core.Path.{◌≡◌, sym, ap, ap₂, ◌∙◌}
-use mathlib.Core.Bool.{Bool, false}
-use Prim.Native.Nat.{ℕ, ◌+◌}
-use lib.IntN.{ℤ, sub_ℕ}
-use mir.Syntax.{w64}
-use mir.Val.{SFits, to_z, of_z}
-use mir.ValLaws.{to_z-of_z}
+use mathlib.Core.Path.{◌≡◌, sym, ap, ◌∙◌}
+use mathlib.Core.Bool.{false}
+use Prim.Native.Nat.{ℕ}
 use Rattle.totals_spec.specs.Basics.{Signed, raised}
 use Rattle.totals_spec.specs.Bounds.{RangeBounds, SettingsBounds}
-use Rattle.totals_spec.specs.Format.{Format, kind_of, origin, fall}
+use Rattle.totals_spec.specs.Format.{Format, kind_of}
 use Rattle.totals_spec.specs.Settings.{Settings}
 use Rattle.totals_spec.specs.Decode.{decode}
 use Rattle.totals_spec.specs.Encode.{encode}
@@ -24,7 +20,7 @@ use Rattle.format.specs.declared.unpacked.Unpacked.TheVariants.{Zero, Finite, In
 use Rattle.format.specs.Joined.{unpacked_of}
 use Rattle.format.specs.Fits.{Encodes}
 use Rattle.exact.specs.declared.Rounded.{Rounded}
-use Rattle.reduction.specs.Answered.{RoundedSum, last_edge_of}
+use Rattle.reduction.specs.Answered.{RoundedSum}
 
 -- ---- without a pass the value tells the side
 
@@ -42,12 +38,6 @@ pub leans : (f : Format) (c : Settings) (g : ℕ) (x : Signed) (r : Rounded) →
 leans f c g x r b k h =
     ap (λ (s : round.Rounded). rounded_side s.value s.flags) h.equal
     ∙ sym (sum-leans f c g (towards_negative c) x b (precision-least f c b) (precision-most f c k))
-
--- ---- the last edge of a chain, as a record has it
-
-pub edge-is : (f : Format) (products : Bool) (e : ℕ) {fallen one : ℕ} (z : ℤ) → SFits w64 z → fallen ≡ fall f products → one ≡ origin f products
-    → z ≡ sub_ℕ (e + fallen) one → to_z w64 (of_z w64 z) ≡ last_edge_of f products e
-edge-is f products e z fits p q is = to_z-of_z w64 z fits ∙ is ∙ ap₂ (λ (m n : ℕ). sub_ℕ (e + m) n) p q
 
 -- a rounding by what the functions of the formats say of its grid and unit
 pub moved : {f : Format} {c : Settings} (x : Signed) {r : Rounded} {g h m n : ℕ} → g ≡ h → m ≡ n → RoundedSum f c g (raised m x) r

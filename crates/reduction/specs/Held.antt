@@ -48,6 +48,7 @@ pub record StoppedSum (p : ℕ) (ts : List terms.Term) (a : ℕ) (r : Stopped) :
   pub stands : StoppedAt p ts a (boundary_of r.boundary) r.sum.place (signed_of r.sum)
   pub bound : KeptBoundary p (terms.top_of ts) (boundary_of r.boundary)
   pub edge : r.sum.place < 2 ^ 62
+  pub small : terms.top_of ts < 2147483648
   pub few : a < 2 ^ 63
 
 -- within an allowance of a passes

@@ -18,7 +18,7 @@ ghost use Rattle.format.specs.Environments.{env_of};
 ghost use Rattle.format.specs.Joined.{unpacked_of};
 ghost use Rattle.format.specs.Fits.{Encodes};
 ghost use Rattle.window.specs.Joined.{outcome_of, run_of, Ended, LeftOf};
-ghost use Rattle.reduction.specs.Answered.{wide, Known, words_as, written_as, answer_of, answer_as, given_as, CanRound, RoundedSum, Into, record_of};
+ghost use Rattle.reduction.specs.Answered.{wide, Known, words_as, written_as, answer_of, answer_as, given_as, CanRound, RoundedSum, Into, record_of, last_edge_of};
 
 use binary::encode;
 use binary::extended::encode as encode_ten;
@@ -168,6 +168,14 @@ fn position_of(at: u64, origin: u64) -> i64
     (at as i64) - (origin as i64)
 }
 
+// A place in a chain over the terms of a list in the format f, as a position.
+pub fn place(f: Shape, products: bool, at: u64) -> i64
+    requires { at < 2 ^ 62 }
+    ensures { result ≡ last_edge_of (shape_of f) products at }
+{
+    position_of(at + f.fall(products), f.origin(products))
+}
+
 // The record of a rounding, and of the chain behind it.
 fn recorded(subnormal: bool, res: u64, r: Rounded, passes: u64, last_edge: i64) -> Answer
     requires { r.flags < 128 }
@@ -195,7 +203,7 @@ pub fn finish(f: Shape, c: Env, products: bool, subnormal: bool, e: ExactSum) ->
     let r = round_sum(f, c, f.grid(products), f.rise(products), v);
     let x = r.value;
     let b = encoded(f, x);
-    let last_edge = position_of(e.edge + f.fall(products), f.origin(products));
+    let last_edge = place(f, products, e.edge);
     let answer = recorded(subnormal, b.significand, r, e.passes, last_edge);
     Wide {
         head: b.head,
@@ -213,7 +221,7 @@ pub fn print(f: Shape, t: Layout, c: Env, subnormal: bool, e: ExactSum) -> Answe
     let g = f.origin(false) + t.shape.lift();
     let r = round_sum(t.shape, c, g, t.shape.depth() + f.fall(false), v);
     let x = r.value;
-    let last_edge = position_of(e.edge + f.fall(false), f.origin(false));
+    let last_edge = place(f, false, e.edge);
     recorded(subnormal, encode(t, x), r, e.passes, last_edge)
 }
 

@@ -5,6 +5,7 @@ mod Refusals
 pub mod Figures
 mod Counted
 mod Totalled
+mod Shown
 mod Keeping
 mod Targets
 mod Columns

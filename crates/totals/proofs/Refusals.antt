@@ -10,7 +10,7 @@ use Rattle.arithmetic.specs.declared.summand.Summand.TheVariants.{Value, Magnitu
 use Rattle.arithmetic.specs.Summands.{summand_in, summand_number}
 use Rattle.totals.specs.declared.refusal.Refusal.{Refusal}
 use Rattle.totals.specs.declared.refusal.Refusal.TheVariants.{UnevenLength, ShortBuffer, NoSuchFormat, SettingOutOfRange, DifferentLengths}
-use Rattle.totals.specs.declared.refusal.Refusal.TheVariants.{TooManyElements, StrayBit, NoPence, BadShape, NoRoom, BadAmount, NotAPage, BadSpan}
+use Rattle.totals.specs.declared.refusal.Refusal.TheVariants.{TooManyElements, StrayBit, NoPence, BadShape, NoRoom, BadAmount, NotAPage, BadSpan, NoAllowance}
 use Rattle.totals.specs.declared.refusal.Refusal.TheVariants.{TargetOutOfReach}
 
 pub number-some : (e : Refusal) → number_of e ≢ 0
@@ -27,6 +27,7 @@ number-some NoRoom h = omega (arith, h)
 number-some BadAmount h = omega (arith, h)
 number-some NotAPage h = omega (arith, h)
 number-some BadSpan h = omega (arith, h)
+number-some NoAllowance h = omega (arith, h)
 number-some TargetOutOfReach h = omega (arith, h)
 
 -- only a stray bit has a place
@@ -44,6 +45,7 @@ no-place NoRoom h = refl
 no-place BadAmount h = refl
 no-place NotAPage h = refl
 no-place BadSpan h = refl
+no-place NoAllowance h = refl
 no-place TargetOutOfReach h = refl
 
 -- ---- the first tests, of which the second may have one more in it

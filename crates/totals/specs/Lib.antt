@@ -5,6 +5,7 @@ pub mod Entered
 pub mod PenceRecord
 pub mod Kept
 pub mod Targets
+pub mod Estimates
 pub mod Tables
 pub mod Ranges
 pub mod Asked

@@ -5,7 +5,7 @@ use Rattle.totals_spec.specs.Settings.{Settings, valid_settings}
 use Rattle.totals_spec.specs.Totals.{refuse_if, limit}
 use Rattle.totals.specs.declared.refusal.Refusal.{Refusal}
 use Rattle.totals.specs.declared.refusal.Refusal.TheVariants.{UnevenLength, ShortBuffer, NoSuchFormat, SettingOutOfRange, DifferentLengths}
-use Rattle.totals.specs.declared.refusal.Refusal.TheVariants.{TooManyElements, StrayBit, NoPence, BadShape, NoRoom, BadAmount, NotAPage, BadSpan}
+use Rattle.totals.specs.declared.refusal.Refusal.TheVariants.{TooManyElements, StrayBit, NoPence, BadShape, NoRoom, BadAmount, NotAPage, BadSpan, NoAllowance}
 use Rattle.totals.specs.declared.refusal.Refusal.TheVariants.{TargetOutOfReach}
 
 abbrev pub number_of : Refusal → ℕ
@@ -22,6 +22,7 @@ number_of NoRoom = 10
 number_of BadAmount = 11
 number_of NotAPage = 12
 number_of BadSpan = 13
+number_of NoAllowance = 16
 number_of TargetOutOfReach = 17
 
 -- the place beside the number, 0 for what has none

@@ -57,7 +57,7 @@ fn total<T: Terms>(
 
 // The sum of some numbers, within an allowance of passes.
 #[inline(always)]
-fn sum_in<N: Numbers>(c: Env, u: Summand, numbers: N, allowance: u64) -> Result<Wide, Stopped>
+pub fn sum_in<N: Numbers>(c: Env, u: Summand, numbers: N, allowance: u64) -> Result<Wide, Stopped>
     requires known { Known (wide (N.encoding numbers).format) (N.encoding numbers).format × SettingsBounds (N.encoding numbers).format (env_of c) × (0 < allowance) }
     requires summable { Summable (N.encoding numbers).format (map (item_in (N.encoding numbers) (env_of c) (summand_in u)) (N.codes numbers)) }
     ensures { Within (N.encoding numbers).format (sum_in (N.encoding numbers) (env_of c) (summand_in u) (N.codes numbers)) (terms_in (N.encoding numbers) (env_of c) (summand_in u) (N.codes numbers)) allowance result }
@@ -80,7 +80,7 @@ fn sum_in<N: Numbers>(c: Env, u: Summand, numbers: N, allowance: u64) -> Result<
 
 // The sum of the products of the pairs of two lists, likewise.
 #[inline(always)]
-fn dot_in<N: Numbers>(c: Env, left: N, right: N, allowance: u64) -> Result<Wide, Stopped>
+pub fn dot_in<N: Numbers>(c: Env, left: N, right: N, allowance: u64) -> Result<Wide, Stopped>
     requires as_long { length (N.codes right) ≡ length (N.codes left) }
     requires known { Known (wide (N.encoding left).format) (N.encoding left).format × SettingsBounds (N.encoding left).format (env_of c) × (0 < allowance) }
     requires summable { Summable (N.encoding left).format (map (pair_in (N.encoding left) (env_of c)) (totals.pairs (N.codes left) (N.codes right))) }

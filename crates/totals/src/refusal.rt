@@ -40,6 +40,8 @@ pub enum Refusal {
     BadAmount,
     NotAPage,
     BadSpan,
+    // No pass is allowed.
+    NoAllowance,
     TargetOutOfReach,
 }
 
@@ -62,6 +64,7 @@ impl Refusal {
             Refusal::BadAmount => 11,
             Refusal::NotAPage => 12,
             Refusal::BadSpan => 13,
+            Refusal::NoAllowance => 16,
             Refusal::TargetOutOfReach => 17,
         }
     }

@@ -1,8 +1,9 @@
 -- The record of a chain of passes is that of its rounded sum.
-use Rattle.std.proofs.Common.{◌+◌, ap, ◌∙◌, arith}
-use borrow.Author.Rules.{rules}
 use mir.Syntax.{w64}
 use mir.Val.{SFits}
+use mir.ValLaws.{to_z-of_z}
+use Rattle.std.proofs.Common.{◌+◌, ap, ◌∙◌, arith}
+use borrow.Author.Rules.{rules}
 use Rattle.totals_spec.specs.Basics.{flag}
 use Rattle.totals_spec.specs.Encode.{encode}
 use Rattle.totals_spec.specs.Format.{digits, grid}
@@ -15,7 +16,7 @@ use Rattle.format.proofs.Shapes.{range_bounds}
 use Rattle.reduction.specs.Answered.{wide}
 use Rattle.window.specs.Joined.{outcome_of}
 use Rattle.reduction.specs.Answered.{words_as, written_as, RoundedSum}
-use Rattle.reduction.proofs.Records.{leans, moved, edge-is}
+use Rattle.reduction.proofs.Records.{leans, moved}
 use Rattle.reduction.proofs.total.finish.Goals as goal
 
 pub round_sum-r-requires : goal.round_sum-r-requires
@@ -39,9 +40,8 @@ returns c =
     let r : RoundedSum f env (grid f c.args.products) x c.round_sum-r.result =
     moved _ c.grid.ensures.value c.rise.ensures.value
     (c.round_sum-r.ensures (digits f) (settled (outcome_of c.args.e)) (rw c.digits.ensures at c.left-v.ensures)) in
-    let p = c.position_of-last_edge in
-    let fits : SFits w64 p.result = search rules in
-    let edge = edge-is f c.args.products c.args.e.edge p.result fits c.fall.ensures.value c.origin.ensures.value p.ensures in
+    let fits : SFits w64 c.place-last_edge.result = search rules in
+    let edge = to_z-of_z w64 _ fits ∙ c.place-last_edge.ensures in
     λ i. record {
       result =
           (ap (λ (a : Answer). words_as (wide f) c.encoded-b.result.head a.result) q ∙ c.encoded-b.ensures

@@ -1,8 +1,9 @@
 -- The record is that of the sum rounded into the target, field by field.
-use Rattle.std.proofs.Common.{◌+◌, false, ap, ap₂, ◌∙◌, arith}
-use borrow.Author.Rules.{rules}
 use mir.Syntax.{w64}
 use mir.Val.{SFits}
+use mir.ValLaws.{to_z-of_z}
+use Rattle.std.proofs.Common.{◌+◌, ap, ap₂, ◌∙◌, arith}
+use borrow.Author.Rules.{rules}
 use Rattle.totals_spec.specs.Basics.{flag}
 use Rattle.totals_spec.specs.Encode.{encode}
 use Rattle.totals_spec.specs.Format.{digits}
@@ -16,7 +17,7 @@ use Rattle.format.specs.Environments.{env_of}
 use Rattle.format.proofs.Shapes.{range_bounds}
 use Rattle.window.specs.Joined.{outcome_of}
 use Rattle.reduction.specs.Answered.{RoundedSum}
-use Rattle.reduction.proofs.Records.{leans, moved, edge-is}
+use Rattle.reduction.proofs.Records.{leans, moved}
 use Rattle.reduction.proofs.total.print.Goals as goal
 
 pub round_sum-r-requires : goal.round_sum-r-requires
@@ -42,9 +43,8 @@ returns c =
     let up = ap₂ ◌+◌ c.depth.ensures.value c.fall.ensures.value in
     let r : RoundedSum t (env_of a.c) (target_grid f t) x c.round_sum-r.result =
     moved _ lifted up (c.round_sum-r.ensures (digits f) (settled (outcome_of a.e)) (rw c.digits.ensures at c.left-v.ensures)) in
-    let p = c.position_of-last_edge in
-    let fits : SFits w64 p.result = search rules in
-    let edge = edge-is f false a.e.edge p.result fits c.fall-2.ensures.value c.origin-2.ensures.value p.ensures in
+    let fits : SFits w64 c.place-last_edge.result = search rules in
+    let edge = to_z-of_z w64 _ fits ∙ c.place-last_edge.ensures in
     λ i. record {
       result = (ap (λ (b : Answer). b.result) q ∙ c.encode.ensures ∙ ap (λ (y : Rounded). encode t y.value) r.equal) i;
       flags = (ap (λ (b : Answer). b.flags) q ∙ ap (λ (y : Rounded). flag 128 a.subnormal + y.flags) r.equal) i;

@@ -1,0 +1,34 @@
+-- By the search for a stray bit.
+use Rattle.std.proofs.Common.{◌≡◌, ◌∙◌, rules}
+use Rattle.format.proofs.Layouts.{layout_bounds}
+use Rattle.totals_spec.proofs.Accepts.{sum-accepts}
+use Rattle.reduction.proofs.Items.{sum-summable}
+use Rattle.reduction.proofs.Widths.{narrow-known}
+use Rattle.totals.proofs.Answers.{sum-strayed, sum-unstrayed, sum-told}
+use Rattle.totals.proofs.Refusals.{summand-is}
+use Rattle.totals.proofs.Shown.{refused-shown, told-as}
+use Rattle.totals.proofs.Totalled.{sum-is}
+use Rattle.totals_spec.specs.Terms.{item}
+use Rattle.totals_spec.specs.Totals.{is_square}
+use Rattle.arithmetic.specs.Summands.{summand_in}
+use Rattle.totals.proofs.estimate.list_sum.Goals as goal
+
+pub returns-in-Some : goal.returns-in-Some
+returns-in-Some g c = refused-shown _ _ _ _ _ (rw c.in-Some.ensures.1 at (sum-strayed _ _ _ _ c.requires.0 c.in-Some.ensures.0))
+
+pub sum_in-total-requires-clause-known : goal.sum_in-total-requires-clause-known
+sum_in-total-requires-clause-known g c =
+    let a = sum-accepts _ _ _ _ (sum-unstrayed _ _ _ _ c.requires.0 c.in_default.ensures) in
+    (narrow-known _ (layout_bounds c.args.f), a.settings, c.requires.1)
+
+pub sum_in-total-requires-clause-summable : goal.sum_in-total-requires-clause-summable
+sum_in-total-requires-clause-summable g c =
+    let a = sum-accepts _ _ _ _ (sum-unstrayed _ _ _ _ c.requires.0 c.in_default.ensures) in
+    sum-summable c.args.f _ _ _ a.few
+
+pub returns : goal.returns
+unfolding item
+returns g c =
+    let square : c.eq.result ≡ is_square (summand_in c.args.u) = search rules in
+    let total = sum-is c.args.f _ _ _ ∙ rw (summand-is c.args.u) at (sum-told _ _ _ _ c.requires.0 c.in_default.ensures) in
+    told-as _ _ _ square total (c.told.ensures _ _ c.sum_in-total.ensures)

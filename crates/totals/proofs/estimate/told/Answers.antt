@@ -1,0 +1,19 @@
+-- By where the chain ends or stops.
+use Rattle.std.proofs.Common.{◌∙◌, subst}
+use Rattle.std.specs.Prelude.{Result, Err, Ok}
+use Rattle.format.specs.Layouts.{layout_of}
+use Rattle.format.proofs.Layouts.{layout_bounds}
+use Rattle.reduction.proofs.Widths.{narrow}
+use Rattle.totals.proofs.Shown.{full-shown, stopped-shown, boundary-near}
+use Rattle.totals.proofs.estimate.told.Goals as goal
+
+pub unfinished-requires : goal.unfinished-requires
+unfinished-requires c =
+    let s = (rw c.in-Err.is at c.requires.within).0 in
+    (s.edge, boundary-near _ _ c.in-Err.at.boundary s.bound s.small)
+
+pub returns-in-Ok : goal.returns-in-Ok
+returns-in-Ok c = λ t ts h. full-shown _ c.args.products ts _ t (narrow _ (layout_bounds c.args.f)) _ (rw c.in-Ok.is at h)
+
+pub returns-in-Err : goal.returns-in-Err
+returns-in-Err c = λ t ts h. c.unfinished.ensures ∙ stopped-shown _ c.args.products ts _ t _ (rw c.in-Err.is at h)

@@ -1,0 +1,68 @@
+-- A sum or a dot within an allowance of passes (document 02, A.13), as the code has it.
+use Rattle.std.specs.Prelude.{ℕ, Bool, List, ℤ, pos, Option, Some, None, Result, Ok, Err}
+use Rattle.totals_spec.specs.Basics.{Signed, flag}
+use Rattle.totals_spec.specs.Format.{Format}
+use Rattle.totals_spec.specs.Chain as chain
+use Rattle.totals_spec.specs.Totals.{Answer, refused}
+use Rattle.further_spec.specs.Estimate as spec
+use Rattle.limbs.specs.Value.{value}
+use Rattle.totals_spec.specs.Terms.{Term}
+use Rattle.window.specs.declared.Stopped.{Stopped}
+use Rattle.reduction.specs.declared.total.Wide.{Wide}
+use Rattle.reduction.specs.Answered.{answer_of}
+use Rattle.totals.specs.declared.estimate.Boundary.{Boundary}
+use Rattle.totals.specs.declared.estimate.Estimate.{Estimate}
+use Rattle.totals.specs.declared.estimate.Estimate.TheVariants.{Full, Unfinished}
+use Rattle.totals.specs.declared.refusal.Refusal.{Refusal}
+use Rattle.totals.specs.Refusal.{number_of, place_of}
+use Rattle.totals.specs.Walked.{Within}
+
+-- the record of an answer without a result
+abbrev pub passed : ℕ → ℤ → Answer
+passed n edge = record { result = 0; flags = 0; passes = n; last_edge = edge; refusal = 0; place = 0; side = 0 }
+
+-- the numbers of a boundary, 0 where there is none
+abbrev pub whole_in : Option Boundary → ℕ
+whole_in None = 0
+whole_in (Some b) = value b.whole
+
+abbrev pub minus_in : Option Boundary → ℕ
+minus_in None = 0
+minus_in (Some b) = flag 1 b.negative
+
+abbrev pub unit_in : Option Boundary → ℤ
+unit_in None = pos 0
+unit_in (Some b) = b.unit
+
+abbrev pub estimate_of : Estimate → spec.Estimate
+estimate_of (Full a) = spec.full (answer_of a)
+estimate_of (Unfinished s) = record {
+  answer = passed s.passes s.last_edge;
+  mark = 1;
+  sum = record { neg = s.negative; mag = value s.sum };
+  whole = whole_in s.boundary;
+  minus = minus_in s.boundary;
+  unit = unit_in s.boundary;
+}
+
+-- of a call that may be refused
+abbrev pub estimate_in : Result Estimate Refusal → spec.Estimate
+estimate_in (Ok e) = estimate_of e
+estimate_in (Err r) = spec.full (refused (number_of r) (place_of r))
+
+-- what pass number a sees at the edge w, beside the boundary b, where its S is s
+abbrev pub seen_at : Format → (products : Bool) → ℕ → chain.Boundary → ℕ → Signed → spec.Estimate
+seen_at f products a b w s = record {
+  answer = passed a (spec.position_of f products w);
+  mark = 1;
+  sum = s;
+  whole = spec.whole_of b;
+  minus = spec.sign_of b;
+  unit = spec.unit_of f products b;
+}
+
+-- r is of some total over some terms, within an allowance of a passes
+pub record Made (f : Format) (a : ℕ) (r : Result Wide Stopped) : Type 0 where
+  pub total : Answer
+  pub terms : List Term
+  pub within : Within f total terms a r
