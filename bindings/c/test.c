@@ -2873,7 +2873,355 @@ static void targets_of_no_list(void)
     munmap(unread, 8 * (most + 2));
 }
 
-/* Words, pence, tables and targets have no kind 4, however many there are. */
+/* The answer within an allowance lies at an odd address, with bytes behind it. */
+#define WITHIN_ROOM (TOTALS_WITHIN_ANSWER_BYTES + 24)
+#define WITHIN_VALUES 3
+
+static uint8_t within_answer[1 + WITHIN_ROOM];
+
+static uint64_t sum_within(totals_format f, const totals_settings *c, uint64_t summand, uint64_t allowance, const uint64_t *list, size_t size,
+                           size_t room)
+{
+    memset(within_answer, UNTOUCHED, sizeof within_answer);
+    return totals_sum_within(f.kind, f.exponent_bits, f.width, f.bias_named, f.bias, c->rounding, c->tininess, c->nan_propagation,
+                             c->default_nan_negative, c->flush_to_zero, c->denormals_are_zero, c->saturate, c->precision, summand, allowance,
+                             (const uint8_t *)list, size, within_answer + 1, room);
+}
+
+static uint64_t dot_within(totals_format f, const totals_settings *c, uint64_t allowance, const uint64_t *left, size_t left_size,
+                           const uint64_t *right, size_t right_size, size_t room)
+{
+    memset(within_answer, UNTOUCHED, sizeof within_answer);
+    return totals_dot_within(f.kind, f.exponent_bits, f.width, f.bias_named, f.bias, c->rounding, c->tininess, c->nan_propagation,
+                             c->default_nan_negative, c->flush_to_zero, c->denormals_are_zero, c->saturate, c->precision, allowance,
+                             (const uint8_t *)left, left_size, (const uint8_t *)right, right_size, within_answer + 1, room);
+}
+
+static int nothing_within(void)
+{
+    return are_untouched(within_answer, 0, sizeof within_answer);
+}
+
+/* S is 0, or a power of two, or the sum of two, with a sign; NONE is no power. */
+#define NONE (-1)
+
+typedef struct {
+    totals_format f;
+    size_t count;
+    uint64_t values[WITHIN_VALUES];
+    uint64_t allowance;
+    unsigned negative;
+    int high, low;
+    int64_t last_edge;
+    unsigned minus;
+    uint64_t whole;
+    int64_t unit;
+    uint64_t lower, upper, figure; /* encodings of the doubles */
+} within_row;
+
+/* The 144 bytes of an unfinished answer: the magnitude of S, and its negative where it is below zero. */
+static int bytes_are(const within_row *row)
+{
+    uint8_t wanted[TOTALS_WITHIN_ANSWER_BYTES];
+    int i, carry = 1;
+
+    memset(wanted, 0, sizeof wanted);
+    wanted[9] = 1;
+    wanted[11] = (uint8_t)row->minus;
+    put(wanted + 16, 8, row->allowance);
+    put(wanted + 24, 8, (uint64_t)row->last_edge);
+    put(wanted + 32, 8, row->whole);
+    put(wanted + 40, 8, (uint64_t)row->unit);
+    if (row->high != NONE) {
+        wanted[48 + row->high / 8] = (uint8_t)(1 << row->high % 8);
+    }
+    if (row->low != NONE) {
+        wanted[48 + row->low / 8] |= (uint8_t)(1 << row->low % 8);
+    }
+    for (i = 48; row->negative && i < TOTALS_WITHIN_ANSWER_BYTES; i++) {
+        const int digit = (uint8_t)~wanted[i] + carry;
+        wanted[i] = (uint8_t)digit;
+        carry = digit >> 8;
+    }
+    return memcmp(within_answer + 1, wanted, sizeof wanted) == 0 && within_answer[0] == UNTOUCHED
+           && are_untouched(within_answer, 1 + TOTALS_WITHIN_ANSWER_BYTES, sizeof within_answer);
+}
+
+static int estimate_is(const within_row *row, totals_estimate e)
+{
+    uint64_t sum[TOTALS_SUM_WORDS] = {0};
+
+    if (row->high != NONE) {
+        sum[row->high / 64] = (uint64_t)1 << row->high % 64;
+    }
+    if (row->low != NONE) {
+        sum[row->low / 64] |= (uint64_t)1 << row->low % 64;
+    }
+    return e.refusal == TOTALS_ACCEPTED && e.place == 0 && e.mark == 1 && e.result == 0 && e.flags == 0 && e.side == 0
+           && e.passes == row->allowance && e.last_edge == row->last_edge && e.negative == row->negative && e.minus == row->minus
+           && memcmp(e.sum, sum, sizeof sum) == 0 && e.whole == row->whole && e.unit == row->unit && e.elements == row->count
+           && bits_of(totals_lower(&e)) == row->lower && bits_of(totals_upper(&e)) == row->upper && bits_of(totals_figure(&e)) == row->figure;
+}
+
+static int within_is(const within_row *row)
+{
+    static const totals_settings defaults = TOTALS_SETTINGS_INIT;
+    double doubles[WITHIN_VALUES];
+    int is_right = sum_within(row->f, &defaults, TOTALS_VALUE, row->allowance, row->values, 8 * row->count, WITHIN_ROOM) == 0 && bytes_are(row)
+                   && estimate_is(row, totals_sum_within_words(row->f, TOTALS_VALUE, row->values, row->count, row->allowance, NULL));
+
+    memcpy(doubles, row->values, sizeof doubles);
+    if (row->f.width == 64) {
+        is_right = is_right && estimate_is(row, totals_sum_within_double(TOTALS_VALUE, doubles, row->count, row->allowance, &defaults));
+    }
+    return is_right;
+}
+
+/* 13 bits of exponent and five digits. */
+#define FIVE {TOTALS_IEEE, 13, 18, TOTALS_OWN_BIAS}
+#define FIVE_POWER(n) ((uint64_t)((n) + 4095) << 4)
+#define FIVE_MINUS 0x20000
+#define POWER(n) ((uint64_t)((n) + 1023) << 52)
+#define INFINITE 0x7ff0000000000000
+
+/* What the last pass allowed has seen. */
+static void unfinished_totals(void)
+{
+    static const within_row rows[] = {
+        {B64, 2, {MINUS + POWER(1023), 1, 0}, 1, 1, 702, NONE, 321, 0, 0, 0, 0xffe0000000000001, 0xffdfffffffffffff, 0xffe0000000000000},
+        /* 2^1000, 1, -2^1000: three units of 2^298 */
+        {B64, 3, {POWER(1000), ONE, MINUS + POWER(1000)}, 1, 0, NONE, NONE, 298, 0, 0, 0, 0xd2a8000000000000, 0x52a8000000000000, 0},
+        /* 1, 2^-53, 2^-1000: a tie, and between two doubles */
+        {B64, 3, {ONE, POWER(-53), FAR_BELOW}, 1, 0, 702, 649, -702, 0, 0, 0, ONE, ONE + 1, ONE},
+        /* ten passes find nothing; three units of 2^-3596 are less than the least double */
+        {FIVE, 3, {FIVE_POWER(4000), FIVE_MINUS + FIVE_POWER(4000), FIVE_POWER(-4000)}, 1, 0, NONE, NONE, 3298, 0, 0, 0, MINUS + INFINITE, INFINITE, 0},
+        {FIVE, 3, {FIVE_POWER(4000), FIVE_MINUS + FIVE_POWER(4000), FIVE_POWER(-4000)}, 2, 0, NONE, NONE, 2532, 0, 0, 0, MINUS + INFINITE, INFINITE, 0},
+        {FIVE, 3, {FIVE_POWER(4000), FIVE_MINUS + FIVE_POWER(4000), FIVE_POWER(-4000)}, 9, 0, NONE, NONE, -2830, 0, 0, 0, MINUS + 1, 1, 0},
+        {FIVE, 3, {FIVE_POWER(4000), FIVE_MINUS + FIVE_POWER(4000), FIVE_POWER(-4000)}, 10, 0, NONE, NONE, -3596, 0, 0, 0, MINUS + 1, 1, 0},
+        /* beside a boundary, of either sign */
+        {FIVE, 2, {FIVE_POWER(4000), FIVE_POWER(-4000), 0}, 2, 0, NONE, NONE, 2597, 0, 0x20, 3995, GREATEST, INFINITE, INFINITE},
+        {FIVE, 2, {FIVE_POWER(4000), FIVE_POWER(-4000), 0}, 3, 0, NONE, NONE, 1831, 0, 0x20, 3995, GREATEST, INFINITE, INFINITE},
+        {FIVE, 2, {FIVE_MINUS + FIVE_POWER(4000), FIVE_POWER(-4000), 0}, 3, 0, NONE, NONE, 1831, 1, 0x20, 3995, MINUS + INFINITE, MINUS + GREATEST,
+         MINUS + INFINITE},
+        {FIVE, 2, {FIVE_POWER(0), FIVE_POWER(-4000), 0}, 2, 0, NONE, NONE, -1403, 0, 0x20, -5, ONE - 1, ONE + 1, ONE},
+        {FIVE, 2, {FIVE_MINUS + FIVE_POWER(0), FIVE_POWER(-4000), 0}, 3, 0, NONE, NONE, -2169, 1, 0x20, -5, MINUS + ONE + 1, MINUS + ONE - 1,
+         MINUS + ONE},
+        /* 2^1000, and below it -2^-403, a unit of the second pass: two units more or less are on both sides of it */
+        {FIVE, 3, {FIVE_POWER(1000), FIVE_MINUS + FIVE_POWER(-403), FIVE_POWER(-4000)}, 2, 1, 0, NONE, -403, 0, 0x20, 995, POWER(1000) - 1,
+         POWER(1000) + 1, POWER(1000)},
+        /* subnormal doubles */
+        {FIVE, 2, {FIVE_POWER(-1060), FIVE_POWER(-4000), 0}, 2, 0, NONE, NONE, -2463, 0, 0x20, -1065, 0x3fff, 0x4001, 0x4000},
+        {FIVE, 2, {FIVE_MINUS + FIVE_POWER(-1075), FIVE_POWER(-4000), 0}, 1, 1, 702, NONE, -1777, 0, 0, 0, MINUS + 1, 0, 0},
+    };
+    const totals_format b64 = B64;
+    const uint64_t greatest[3] = {GREATEST, GREATEST, FAR_BELOW};
+    const totals_estimate beyond = totals_sum_within_words(b64, TOTALS_VALUE, greatest, 3, 1, NULL);
+    size_t i;
+
+    /* twice the greatest double is 2^704 - 2^651 units */
+    CHECK(beyond.mark == 1 && beyond.last_edge == 321 && beyond.sum[10] == 0xfffffffffffff800 && beyond.sum[9] == 0 && beyond.sum[11] == 0);
+    CHECK(bits_of(totals_lower(&beyond)) == GREATEST && bits_of(totals_upper(&beyond)) == INFINITE && bits_of(totals_figure(&beyond)) == INFINITE);
+    for (i = 0; i < sizeof rows / sizeof *rows; i++) {
+        if (!within_is(&rows[i])) {
+            fprintf(stderr, "row %u of the unfinished totals\n", (unsigned)i);
+        }
+        CHECK(within_is(&rows[i]));
+    }
+}
+
+static int is_full(totals_estimate e, totals_record record)
+{
+    static const uint64_t zeros[TOTALS_SUM_WORDS] = {0};
+    const totals_record given = {e.result, e.passes, e.place, e.flags, e.refusal, e.side};
+    return alike(given, record) && e.mark == 0 && e.negative == 0 && e.minus == 0 && e.whole == 0 && e.unit == 0 && e.elements == 0
+           && memcmp(e.sum, zeros, sizeof zeros) == 0 && totals_lower(&e) == 0 && totals_upper(&e) == 0 && totals_figure(&e) == 0;
+}
+
+/* Two of unfinished answers: what lies between the fields is not compared. */
+static int same_estimate(totals_estimate x, totals_estimate y)
+{
+    return x.mark == 1 && y.mark == 1 && x.passes == y.passes && x.last_edge == y.last_edge && x.negative == y.negative && x.minus == y.minus
+           && memcmp(x.sum, y.sum, sizeof x.sum) == 0 && x.whole == y.whole && x.unit == y.unit && x.elements == y.elements;
+}
+
+/* A number of any exponent, now and then a zero or a subnormal one. */
+static double drawn_double(void)
+{
+    return number(drawn_below(2) * MINUS + (drawn_below(8) == 0 ? drawn_below(3) : drawn_below(0x7ff) << 52) + drawn_below(4) * 0x4000000000000);
+}
+
+/* The doubles of an unfinished sum have those between them that the plain sum is rounded to, down and up. */
+static int bounds_hold(totals_estimate e, uint64_t summand, const double *list, size_t count)
+{
+    const totals_format f = B64;
+    totals_settings down = TOTALS_SETTINGS_INIT, up = TOTALS_SETTINGS_INIT;
+    uint64_t words[12];
+
+    down.rounding = TOTALS_TOWARD_NEGATIVE;
+    up.rounding = TOTALS_TOWARD_POSITIVE;
+    memcpy(words, list, 8 * count);
+    return totals_lower(&e) <= number(totals_sum_words(f, summand, words, count, &down).result)
+           && number(totals_sum_words(f, summand, words, count, &up).result) <= totals_upper(&e) && totals_lower(&e) <= totals_figure(&e)
+           && totals_figure(&e) <= totals_upper(&e);
+}
+
+/* Sums of all summands and dots, within 1 to 9 passes: unfinished where the plain total takes more, and else that total. */
+static void totals_in_time(void)
+{
+    const totals_format f = B64;
+    const uint64_t nan[2] = {0x7ff8000000000000, ONE};
+    unsigned chains[4] = {0, 0, 0, 0};
+    int round;
+
+    for (round = 0; round < 2000; round++) {
+        double list[12];
+        uint64_t words[12], summand, k;
+        size_t count = 0, i;
+
+        for (i = drawn_below(7); i > 0; i--) {
+            const double x = drawn_double();
+            list[count++] = x;
+            if (drawn_below(2) == 0) {
+                list[count++] = -x;
+            }
+        }
+        memcpy(words, list, 8 * count);
+        for (summand = TOTALS_VALUE; summand <= TOTALS_SQUARE; summand++) {
+            const totals_record plain = totals_sum_words(f, summand, words, count, NULL);
+            totals_estimate wider = {0, 0, 0, 0, 0, 0, 0, 0, 0, 0, {0}, 0, 0, 0};
+            chains[plain.passes < 3 ? plain.passes : 3]++;
+            for (k = 1; k <= 9; k++) {
+                const totals_estimate e = totals_sum_within_double(summand, list, count, k, NULL);
+                if (plain.passes <= k) {
+                    CHECK(is_full(e, plain));
+                    continue;
+                }
+                CHECK(e.refusal == TOTALS_ACCEPTED && e.mark == 1 && e.passes == k && bounds_hold(e, summand, list, count));
+                CHECK(k == 1 || (e.last_edge < wider.last_edge && totals_lower(&wider) <= totals_lower(&e)
+                                 && totals_upper(&e) <= totals_upper(&wider)));
+                wider = e;
+            }
+        }
+        for (k = 1; k <= 9; k++) {
+            const totals_record plain = totals_dot_words(f, words, count, words, count, NULL);
+            const totals_estimate e = totals_dot_within_double(list, count, list, count, k, NULL);
+            const totals_estimate square = totals_sum_within_double(TOTALS_SQUARE, list, count, k, NULL);
+            CHECK(plain.passes <= k ? is_full(e, plain) : same_estimate(e, square));
+        }
+    }
+    CHECK(chains[0] > 50 && chains[1] > 50 && chains[2] > 50 && chains[3] > 50);
+
+    /* no pass is needed */
+    CHECK(is_full(totals_sum_within_words(f, TOTALS_VALUE, nan, 2, 1, NULL), totals_sum_words(f, TOTALS_VALUE, nan, 2, NULL)));
+    CHECK(totals_sum_within_words(f, TOTALS_VALUE, nan, 2, 1, NULL).result == nan[0]);
+    CHECK(is_full(totals_sum_within_double(TOTALS_VALUE, NULL, 0, 1, NULL), totals_sum_words(f, TOTALS_VALUE, NULL, 0, NULL)));
+    /* the last edge is that of the last pass */
+    CHECK(totals_sum_within_words(f, TOTALS_VALUE, &nan[1], 1, UINT64_MAX, NULL).last_edge == -702);
+}
+
+/* Of floats a wide dot takes no second pass: 2^127 squared and 2^-149 squared are 552 places apart. */
+static void floats_within(void)
+{
+    const totals_format f = B32;
+    const uint64_t words[3] = {0x7f7fffff, 1, 0xff7fffff};
+    const uint64_t in_order[2] = {0x3f800000, 0x7f7fffff};
+    float list[3], pair[2];
+    size_t i;
+
+    for (i = 0; i < 3; i++) {
+        const uint32_t low = (uint32_t)words[i];
+        memcpy(&list[i], &low, sizeof low);
+    }
+    for (i = 0; i < 2; i++) {
+        const uint32_t low = (uint32_t)in_order[i];
+        memcpy(&pair[i], &low, sizeof low);
+    }
+    CHECK(is_full(totals_sum_within_float(TOTALS_VALUE, list, 3, 1, NULL), totals_sum_words(f, TOTALS_VALUE, words, 3, NULL)));
+    CHECK(is_full(totals_sum_within_float(TOTALS_MAGNITUDE, list, 3, 1, NULL), totals_sum_words(f, TOTALS_MAGNITUDE, words, 3, NULL)));
+    CHECK(is_full(totals_dot_within_float(list, 3, list, 3, 1, NULL), totals_dot_words(f, words, 3, words, 3, NULL)));
+    CHECK(is_full(totals_dot_within_float(list, 2, pair, 2, 1, NULL), totals_dot_words(f, words, 2, in_order, 2, NULL)));
+    CHECK(totals_dot_within_float(list, 2, pair, 2, 0, NULL).refusal == TOTALS_NO_PASS_ALLOWED);
+}
+
+/* Each of these numbers right or wrong: the refusals in their order, and nothing written. */
+static void within_refused(void)
+{
+    const uint64_t good[2] = {0x3c00, 0x3c00}, stray[2] = {0x3c00, 0x10000};
+    unsigned at;
+
+    for (at = 0; at < 512; at++) {
+#define BAD(i) ((at >> (i) & 1) == 1)
+        totals_format f = {TOTALS_BINARY16, TOTALS_OWN_BIAS};
+        totals_settings c = TOTALS_SETTINGS_INIT;
+        const uint64_t *list = BAD(7) ? stray : good;
+        const uint64_t allowance = BAD(2) ? 0 : 1, summand = BAD(6) ? 3 : 2;
+        const size_t size = BAD(0) ? 15 : 16, room = BAD(1) ? 143 : 144, right = BAD(8) ? 8 : size;
+        const uint64_t first = BAD(0) ? 1 : BAD(1) ? 2 : BAD(2) ? 16 : BAD(3) || BAD(4) ? 3 : 0;
+        const uint64_t of_sum = first != 0 ? first : BAD(5) || BAD(6) ? 4 : BAD(7) ? 7 + 256 : 0;
+        const uint64_t of_dot = first != 0 ? first : BAD(5) ? 4 : BAD(8) ? 5 : BAD(7) ? 7 + 256 : 0;
+
+        if (BAD(3)) {
+            f.kind = at % 2 == 0 ? 9 : TOTALS_X87;
+        }
+        if (BAD(4)) {
+            f.bias = 1; /* and none is named */
+        }
+        if (BAD(5)) {
+            c.rounding = 8;
+        }
+        CHECK(sum_within(f, &c, summand, allowance, list, size, room) == of_sum && nothing_within() == (of_sum != 0));
+        CHECK(dot_within(f, &c, allowance, list, size, list, right, room) == of_dot && nothing_within() == (of_dot != 0));
+        if (!BAD(0) && !BAD(1)) {
+            CHECK(totals_sum_within_words(f, summand, list, 2, allowance, &c).refusal == TOTALS_REFUSAL(of_sum));
+            CHECK(totals_sum_within_words(f, summand, list, 2, allowance, &c).place == TOTALS_PLACE(of_sum));
+            CHECK(totals_dot_within_words(f, list, 2, list, right / 8, allowance, &c).refusal == TOTALS_REFUSAL(of_dot));
+        }
+#undef BAD
+    }
+}
+
+/* Lists that are too long, or not there; no memory. */
+static void within_of_no_list(void)
+{
+    const size_t most = TOTALS_MOST_ELEMENTS;
+    const totals_format f = {TOTALS_BINARY16, TOTALS_OWN_BIAS}, none = {TOTALS_EXTENDED, TOTALS_OWN_BIAS};
+    uint64_t *unread = addresses(most + 2);
+    const double *doubles = (const double *)unread;
+    const float *floats = (const float *)unread;
+    float *singles = (float *)calloc(LONG, sizeof *singles);
+    const double one = 1;
+    totals_settings bad = TOTALS_SETTINGS_INIT;
+
+    bad.rounding = 8;
+    CHECK(REFUSED(totals_sum_within_words(f, TOTALS_VALUE, unread, most + 1, 1, NULL), TOTALS_TOO_MANY_ELEMENTS, 0));
+    CHECK(REFUSED(totals_sum_within_words(f, TOTALS_VALUE, unread, most + 1, 0, NULL), TOTALS_NO_PASS_ALLOWED, 0));
+    CHECK(REFUSED(totals_sum_within_words(none, TOTALS_VALUE, NULL, most + 1, 1, NULL), TOTALS_NO_SUCH_FORMAT, 0));
+    CHECK(REFUSED(totals_sum_within_words(f, TOTALS_VALUE, NULL, 1, 1, &bad), TOTALS_SETTING_OUT_OF_RANGE, 0));
+    CHECK(REFUSED(totals_sum_within_words(f, 3, NULL, 1, 1, NULL), TOTALS_SETTING_OUT_OF_RANGE, 0));
+    CHECK(REFUSED(totals_sum_within_double(TOTALS_VALUE, &one, SIZE_MAX, 1, NULL), TOTALS_TOO_MANY_ELEMENTS, 0));
+    CHECK(REFUSED(totals_sum_within_double(TOTALS_VALUE, NULL, 2, 1, NULL), TOTALS_NO_LIST, 0));
+    CHECK(REFUSED(totals_sum_within_double(TOTALS_VALUE, NULL, 2, 0, NULL), TOTALS_NO_PASS_ALLOWED, 0));
+    CHECK(REFUSED(totals_sum_within_float(TOTALS_VALUE, floats, most + 1, 1, NULL), TOTALS_TOO_MANY_ELEMENTS, 0));
+    CHECK(REFUSED(totals_dot_within_double(doubles, most + 1, doubles, most + 1, 1, NULL), TOTALS_TOO_MANY_ELEMENTS, 0));
+    CHECK(REFUSED(totals_dot_within_double(doubles, most + 1, doubles, most, 1, NULL), TOTALS_DIFFERENT_LENGTHS, 0));
+    CHECK(REFUSED(totals_dot_within_double(&one, 1, NULL, 1, 1, NULL), TOTALS_NO_LIST, 0));
+    CHECK(REFUSED(totals_dot_within_words(f, unread, 1, unread, 2, 1, NULL), TOTALS_DIFFERENT_LENGTHS, 0));
+    /* the entry, too, reads nothing of a list that is too long */
+    CHECK(sum_within(f, &bad, TOTALS_VALUE, 1, unread, 8 * (most + 1), WITHIN_ROOM) == TOTALS_SETTING_OUT_OF_RANGE && nothing_within());
+    bad.rounding = 0;
+    CHECK(sum_within(f, &bad, TOTALS_VALUE, 1, unread, 8 * (most + 1), WITHIN_ROOM) == TOTALS_TOO_MANY_ELEMENTS && nothing_within());
+
+    singles[LONG - 1] = 1.5f;
+    CHECK(totals_sum_within_float(TOTALS_VALUE, singles, LONG, 1, NULL).result == 0x3fc00000 && owned == 0);
+    CHECK(totals_dot_within_float(singles, LONG, singles, LONG, 1, NULL).result == 0x40100000 && owned == 0);
+    has_memory = 0;
+    CHECK(REFUSED(totals_sum_within_float(TOTALS_VALUE, floats, most, 1, NULL), TOTALS_NO_MEMORY, 0) && asked == 2147483648 && owned == 0);
+    has_memory = 1;
+    free(singles);
+    munmap(unread, 8 * (most + 2));
+}
+
+/* Words, pence, tables, targets and allowances have no kind 4, however many there are. */
 static void x87_elsewhere(void)
 {
     const totals_format formats[2] = {{TOTALS_EXTENDED, TOTALS_OWN_BIAS}, {TOTALS_EXTENDED, TOTALS_BIAS(16383)}};
@@ -2894,6 +3242,8 @@ static void x87_elsewhere(void)
             CHECK(REFUSED(record, TOTALS_NO_SUCH_FORMAT, 0));
             CHECK(REFUSED(totals_sum_words(formats[i], TOTALS_VALUE, list, k, NULL), TOTALS_NO_SUCH_FORMAT, 0));
             CHECK(REFUSED(totals_dot_words(formats[i], list, k, list, 5, NULL), TOTALS_NO_SUCH_FORMAT, 0));
+            CHECK(REFUSED(totals_sum_within_words(formats[i], TOTALS_VALUE, list, k, 1, NULL), TOTALS_NO_SUCH_FORMAT, 0));
+            CHECK(REFUSED(totals_dot_within_words(formats[i], list, k, list, 5, 1, NULL), TOTALS_NO_SUCH_FORMAT, 0));
             CHECK(totals_pence_words(formats[i], list, k).refusal == TOTALS_NO_SUCH_FORMAT);
             CHECK(REFUSED(totals_table_words(formats[i], list, k, 1, k, rows, 1, columns, 5, NULL), TOTALS_NO_SUCH_FORMAT, 0));
         }
@@ -2911,16 +3261,17 @@ static void lists_are_only_read(void)
     CHECK(totals_sum_double(list, 2, NULL).result == 3 && totals_sum_double(list, 2, &bad).refusal != TOTALS_ACCEPTED);
     CHECK(totals_pence_double(list, 2).figure == 300);
     CHECK(totals_sum_into_double(list, 2, 0, &target, 1, &record) == TOTALS_ACCEPTED && record.result == 0x4200);
+    CHECK(totals_sum_within_double(TOTALS_VALUE, list, 2, 1, NULL).result == 0x4008000000000000);
     CHECK(memcmp(list, before, sizeof list) == 0);
 }
 
 /* Every refusal has words of its own. */
 static void refusals_in_words(void)
 {
-    const unsigned known[17] = {0, 1, 2, 3, 4, 5, 6, 7, TOTALS_NO_PENCE, TOTALS_BAD_SHAPE, TOTALS_NO_ROOM, TOTALS_BAD_AMOUNT, TOTALS_NOT_A_PAGE,
-                                TOTALS_BAD_SPAN, TOTALS_TARGET_OUT_OF_REACH, TOTALS_NO_LIST, TOTALS_NO_MEMORY};
+    const unsigned known[18] = {0, 1, 2, 3, 4, 5, 6, 7, TOTALS_NO_PENCE, TOTALS_BAD_SHAPE, TOTALS_NO_ROOM, TOTALS_BAD_AMOUNT, TOTALS_NOT_A_PAGE,
+                                TOTALS_BAD_SPAN, TOTALS_NO_PASS_ALLOWED, TOTALS_TARGET_OUT_OF_REACH, TOTALS_NO_LIST, TOTALS_NO_MEMORY};
     size_t i, k;
-    for (i = 0; i < 17; i++) {
+    for (i = 0; i < 18; i++) {
         CHECK(strcmp(totals_strerror(known[i]), totals_strerror(100)) != 0);
         for (k = 0; k < i; k++) {
             CHECK(strcmp(totals_strerror(known[i]), totals_strerror(known[k])) != 0);
@@ -2936,7 +3287,7 @@ static void version(void)
 {
     char text[32];
     sprintf(text, "%d.%d.%d", TOTALS_VERSION_MAJOR, TOTALS_VERSION_MINOR, TOTALS_VERSION_PATCH);
-    CHECK(strcmp(text, TOTALS_VERSION) == 0 && TOTALS_VERSION_NUMBER == 800);
+    CHECK(strcmp(text, TOTALS_VERSION) == 0 && TOTALS_VERSION_NUMBER == 900);
 }
 
 int main(void)
@@ -2991,6 +3342,11 @@ int main(void)
     targets_refused();
     lengths_of_targets();
     targets_of_no_list();
+    unfinished_totals();
+    totals_in_time();
+    floats_within();
+    within_refused();
+    within_of_no_list();
     x87_elsewhere();
     lists_are_only_read();
     refusals_in_words();

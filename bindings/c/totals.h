@@ -12,6 +12,9 @@
  *   totals_range_double  totals_range_words   the lower and the upper total of amounts known within a range
  *   totals_page_write_double  totals_page_count  totals_page_sum_double   a career page: written, opened, a span of it summed
  *   totals_sum_into_double  totals_sum_into_float  totals_sum_into_words   the exact sum, rounded into several formats
+ *   totals_sum_within_double  totals_sum_within_float  totals_sum_within_words   a total within an allowance of passes
+ *   totals_dot_within_double  totals_dot_within_float  totals_dot_within_words   and a dot
+ *   totals_lower  totals_upper  totals_figure   of an unfinished one: two doubles around the exact sum, and a figure between them
  *   totals_page_length                      the bytes that a page takes
  *   totals_strerror                         a refusal in words
  *   totals_sum         totals_dot           the functions of the library, over bytes
@@ -19,9 +22,10 @@
  *   totals_pence       totals_table   totals_range   and over words
  *   totals_page_sum    totals_page_write    and of a page
  *   totals_sum_into                         the exact sum in three formats, over bytes
+ *   totals_sum_within  totals_dot_within    what an allowance of passes gives, over bytes
  *
- * The first twenty-eight count elements, but of a page its bytes, and answer with a record, those of several formats with one for
- * each. They are inline, plain C, and call the last ten, which are proved. docs/LINKING.md has each with its special cases and an example.
+ * The first thirty-four count elements, but of a page its bytes, and answer with a record, those of several formats with one for
+ * each. They are inline, plain C, and call the last twelve, which are proved. docs/LINKING.md has each with its special cases and an example.
  * What is claimed of the library stands in docs/PROMISES.md, the exact meaning of each number below
  * in docs/SPECIFICATION.md. No function keeps a state, and all may be called from several threads.
  */
@@ -35,9 +39,9 @@
 
 /* The version of this header and of the archive that it was written for. */
 #define TOTALS_VERSION_MAJOR 0
-#define TOTALS_VERSION_MINOR 8
+#define TOTALS_VERSION_MINOR 9
 #define TOTALS_VERSION_PATCH 0
-#define TOTALS_VERSION "0.8.0"
+#define TOTALS_VERSION "0.9.0"
 #define TOTALS_VERSION_NUMBER (TOTALS_VERSION_MAJOR * 10000 + TOTALS_VERSION_MINOR * 100 + TOTALS_VERSION_PATCH)
 
 #ifdef __cplusplus
@@ -202,14 +206,14 @@ enum {
 
 /*
  * Refusals: in a record, or what TOTALS_REFUSAL makes of the number that a call returned. The lowest that holds is given, but that of
- * a table 9 and 10 come before 7, and of a page 12 and 13 before 4.
+ * a table 9 and 10 come before 7, of a page 12 and 13 before 4, and within an allowance 16 before 3.
  */
 enum {
     TOTALS_ACCEPTED = 0,
     TOTALS_UNEVEN_LENGTH = 1,        /* a length that is not a multiple of 8, of TOTALS_X87 of 10; a page may have such a length;
                                         targets that are not 312 bytes */
-    TOTALS_SHORT_BUFFER = 2,         /* an answer buffer under 24 bytes, of TOTALS_X87 under 32, of targets under 96; range: a pair
-                                        under two words; page: a destination shorter than the page would be */
+    TOTALS_SHORT_BUFFER = 2,         /* an answer buffer under 24 bytes, of TOTALS_X87 under 32, of targets under 96, within an
+                                        allowance under 144; range: a pair under two words; page: a destination shorter than the page would be */
     TOTALS_NO_SUCH_FORMAT = 3,       /* kind above 3, exponent bits outside 2..28, width below these + 2 or above 64,
                                         or a named bias outside -268,435,456..268,435,456; TOTALS_X87 as it is said above */
     TOTALS_SETTING_OUT_OF_RANGE = 4, /* a setting or the summand out of its range */
@@ -223,6 +227,7 @@ enum {
                                         not finite or is below zero, even where no entry is missing */
     TOTALS_NOT_A_PAGE = 12,          /* page: the bytes are not the page of the values in them, or have over 268,435,456 of these */
     TOTALS_BAD_SPAN = 13,            /* page: the span starts above its end, or ends above the number of values */
+    TOTALS_NO_PASS_ALLOWED = 16,     /* within an allowance: it is 0 */
     TOTALS_TARGET_OUT_OF_REACH = 17, /* target: more digits than the list's format has, or a NaN or an infinity in the list */
     TOTALS_NO_LIST = 254,            /* this and the next from the inline functions alone: NULL for a list that is not empty */
     TOTALS_NO_MEMORY = 255           /* a long list of float, or of the figures of a range, could not be copied */
@@ -235,10 +240,11 @@ enum {
  */
 #define TOTALS_PLACE(code) ((code) / 256)
 
-/* An answer takes 24 bytes, one of TOTALS_X87 32, and one of three targets 96. */
+/* An answer takes 24 bytes, one of TOTALS_X87 32, one of three targets 96, and one within an allowance 144. */
 #define TOTALS_ANSWER_BYTES 24
 #define TOTALS_X87_ANSWER_BYTES 32
 #define TOTALS_INTO_ANSWER_BYTES 96
+#define TOTALS_WITHIN_ANSWER_BYTES 144
 
 /* Three targets, thirteen numbers of eight bytes each. */
 #define TOTALS_TARGETS_BYTES 312
@@ -470,6 +476,57 @@ uint64_t totals_sum_into(uint64_t kind, uint64_t exponent_bits, uint64_t width, 
                          uint8_t *answer, size_t answer_len);
 
 /*
+ * totals_sum within an allowance of passes: the whole answer where the chain of passes ends in time, which is then the same for every
+ * larger allowance, or else what the last pass allowed has seen: S, in units of 2^(last edge), and the boundary that this pass was compared
+ * against. S units plus the boundary are off from the exact sum by fewer units than there are terms, and of these there are no more than
+ * elements. Of unfinished answers a larger allowance never has a wider bound.
+ *
+ *   kind to bias            the format, as in totals_pence
+ *   rounding to precision   the eight settings, as in totals_sum; they act on a whole answer alone
+ *   summand                 as in totals_sum
+ *   allowance               the most passes, at least 1
+ *   values                  eight bytes a value, as in totals_sum
+ *   answer                  at least 144 bytes, apart from the values
+ *
+ * Lengths count bytes. No pointer may be NULL, not even with length 0.
+ *
+ * Returns 0 and writes bytes 0 to 143 of the answer, little end first, numbers with a sign in two's complement; later bytes stay as they were:
+ *
+ *   0..7     result                 8   flags   9   mark   10   side   11   1 where the boundary is below zero   12..15   zeros
+ *   16..23   passes                 24..31   last edge, with a sign
+ *   32..39   boundary's whole number, 0 where there is none             40..47   position of its unit, with a sign
+ *   48..143  S, with a sign
+ *
+ * A mark of 0 is a whole answer: 0..23 are as in totals_sum, the last edge is that of its last pass, or 0 where it took none, and the rest is 0.
+ * A mark of 1 is an unfinished one: result, flags and side are 0, and the passes are the allowance. Or writes nothing and returns the first of
+ * these that holds:
+ *
+ *   TOTALS_UNEVEN_LENGTH
+ *   TOTALS_SHORT_BUFFER
+ *   TOTALS_NO_PASS_ALLOWED
+ *   TOTALS_NO_SUCH_FORMAT         of TOTALS_X87 too, and where bias_named is above 1, or is 0 and bias is not
+ *   TOTALS_SETTING_OUT_OF_RANGE
+ *   TOTALS_DIFFERENT_LENGTHS      of a dot
+ *   TOTALS_TOO_MANY_ELEMENTS
+ *   TOTALS_STRAY_BIT              plus 256 times a place
+ */
+uint64_t totals_sum_within(uint64_t kind, uint64_t exponent_bits, uint64_t width, uint64_t bias_named, int64_t bias,
+                           uint64_t rounding, uint64_t tininess, uint64_t nan_propagation, uint64_t default_nan_negative,
+                           uint64_t flush_to_zero, uint64_t denormals_are_zero, uint64_t saturate, uint64_t precision,
+                           uint64_t summand, uint64_t allowance,
+                           const uint8_t *values, size_t values_len,
+                           uint8_t *answer, size_t answer_len);
+
+/* The dot product: all else is as in totals_sum_within. */
+uint64_t totals_dot_within(uint64_t kind, uint64_t exponent_bits, uint64_t width, uint64_t bias_named, int64_t bias,
+                           uint64_t rounding, uint64_t tininess, uint64_t nan_propagation, uint64_t default_nan_negative,
+                           uint64_t flush_to_zero, uint64_t denormals_are_zero, uint64_t saturate, uint64_t precision,
+                           uint64_t allowance,
+                           const uint8_t *left, size_t left_len,
+                           const uint8_t *right, size_t right_len,
+                           uint8_t *answer, size_t answer_len);
+
+/*
  * Records: what the inline functions answer. Where refusal is TOTALS_ACCEPTED, result, flags, passes and side hold the total, or
  * figure its pence, or lower and upper the two that it lies between, or length and count those of a page. Else refusal says why there
  * is none, and every other field is 0 but for the place of a TOTALS_STRAY_BIT. Later versions add fields at the end.
@@ -534,6 +591,30 @@ typedef struct totals_page_record {
 } totals_page_record;
 
 /*
+ * A total within an allowance. Where refusal is TOTALS_ACCEPTED and mark 0, result, flags, side and passes are those of the total, and last_edge
+ * is the edge of its last pass. Where mark is 1 the chain goes on behind the last pass allowed: passes is the allowance, and the fields from
+ * last_edge on say what this pass has seen, which totals_lower and totals_upper take as doubles.
+ */
+#define TOTALS_SUM_WORDS 12
+
+typedef struct totals_estimate {
+    uint64_t result; /* an encoding of the format */
+    uint64_t passes;
+    uint64_t place;
+    unsigned flags;
+    unsigned refusal;
+    unsigned side;
+    unsigned mark;                  /* 1 where the answer is unfinished */
+    int64_t last_edge;              /* a position: that of the bit worth 1 is 0 */
+    unsigned negative;              /* 1 where S is below zero */
+    unsigned minus;                 /* 1 where the boundary is */
+    uint64_t sum[TOTALS_SUM_WORDS]; /* the magnitude of S, in units of 2^last_edge, the least word first */
+    uint64_t whole;                 /* the boundary's whole number, or 0 where there was none */
+    int64_t unit;                   /* the position of its unit */
+    size_t elements;                /* where mark is 1: of the list, or the pairs. There are no more terms, as a zero is none */
+} totals_estimate;
+
+/*
  * A refusal in words. Takes the refusal of a record, or all that a function of the library returned.
  * Never NULL; of a number that it does not know it says so.
  */
@@ -543,8 +624,8 @@ static inline const char *totals_strerror(uint64_t refusal)
     case TOTALS_ACCEPTED: return "accepted";
     case TOTALS_UNEVEN_LENGTH: return "the length in bytes is not a multiple of 8, or of 10 for X87, or that of the targets is not 312";
     case TOTALS_SHORT_BUFFER:
-        return "the answer buffer has fewer than 24 bytes, 32 for X87 or 96 for targets, the pair fewer than two words, or the destination "
-               "fewer than the page";
+        return "the answer buffer has fewer than 24 bytes, 32 for X87, 96 for targets or 144 within an allowance, the pair fewer than two "
+               "words, or the destination fewer than the page";
     case TOTALS_NO_SUCH_FORMAT: return "there is no such format, or the bias that it names is out of its range";
     case TOTALS_SETTING_OUT_OF_RANGE: return "a setting or the summand is out of its range";
     case TOTALS_DIFFERENT_LENGTHS: return "the lists differ in length";
@@ -557,6 +638,7 @@ static inline const char *totals_strerror(uint64_t refusal)
         return "a tag is above 2, a figure is not finite, a low is above its high, or the ceiling is not finite or below zero";
     case TOTALS_NOT_A_PAGE: return "the bytes are not the page of the values in them, or have more than 268,435,456 of these";
     case TOTALS_BAD_SPAN: return "the span starts above its end, or ends above the number of values";
+    case TOTALS_NO_PASS_ALLOWED: return "the allowance is of no pass at all";
     case TOTALS_TARGET_OUT_OF_REACH:
         return "the target has more digits than the list's format, or the list holds a NaN or an infinity";
     case TOTALS_NO_LIST: return "a list or the page is NULL, and its length is not 0";
@@ -678,13 +760,31 @@ static inline int totals_is_missing_(totals_list_ list)
     return list.values == NULL && list.count != 0;
 }
 
-/*
- * A sum of `left`, for which `right` is empty and `pairs` 0, or a dot. A format whose last two fields do not fit each other was not
- * set up as a whole, and a total in either reading would be a guess. Of TOTALS_X87 there are no encodings in words.
- */
-static inline uint64_t totals_call_(totals_format f, const totals_settings *c, uint64_t summand, int pairs, const uint8_t *left,
-                                    size_t left_count, const uint8_t *right, size_t right_count, uint8_t *answer)
+static inline uint64_t totals_call_within_(totals_format f, const totals_settings *c, uint64_t summand, int pairs, uint64_t allowance,
+                                           const uint8_t *left, size_t left_count, const uint8_t *right, size_t right_count,
+                                           uint8_t *answer)
 {
+    if (pairs) {
+        return totals_dot_within(f.kind, f.exponent_bits, f.width, f.bias_named, f.bias, c->rounding, c->tininess, c->nan_propagation,
+                                 c->default_nan_negative, c->flush_to_zero, c->denormals_are_zero, c->saturate, c->precision, allowance,
+                                 left, 8 * left_count, right, 8 * right_count, answer, TOTALS_WITHIN_ANSWER_BYTES);
+    }
+    return totals_sum_within(f.kind, f.exponent_bits, f.width, f.bias_named, f.bias, c->rounding, c->tininess, c->nan_propagation,
+                             c->default_nan_negative, c->flush_to_zero, c->denormals_are_zero, c->saturate, c->precision, summand,
+                             allowance, left, 8 * left_count, answer, TOTALS_WITHIN_ANSWER_BYTES);
+}
+
+/*
+ * A sum of `left`, for which `right` is empty and `pairs` 0, or a dot; within an allowance where there is one. A format whose last two fields
+ * do not fit each other was not set up as a whole, and a total in either reading would be a guess. Of TOTALS_X87 there are no encodings in
+ * words.
+ */
+static inline uint64_t totals_call_(totals_format f, const totals_settings *c, uint64_t summand, int pairs, const uint64_t *allowance,
+                                    const uint8_t *left, size_t left_count, const uint8_t *right, size_t right_count, uint8_t *answer)
+{
+    if (allowance != NULL) {
+        return totals_call_within_(f, c, summand, pairs, *allowance, left, left_count, right, right_count, answer);
+    }
     if (f.bias_named > 1 || (f.bias_named == 0 && f.bias != 0) || f.kind == TOTALS_X87) {
         return TOTALS_NO_SUCH_FORMAT;
     }
@@ -724,12 +824,13 @@ static inline totals_record totals_record_of_(uint64_t code, const uint8_t *answ
     return record;
 }
 
-static inline totals_record totals_take_(totals_format f, const totals_settings *settings, uint64_t summand, int pairs,
-                                         totals_list_ left, totals_list_ right)
+/* Calls with lists that the entries can read, and an answer that has room for what is asked. */
+static inline uint64_t totals_lend_(totals_format f, const totals_settings *settings, uint64_t summand, int pairs, const uint64_t *allowance,
+                                    totals_list_ left, totals_list_ right, uint8_t *answer)
 {
     static const totals_settings defaults = TOTALS_SETTINGS_INIT;
     const totals_settings *c = settings == NULL ? &defaults : settings;
-    uint8_t answer[TOTALS_ANSWER_BYTES], left_room[8 * TOTALS_ROOM_], right_room[8 * TOTALS_ROOM_];
+    uint8_t left_room[8 * TOTALS_ROOM_], right_room[8 * TOTALS_ROOM_];
     uint8_t *left_owned = NULL, *right_owned = NULL;
     uint64_t code;
 
@@ -737,7 +838,7 @@ static inline totals_record totals_take_(totals_format f, const totals_settings 
         || totals_is_missing_(right)) {
         /* A format or a setting is refused first, with an empty list too. The length of such a list in bytes need not fit a size_t. */
         const uint8_t *none = totals_bytes_(totals_list_of_(NULL, 0, 8), left_room, &left_owned);
-        code = totals_call_(f, c, summand, pairs, none, 0, none, 0, answer);
+        code = totals_call_(f, c, summand, pairs, allowance, none, 0, none, 0, answer);
         if (code == TOTALS_ACCEPTED) {
             code = pairs && left.count != right.count ? TOTALS_DIFFERENT_LENGTHS
                    : left.count > TOTALS_MOST_ELEMENTS ? TOTALS_TOO_MANY_ELEMENTS
@@ -749,12 +850,193 @@ static inline totals_record totals_take_(totals_format f, const totals_settings 
         if (left_bytes == NULL || right_bytes == NULL) {
             code = TOTALS_NO_MEMORY;
         } else {
-            code = totals_call_(f, c, summand, pairs, left_bytes, left.count, right_bytes, right.count, answer);
+            code = totals_call_(f, c, summand, pairs, allowance, left_bytes, left.count, right_bytes, right.count, answer);
         }
         TOTALS_FREE(left_owned);
         TOTALS_FREE(right_owned);
     }
+    return code;
+}
+
+static inline totals_record totals_take_(totals_format f, const totals_settings *settings, uint64_t summand, int pairs,
+                                         totals_list_ left, totals_list_ right)
+{
+    uint8_t answer[TOTALS_ANSWER_BYTES];
+    const uint64_t code = totals_lend_(f, settings, summand, pairs, NULL, left, right, answer);
     return totals_record_of_(code, answer);
+}
+
+static inline void totals_negate_(uint64_t *words, size_t count)
+{
+    uint64_t carry = 1;
+    size_t i;
+    for (i = 0; i < count; i++) {
+        words[i] = ~words[i] + carry;
+        carry = carry && words[i] == 0;
+    }
+}
+
+/* As totals_take_, within an allowance. */
+static inline totals_estimate totals_take_within_(totals_format f, const totals_settings *settings, uint64_t summand, int pairs,
+                                                  uint64_t allowance, totals_list_ left, totals_list_ right)
+{
+    uint8_t answer[TOTALS_WITHIN_ANSWER_BYTES];
+    const uint64_t code = totals_lend_(f, settings, summand, pairs, &allowance, left, right, answer);
+    const totals_record record = totals_record_of_(code, answer);
+    totals_estimate estimate;
+    size_t i;
+
+    memset(&estimate, 0, sizeof estimate);
+    estimate.result = record.result;
+    estimate.passes = record.passes;
+    estimate.place = record.place;
+    estimate.flags = record.flags;
+    estimate.refusal = record.refusal;
+    estimate.side = record.side;
+    if (code != TOTALS_ACCEPTED) {
+        return estimate;
+    }
+    estimate.mark = answer[9];
+    estimate.minus = answer[11];
+    estimate.last_edge = (int64_t)totals_get_(answer + 24);
+    estimate.whole = totals_get_(answer + 32);
+    estimate.unit = (int64_t)totals_get_(answer + 40);
+    for (i = 0; i < TOTALS_SUM_WORDS; i++) {
+        estimate.sum[i] = totals_get_(answer + 48 + 8 * i);
+    }
+    estimate.negative = (unsigned)(estimate.sum[TOTALS_SUM_WORDS - 1] >> 63);
+    if (estimate.negative) {
+        totals_negate_(estimate.sum, TOTALS_SUM_WORDS);
+    }
+    estimate.elements = estimate.mark ? left.count : 0;
+    return estimate;
+}
+
+/*
+ * A number in two's complement, in units of 2^place. Sixteen words hold S, which takes twelve, and a boundary of one word that is raised by up
+ * to TOTALS_FARTHEST_. A unit that lies so far above the last edge is 2^64 times what S and the elements can be.
+ */
+#define TOTALS_WIDE_ 16
+#define TOTALS_FARTHEST_ 832
+
+typedef struct totals_wide_ {
+    uint64_t words[TOTALS_WIDE_];
+    int64_t place;
+} totals_wide_;
+
+static inline void totals_add_(totals_wide_ *wide, size_t from, uint64_t word)
+{
+    size_t i;
+    for (i = from; i < TOTALS_WIDE_ && word != 0; i++) {
+        wide->words[i] += word;
+        word = wide->words[i] < word;
+    }
+}
+
+/* S and the boundary, less a unit for each element where toward is below 0, plus one where it is above. */
+static inline totals_wide_ totals_shown_(const totals_estimate *e, int toward)
+{
+    totals_wide_ wide = {{0}, e->last_edge};
+    const uint64_t apart = e->unit <= e->last_edge ? 0 : (uint64_t)e->unit - (uint64_t)e->last_edge;
+    const uint64_t raised = apart < TOTALS_FARTHEST_ ? apart : TOTALS_FARTHEST_;
+    const size_t at = (size_t)(raised / 64);
+    const unsigned bits = (unsigned)(raised % 64);
+    int is_negative, is_zero = 1;
+    size_t i;
+
+    memcpy(wide.words, e->sum, sizeof e->sum);
+    if (e->negative) {
+        totals_negate_(wide.words, TOTALS_WIDE_);
+    }
+    /* x - n is -(-x + n) */
+    if (toward < 0) {
+        totals_negate_(wide.words, TOTALS_WIDE_);
+    }
+    totals_add_(&wide, 0, toward == 0 ? 0 : e->elements);
+    if (toward < 0) {
+        totals_negate_(wide.words, TOTALS_WIDE_);
+    }
+    if (e->whole == 0) {
+        return wide;
+    }
+    if (apart > TOTALS_FARTHEST_) {
+        /* S lies so far below the boundary's unit that its sign alone can part two doubles */
+        is_negative = wide.words[TOTALS_WIDE_ - 1] >> 63 == 1;
+        for (i = 0; i < TOTALS_WIDE_; i++) {
+            is_zero = is_zero && wide.words[i] == 0;
+            wide.words[i] = is_negative ? UINT64_MAX : 0;
+        }
+        wide.words[0] |= !is_zero;
+        wide.place = e->unit - TOTALS_FARTHEST_;
+    }
+    if (e->minus) {
+        totals_negate_(wide.words, TOTALS_WIDE_);
+    }
+    totals_add_(&wide, at, e->whole << bits);
+    totals_add_(&wide, at + 1, bits == 0 ? 0 : e->whole >> (64 - bits));
+    if (e->minus) {
+        totals_negate_(wide.words, TOTALS_WIDE_);
+    }
+    return wide;
+}
+
+static inline int totals_digit_(const totals_wide_ *wide, int64_t at)
+{
+    return at >= 0 && at < 64 * TOTALS_WIDE_ && (wide->words[at / 64] >> (at % 64) & 1) == 1;
+}
+
+static inline int totals_is_set_below_(const totals_wide_ *wide, int64_t at)
+{
+    int64_t i;
+    for (i = 0; i < at && i < 64 * TOTALS_WIDE_; i++) {
+        if (totals_digit_(wide, i)) {
+            return 1;
+        }
+    }
+    return 0;
+}
+
+/* The double, or infinity, at or below the number where toward is below 0, at or above it where it is above, else the nearest, ties to even. */
+static inline double totals_rounded_(totals_wide_ wide, int toward)
+{
+    const int is_negative = wide.words[TOTALS_WIDE_ - 1] >> 63 == 1;
+    int64_t length = 64 * TOTALS_WIDE_, unit, cut, i;
+    uint64_t encoding = 0;
+    double x = 0;
+    int is_away;
+
+    if (is_negative) {
+        totals_negate_(wide.words, TOTALS_WIDE_);
+    }
+    while (length > 0 && !totals_digit_(&wide, length - 1)) {
+        length--;
+    }
+    if (length == 0) {
+        return x;
+    }
+    /* the double's lowest digit: the highest one of the number is the first of 53, or it is subnormal */
+    unit = wide.place + length - 53 > -1074 ? wide.place + length - 53 : -1074;
+    cut = unit - wide.place;
+    for (i = 53; i >= 0; i--) {
+        encoding = encoding << 1 | (uint64_t)totals_digit_(&wide, cut + i);
+    }
+    if (toward == 0) {
+        is_away = totals_digit_(&wide, cut - 1) && (encoding % 2 == 1 || totals_is_set_below_(&wide, cut - 1));
+    } else {
+        is_away = (toward < 0) == is_negative && totals_is_set_below_(&wide, cut);
+    }
+    if (unit > 971) {
+        /* 2^1024 or more: infinity, or the greatest double below it */
+        encoding = toward == 0 || (toward < 0) == is_negative ? 0x7ff0000000000000 : 0x7fefffffffffffff;
+    } else {
+        /* a digit in front of 53 goes into the exponent, and from the greatest double to infinity */
+        encoding += ((uint64_t)(unit + 1074) << 52) + (uint64_t)is_away;
+    }
+    if (is_negative && encoding != 0) {
+        encoding |= (uint64_t)1 << 63;
+    }
+    memcpy(&x, &encoding, sizeof x);
+    return x;
 }
 
 /* As totals_take_, of lists of ten bytes an element, which are read where they lie. */
@@ -1349,6 +1631,78 @@ static inline unsigned totals_sum_into_words(totals_format format, const uint64_
                                              const totals_target *targets, size_t target_count, totals_record *records)
 {
     return totals_take_into_(format, denormals_are_zero, totals_list_of_(values, count, sizeof *values), targets, target_count, records);
+}
+
+/*
+ * The total of `count` elements, by its summand, within an allowance of passes, as totals_sum_within has it. A list may be NULL where its
+ * count is 0, and settings NULL for TOTALS_SETTINGS_INIT. A list of double is read where it lies; one of float is copied, eight bytes an
+ * element: up to 2 GiB. TOTALS_NO_PASS_ALLOWED comes first; of a list that is not there TOTALS_NO_LIST comes behind TOTALS_TOO_MANY_ELEMENTS.
+ */
+static inline totals_estimate totals_sum_within_double(uint64_t summand, const double *values, size_t count, uint64_t allowance,
+                                                       const totals_settings *settings)
+{
+    const totals_format f = {TOTALS_BINARY64, TOTALS_OWN_BIAS};
+    return totals_take_within_(f, settings, summand, 0, allowance, totals_list_of_(values, count, sizeof *values),
+                               totals_list_of_(NULL, 0, sizeof *values));
+}
+
+static inline totals_estimate totals_sum_within_float(uint64_t summand, const float *values, size_t count, uint64_t allowance,
+                                                      const totals_settings *settings)
+{
+    const totals_format f = {TOTALS_BINARY32, TOTALS_OWN_BIAS};
+    return totals_take_within_(f, settings, summand, 0, allowance, totals_list_of_(values, count, sizeof *values),
+                               totals_list_of_(NULL, 0, sizeof *values));
+}
+
+static inline totals_estimate totals_sum_within_words(totals_format format, uint64_t summand, const uint64_t *values, size_t count,
+                                                      uint64_t allowance, const totals_settings *settings)
+{
+    return totals_take_within_(format, settings, summand, 0, allowance, totals_list_of_(values, count, sizeof *values),
+                               totals_list_of_(NULL, 0, sizeof *values));
+}
+
+/* The same of the products of pairs. */
+static inline totals_estimate totals_dot_within_double(const double *left, size_t left_count, const double *right, size_t right_count,
+                                                       uint64_t allowance, const totals_settings *settings)
+{
+    const totals_format f = {TOTALS_BINARY64, TOTALS_OWN_BIAS};
+    return totals_take_within_(f, settings, TOTALS_VALUE, 1, allowance, totals_list_of_(left, left_count, sizeof *left),
+                               totals_list_of_(right, right_count, sizeof *right));
+}
+
+static inline totals_estimate totals_dot_within_float(const float *left, size_t left_count, const float *right, size_t right_count,
+                                                      uint64_t allowance, const totals_settings *settings)
+{
+    const totals_format f = {TOTALS_BINARY32, TOTALS_OWN_BIAS};
+    return totals_take_within_(f, settings, TOTALS_VALUE, 1, allowance, totals_list_of_(left, left_count, sizeof *left),
+                               totals_list_of_(right, right_count, sizeof *right));
+}
+
+static inline totals_estimate totals_dot_within_words(totals_format format, const uint64_t *left, size_t left_count, const uint64_t *right,
+                                                      size_t right_count, uint64_t allowance, const totals_settings *settings)
+{
+    return totals_take_within_(format, settings, TOTALS_VALUE, 1, allowance, totals_list_of_(left, left_count, sizeof *left),
+                               totals_list_of_(right, right_count, sizeof *right));
+}
+
+/*
+ * Of an unfinished estimate two doubles, or infinities, that have the exact sum between them, or are it: S and the boundary less and plus a
+ * unit for each element, rounded down and up. And S and the boundary as the nearest double, which lies between the two: a figure to show, not
+ * a result. Each is of the sum as a number, before it is rounded to the format, and a zero is +0. Of any other estimate they are 0.
+ */
+static inline double totals_lower(const totals_estimate *estimate)
+{
+    return totals_rounded_(totals_shown_(estimate, -1), -1);
+}
+
+static inline double totals_upper(const totals_estimate *estimate)
+{
+    return totals_rounded_(totals_shown_(estimate, 1), 1);
+}
+
+static inline double totals_figure(const totals_estimate *estimate)
+{
+    return totals_rounded_(totals_shown_(estimate, 0), 0);
 }
 
 #ifdef __cplusplus

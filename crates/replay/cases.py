@@ -127,7 +127,7 @@ column  0      s a sum, d a dot
       158      the same after the call
       239      128 bytes, two digits each: a sum's list from the first on; a dot's left list from the first on, its right one from the 65th on
 
-At last come the rows of one total in several formats, their number first. Such a row has 1,371 bytes:
+Then come the rows of one total in several formats, their number first. Such a row has 1,371 bytes:
 
 column  0      i
         2      kind, E, W of the list, as above
@@ -144,6 +144,22 @@ column  0      i
       732      thirteen values, 16 digits each
       953      104 bytes of buffer before the call, two digits each
      1162      the same after the call
+
+At last come the rows of totals within an allowance of passes, their number first. Such a row has 1,112 bytes, with the format, the settings and the summand
+where a sum's row has them; and else:
+
+column  0      s a sum, d a dot
+       23      bytes that are lent of a sum's list, or of a dot's left one, two digits
+       26      bytes that are lent of a dot's right list, two digits
+       29      bytes that are lent of the buffer, two digits
+       32      1 where the format names its bias, 0 where it does not, or another digit
+       34      that bias: a sign and 16 digits
+       52      a note of what the row is, 20 bytes
+       73      what the entry returns, three digits
+       77      the allowance, 16 digits
+       94      152 bytes of buffer before the call, two digits each
+      399      the same after the call
+      704      24 values, 16 digits each: a sum's list, or a dot's left one, from the first on; a dot's right list from the thirteenth on
 """
 
 import os
@@ -1367,6 +1383,9 @@ def texts(made):
     rows = several()
     stdin += '%04x\n' % len(rows) + ''.join(call.row() for call in rows)
     stdout += dots('one total, several formats') + ' %d of %d agree\n' % (len(rows), len(rows))
+    rows = within()
+    stdin += '%04x\n' % len(rows) + ''.join(call.row() for call in rows)
+    stdout += dots('totals within an allowance of passes') + ' %d of %d agree\n' % (len(rows), len(rows))
     return stdin, stdout
 
 
@@ -1411,12 +1430,13 @@ def write(binary):
             sys.exit('values of ten bytes, row %d: %s\n  oracle %s, model %x %d %d' % (
                 i, t.line(), answer, t.record.result, t.record.flags, t.record.passes))
     into, lists = several_asked(binary)
+    full, unfinished = within_asked(binary)
     for file, text in zip(('stdin', 'stdout'), texts(made)):
         with open(os.path.join(HERE, file), 'w') as out:
             out.write(text)
     print(len(accepted), 'accepted rows with the answers of the oracle,', sum(len(cases) for _, cases in made) - len(accepted),
           'refused ones;', len(totals), 'totals of tables;', len(of_spans), 'of spans of pages;', len(of_tens), 'of values of ten bytes;', into,
-          'targets, and the passes of', lists, 'of their lists')
+          'targets, and the passes of', lists, 'of their lists;', full, 'totals in time, and', unfinished, 'that are not')
 
 
 def check():
@@ -1441,7 +1461,8 @@ def check():
                         ('tables', lambda row: table_of(row, False).row()), ('tables, a bias named', lambda row: table_of(row, True).row()),
                         ('amounts known within a range', lambda row: range_of(row).row()),
                         *((name, again(read, most)) for name, _, most, read in page_parts()),
-                        ('values of ten bytes', lambda row: tens_of(row).row()), ('one total, several formats', lambda row: several_of(row).row())):
+                        ('values of ten bytes', lambda row: tens_of(row).row()), ('one total, several formats', lambda row: several_of(row).row()),
+                        ('totals within an allowance of passes', lambda row: within_of(row).row())):
         n = int(lines[at], 16)
         for i, row in enumerate(lines[at + 1:at + 1 + n]):
             rows += 1
@@ -1504,6 +1525,7 @@ def cover():
     cover_pages(spans() + long_spans(), written_pages() + long_written())
     cover_tens(tens())
     cover_several(several())
+    cover_within(within())
 
 
 def cover_plain(every):
@@ -3935,6 +3957,454 @@ def cover_several(every):
            combinations((3, 4, 7, 17), 2))
     fewest('one, two, three targets refused', entered, lambda call: (sum(aim.refusal > 0 for aim in call.aims),), range(1, 4))
     fewest('1, 2 and both', every, lambda call: (tuple(sorted(call.holds)),), ((1,), (2,), (1, 2)))
+
+
+# ---- totals within an allowance of passes
+
+WITHIN_ROW, WITHIN_LIST, WITHIN_BUFFER, WITHIN_NOTE, WITHIN_ANSWER = 1112, 12, 152, 20, 144
+MOST_PASSES = 2 ** 64 - 1
+
+
+class Within:
+    """A call of an entry with an allowance, and what it answers. A right list makes it a dot."""
+
+    def __init__(self, note, f, c, left, right=None, summand=VALUE, allowance=1, more=(0, 0), room=WITHIN_BUFFER, first=0xa0):
+        self.note, self.numbers, self.c = note, five(f), {**PLAIN, **c}
+        self.left, self.right, self.summand, self.allowance = left, right, summand, allowance
+        self.more, self.room, self.first = more, room, first
+        self.holds = within_conditions(*self.numbers, self.c, summand, left, right, more, room, allowance)
+        self.refusal = next((n for n in WITHIN_ORDER if n in self.holds), 0)
+        place = (stray(self.numbers[2], left) + stray(self.numbers[2], right or []))[0] if self.refusal == 7 else 0
+        self.returned = self.refusal + 256 * place
+        self.record, self.shown = None, None
+        if not self.refusal:
+            self.record, terms, steps = self.total()
+            assert len(steps) == self.record.passes
+            if self.record.passes > allowance:
+                self.shown = steps[allowance - 1][:3]
+                apart, reach = off(terms, *self.shown)
+                assert apart < reach
+
+    def total(self):
+        """The record of the total itself, its terms and its passes."""
+        f, _ = format_of(self.numbers)
+        return walked(f, tuple(self.c[name] for name in SETTINGS), self.summand, tuple(self.left), None if self.right is None else tuple(self.right))
+
+    def before(self):
+        return bytes((self.first + 7 * i) % 256 for i in range(WITHIN_BUFFER))
+
+    def answer(self):
+        """The 144 bytes: of a full answer the record, of an unfinished one the pass that was the last."""
+        r, word = self.record, lambda n: (n % 2 ** 64).to_bytes(8, 'little')
+        if self.shown is None:
+            return word(r.result) + bytes([r.flags, 0, r.leans]) + bytes(5) + word(r.passes) + word(r.edge) + bytes(112)
+        edge, boundary, s = self.shown
+        whole, unit = boundary or (0, 0)
+        return (bytes(9) + bytes([1, 0, whole < 0]) + bytes(4) + word(self.allowance) + word(edge) + word(abs(whole)) + word(unit)
+                + (s % 2 ** 768).to_bytes(96, 'little'))
+
+    def after(self):
+        return self.before() if self.returned else self.answer() + self.before()[WITHIN_ANSWER:]
+
+    def row(self):
+        dot, (kind, e, w, named, bias) = self.right is not None, self.numbers
+        lent = [8 * len(values) + n for values, n in zip((self.left, self.right or []), self.more)]
+        assert len(self.note) <= WITHIN_NOTE and max(lent) <= 8 * WITHIN_LIST + 7 and max(len(self.left), len(self.right or [])) <= WITHIN_LIST
+        head = '%s %x %02x %02x %s %02x %x %02x %02x %02x %x %s %s %03x %016x' % (
+            'd' if dot else 's', kind, e, w, ''.join('%x' % self.c[name] for name in SETTINGS[:7]), self.c['precision'], self.summand, *lent, self.room,
+            named, signed(bias, 16), self.note.ljust(WITHIN_NOTE, '.'), self.returned, self.allowance)
+        # what stands behind a list is no zero, and has bits that are stray in most formats
+        filled = lambda values: values + [0x5a5a5a5a5a5a5a5a] * (WITHIN_LIST - len(values))
+        values = filled(self.left) + filled(self.right or [])
+        text = ' '.join([head, self.before().hex(), self.after().hex()] + ['%016x' % v for v in values]) + '\n'
+        assert len(text) == WITHIN_ROW
+        return text
+
+    def case(self):
+        """The plain total."""
+        return Case(format_of(self.numbers)[0], self.c, self.left, self.right, self.summand)
+
+
+def within_of(row):
+    """The call of a row, with the model's answer."""
+    number = lambda at, digits: int(row[at:at + digits], 16)
+    c = {name: number(10 + i, 1) for i, name in enumerate(SETTINGS[:7])}
+    c['precision'] = number(18, 2)
+    values = [number(at, 16) for at in range(704, WITHIN_ROW, 17)]
+    (n, more), (m, more_right) = divmod(number(23, 2), 8), divmod(number(26, 2), 8)
+    right = values[WITHIN_LIST:][:m] if row[0] == 'd' else None
+    f = number(2, 1), number(4, 2), number(7, 2), number(32, 1), number(34, 17)
+    return Within(row[52:72].rstrip('.'), f, c, values[:n], right, number(21, 1), number(77, 16), (more, more_right), number(29, 2), number(94, 2))
+
+
+def numbers_of(f):
+    """A format as Within takes it."""
+    return (f.kind, f.e, f.w) if f.named is None else (f.kind, f.e, f.w, f.named)
+
+
+def within_each(note, case, allowances=None):
+    """A call for each allowance: from 1 to one more than the passes, where none are given."""
+    made = []
+    for i, k in enumerate(allowances or range(1, case.passes + 2)):
+        room, first = (WITHIN_BUFFER, 144, 145, 151)[(i + k) % 4], (37 * k + 11 * i) % 256
+        made.append(Within(note, numbers_of(case.format()), case.c, case.left, case.right, case.summand, k, room=room, first=first))
+    return made
+
+
+def at_ends(passes, *more):
+    """Allowances at both ends of a long chain, and beyond it."""
+    return sorted({k for k in (1, 2, passes // 2, passes - 1, passes, passes + 1, *more) if k > 0})
+
+
+def within_examples():
+    """The rows of document 02's request and others by hand. Of a full answer: result, flags, side, passes, last edge; of an unfinished one: last edge, the
+    boundary's whole number with its sign, the position of its unit, and S."""
+    at = lambda n, negative=0: power(DOUBLE, n, negative)
+    f, g = (0, 11, 64), (0, 13, 18)
+    wide = lambda n, negative=0: power(Format(*g), n, negative)
+    far = [wide(4000), wide(4000, 1), wide(-4000)]
+    near = [at(1000), at(-390), at(-900)]
+    below = [at(1000), at(298, 1), at(297), at(297), at(-900)]
+    lowest = (0, 28, 30), [0x1ffffffd, 1]
+    rows = [
+        ('-2^1023, 2^-1074', f, VALUE, [at(1023, 1), 1], None, {1: (321, 0, 0, -2 ** 702)}),
+        ('a NaN', f, VALUE, [at(0), 0x7ff8000000000001], None, {1: (0x7ff8000000000001, 0, 3, 0, 0)}),
+        ('C5', f, VALUE, [at(1000), at(0), at(1000, 1)], None, {1: (298, 0, 0, 0), 2: (at(0), 0, 0, 2, -468), 3: (at(0), 0, 0, 2, -468)}),
+        ('C7', f, VALUE, [at(0), at(-53), at(-1000)], None,
+         {1: (-702, 0, 0, 2 ** 702 + 2 ** 649), 2: (at(0) + 1, 0x50, 2, 2, -1403), MOST_PASSES: (at(0) + 1, 0x50, 2, 2, -1403)}),
+        ('C1', f, VALUE, [], None, {1: (0, 0, 0, 0, 0), MOST_PASSES: (0, 0, 0, 0, 0)}),
+        ('C2', f, VALUE, [1 << 63], None, {1: (1 << 63, 0, 0, 0, 0)}),
+        ('C4', f, VALUE, [at(0), at(0, 1)], None, {1: (0, 0, 0, 1, -702), 2: (0, 0, 0, 1, -702)}),
+        ('C8', f, VALUE, [0x7fefffffffffffff] * 2, None, {1: (0x7ff0000000000000, 0x54, 3, 1, 321)}),
+        ('C10', f, VALUE, [1], None, {1: (1, 0xa0, 0, 1, -1776), 2: (1, 0xa0, 0, 1, -1776)}),
+        ('C11', f, SQUARE, [at(-600)], None, {1: (0, 0x38, 1, 1, -1901)}),
+        ('C12', f, MAGNITUDE, [0xfff0000000000000, 0x7ff8000000000000], None, {1: (0x7ff0000000000000, 0, 3, 0, 0)}),
+        ('2^4000 less itself', g, VALUE, far, None,
+         {1: (3298, 0, 0, 0), 2: (2532, 0, 0, 0), 9: (-2830, 0, 0, 0), 10: (-3596, 0, 0, 0), 11: (0x5f0, 0, 0, 11, -4362)}),
+        ('2^4000 and 2^-4000', g, VALUE, [wide(4000), wide(-4000)], None,
+         {1: (3298, 0, 0, 2 ** 702), 2: (2597, 0x20, 3995, 0), 3: (1831, 0x20, 3995, 0)}),
+        ('their negatives', g, VALUE, [wide(4000, 1), wide(-4000, 1)], None,
+         {1: (3298, 0, 0, -2 ** 702), 2: (2597, -0x20, 3995, 0), 3: (1831, -0x20, 3995, 0)}),
+        ('S beside a boundary', f, VALUE, near, None,
+         {1: (298, 0, 0, 2 ** 702), 2: (-403, 2 ** 53, 947, 2 ** 13), 3: (at(1000), 0x10, 1, 3, -1155)}),
+        ('S below a boundary', f, VALUE, [at(1000), at(-390, 1), at(-900)], None, {2: (-403, 2 ** 53, 947, -2 ** 13)}),
+        ('above one of minus', f, VALUE, [at(1000, 1), at(-390), at(-900)], None, {2: (-403, -2 ** 53, 947, 2 ** 13)}),
+        ('and of minus', f, VALUE, [v ^ 1 << 63 for v in near], None,
+         {1: (298, 0, 0, -2 ** 702), 2: (-403, -2 ** 53, 947, -2 ** 13), 3: (at(1000, 1), 0x10, 2, 3, -1155)}),
+        ('the next quotient', f, VALUE, below, None,
+         {1: (298, 0, 0, 2 ** 702 - 1), 2: (-403, 2 ** 54, 946, 0), 3: (at(1000), 0x10, 1, 3, -1169)}),
+        ('magnitudes', f, MAGNITUDE, [v ^ 1 << 63 for v in near], None, {1: (298, 0, 0, 2 ** 702), 2: (-403, 2 ** 53, 947, 2 ** 13)}),
+        # T is 1001, one more than the product's position
+        ('products', f, VALUE, [at(500), at(-400), at(-500)], [at(500), at(10), at(-400)],
+         {1: (299, 0, 0, 2 ** 701), 2: (-402, 2 ** 53, 947, 2 ** 12), 3: (at(1000), 0x10, 1, 3, -1155)}),
+        ('squares', f, SQUARE, [at(500), at(-195, 1), at(-450)], None, {1: (299, 0, 0, 2 ** 701), 2: (-402, 2 ** 53, 947, 2 ** 12)}),
+        ('a binary16 ends in 1', (0, 5, 16), VALUE, [0x7bff, 1], None, {1: (0x7bff, 0x90, 1, 1, -687)}),
+        ('the longest', *lowest[:1], VALUE, lowest[1], None,
+         {1: (134217025, 0, 0, 3 * 2 ** 701), 2: (134216324, 6, 134217725, 0), 3: (134215558, 6, 134217725, 0),
+          350438: (134216324 - 766 * 350436, 6, 134217725, 0)}),
+    ]
+    made = []
+    for note, f, summand, left, right, answers in rows:
+        for k, answer in answers.items():
+            call = Within(note, f, {}, left, right, summand, k)
+            r = call.record
+            found = (r.result, r.flags, r.leans, r.passes, r.edge) if call.shown is None else (call.shown[0], *(call.shown[1] or (0, 0)), call.shown[2])
+            assert found == answer, (note, k, found)
+            made.append(call)
+    return made
+
+
+def within_passes(draw):
+    """Allowances from 1 to one more than the passes: binary64 from end to end, sums in 2, 3 and 4 passes, dots and squares in 2 to 7."""
+    made = []
+    for i, case in enumerate(ends_of_binary64()):
+        if case.c['rounding'] == EVEN and case.passes > 1 and i % 2:
+            made += within_each('binary64 end to end', case)
+    wanted = {(passes, False): 2 for passes in (2, 3, 4)} | {(passes, True): 1 for passes in range(2, 7)}
+    while any(wanted.values()):
+        case = drawn(draw, Format(draw.below(4), *draw.choice(((11, 64), (11, 64), (11, 33), (12, 14)))), (staircase, near_tie, cancelling, descent))
+        key = case.passes, case.is_product()
+        if wanted.get(key):
+            wanted[key] -= 1
+            made += within_each('in %d passes' % case.passes, case)
+    case = drawn(draw, DOUBLE, (chain_of_seven,))
+    while case.c['daz']:
+        case = drawn(draw, DOUBLE, (chain_of_seven,))
+    return made + within_each('in 7 passes', case)
+
+
+def within_boundaries():
+    """A sum beside a number, or the middle between two: below it, on it and above it, of either sign, over a list and over pairs."""
+    made = []
+    # of each twelve in a row, one of every sign, side, middle and list or pairs, in another mode
+    for i, case in enumerate(boundaries()):
+        if i // 24 == i % 8:
+            made += within_each('beside a boundary', case, sorted({1, case.passes // 2 + 1, max(case.passes - 1, 1), case.passes}))
+    # few digits of S beside the boundary, and a term below: the pass does not decide
+    for kind, negative, below in product(range(4), range(2), range(2)):
+        f = Format(kind, 12, 64)
+        case = Case(f, {'rounding': 2 * kind + below}, [power(f, 1000, negative), power(f, -390, below, kind), power(f, -900)])
+        made += within_each('S beside a boundary', case, (2, 3))
+    return made
+
+
+# formats whose chains have runs of passes that see no term
+RUNS = ((12, 14), (13, 15), (14, 64), (15, 41), (17, 64), (20, 33), (24, 61))
+
+
+def within_runs():
+    """Chains with runs of empty passes, at both ends of a run and inside it: behind terms that cancel, behind a boundary of either sign, and two runs in
+    one chain; of each summand and of pairs. The longest has 350,439 passes."""
+    made = []
+    for i, (e, w) in enumerate(RUNS):
+        f = Format(i % 4, e, w)
+        c = {'rounding': i % 8, 'tininess': i % 2}
+        big, least = power(f, f.emax, i % 2), 1 + f.sign * (i // 2 % 2)
+        lists = [([big, least, big ^ f.sign],), ([big, least],), ([least, big], None, (MAGNITUDE, SQUARE)[i % 2]),
+                 ([big, 1, big ^ f.sign], [big, least, big]), ([big, power(f, 0), least], [big, power(f, 3), power(f, 1)])]
+        for turn in (i, i + 2):
+            case = Case(f, c, *lists[turn % 5])
+            made += within_each('a run of empty ones', case, at_ends(case.passes))
+    f = Format(NOINF, 20, 64)
+    some, middle = power(f, f.emax - 1), power(f, 5, 0, 3)
+    case = Case(f, {}, [some, middle, 1, middle ^ f.sign, some ^ f.sign])
+    # the first run ends where the pair in the middle comes into sight, and what is left of that has no digit either
+    terms, top = sum_terms(VALUE, operands(f, case.c, case.left)[0])
+    turns = [k for k, (_, _, s, _) in enumerate(all_passes(f.p, tuple(terms), top), 1) if s]
+    made += within_each('two runs', case, at_ends(case.passes, case.passes // 2 - 1, case.passes // 2 + 1, *turns))
+    for f, left in ((Format(IEEE, 28, 30), [0x1ffffffd, 1]), (Format(FINITE, 28, 64), [power(Format(FINITE, 28, 64), 2 ** 27), 1 << 63 | 1])):
+        case = Case(f, {'rounding': f.kind}, left)
+        made += within_each('the longest run', case, at_ends(case.passes, 3, 1000, case.passes - 2, MOST_PASSES))
+    return made
+
+
+def within_none():
+    """No pass is run: NaNs by each rule, infinities, zeros, no values, subnormal numbers taken as zeros. Every allowance but 0 is enough."""
+    made = []
+    add = lambda note, f, *rest, **more: made.extend(
+        Within(note, f, *rest, **more, allowance=k, first=len(made)) for k in ((1, MOST_PASSES) if len(made) % 3 else (2,)))
+    minus, one, infinite, quiet, signaling = 1 << 63, 0x3ff0000000000000, 0x7ff0000000000000, 0x7ff8000000000005, 0xfff0000000000003
+    f = 0, 11, 64
+    for rule in range(4):
+        add('NaNs', f, {'nan': rule, 'negative': rule % 2}, [one, quiet, signaling, minus + quiet + 1])
+        add('NaNs in pairs', f, {'nan': rule}, [quiet, 0, one], [one, infinite, minus + quiet])
+    for summand in range(3):
+        add('an infinity', f, {'saturate': 1}, [one, minus + infinite], None, summand)
+        add('infinity and a NaN', f, {}, [minus + infinite, quiet], None, summand)
+        add('zeros', f, {'rounding': DOWN}, [0, minus, 0], None, summand)
+        add('taken as zeros', f, {'daz': 1}, [minus + 1, 2], None, summand)
+    add('both infinities', f, {'negative': 1}, [infinite, minus + infinite, power(DOUBLE, 1000), 1])
+    add('0 times infinity', f, {}, [0, one], [infinite, one])
+    add('infinities in pairs', f, {}, [minus + infinite, power(DOUBLE, 1000), 1], [one, one, 1])
+    add('zeros in pairs', f, {}, [0, minus, one], [one, one, minus])
+    add('taken as zeros', f, {'daz': 1, 'rounding': DOWN}, [1, minus + 3], [one, one])
+    for kind in range(4):
+        add('no values', (kind, 5, 16), {'rounding': DOWN}, [])
+        add('no pairs', (kind, 28, 64, -2 ** 28), {}, [], [])
+        add('zeros', (kind, 8, 32), {'rounding': DOWN}, [0, 0] if kind == FNUZ else [0, 1 << 31])
+    add('NaN', (1, 4, 8), {}, [0x38, 0xff])
+    add('NaN', (2, 4, 8, 11), {}, [0x38, 0x80, 0x39])
+    return made
+
+
+def within_settings():
+    """The settings of a full answer, which an unfinished one does not show: roundings and signs, tininess and flush, saturation, precisions; and
+    denormals-are-zero, which leaves terms out, and so passes."""
+    made = []
+    for mode, negative in product(range(8), range(2)):
+        values = [power(DOUBLE, 0, negative, mode % 2), power(DOUBLE, -53, negative), power(DOUBLE, -1000, mode // 2 % 2)]
+        made += within_each('each rounding', Case(DOUBLE, {'rounding': mode}, values), (1, 2))
+    for tininess, flush, daz in product(range(2), repeat=3):
+        c = {'tininess': tininess, 'flush': flush, 'daz': daz, 'rounding': UP}
+        made += within_each('tiny, subnormal', Case(DOUBLE, c, [power(DOUBLE, 1023), 3, power(DOUBLE, 1023, 1), power(DOUBLE, -1022)]))
+        made += within_each('tiny product', Case((0, 8, 32), c, [power(Format(0, 8, 32), -100), 1], [power(Format(0, 8, 32), -40), 5]), (1 + flush,))
+    for kind, saturate in product(range(4), range(2)):
+        f = Format(kind, 11, 64)
+        made += within_each('overflow', Case(f, {'saturate': saturate}, [f.largest(kind % 2, f.p)] * 2 + [1]), (1, 2))
+    for q in (1, 24, 52, 53):
+        # the chain asks for the format's own digits, whatever the precision
+        values = [power(DOUBLE, 700), power(DOUBLE, 700 - q), power(DOUBLE, -500, q % 2)]
+        made += within_each('precision', Case(DOUBLE, {'precision': q}, values), (1, 2))
+    return made
+
+
+def within_biases():
+    """Named biases: of products, the greatest and the least, and the kind's own, whose estimate is the one without it."""
+    made = []
+    for i, (e, w, bias) in enumerate(PRODUCTS):
+        f = Format(i % 4, e, w, bias)
+        top, low = f.emax - 1, max(f.emin, f.emax - 4000)
+        values = [power(f, top, i % 2), power(f, (top + low) // 2), power(f, low, 1 - i % 2)]
+        if i % 4 == 0:
+            case = Case(f, {}, values, [power(f, top), power(f, low), power(f, low)])
+        else:
+            case = Case(f, {'rounding': i % 8}, values + [values[0] ^ f.sign] * (i % 3 == 0), None, i % 3)
+        made += within_each('a named bias', case, sorted({1, max(case.passes - 1, 1), case.passes + i % 2}))
+    for kind, bias in product(range(4), (2 ** 28, -2 ** 28)):
+        f = Format(kind, 12, 64, bias)
+        case = Case(f, {}, [power(f, f.emax, kind % 2), 1, power(f, f.emax - 900)])
+        made += within_each('2^28 and -2^28', case, (1, 2, case.passes))
+    for kind, e in product(range(4), (11, 13)):
+        values = [power(Format(kind, e, 64), n, n == 3) for n in (900, 3, -900)]
+        for k in (1, 2):
+            plain, own = (Within("the kind's own", f, {}, values, None, VALUE, k) for f in ((kind, e, 64), (kind, e, 64, own_bias(kind, e))))
+            assert plain.after() == own.after()
+            made.append(own)
+    return made
+
+
+def within_formats(draw):
+    """Every E, in turn of each kind, and two widths: lists drawn, with an allowance that is enough or is not."""
+    made = []
+    for e in range(2, 29):
+        for w in (e + 2, 64):
+            case = drawn(draw, Format((e + w) % 4, e, w), (near_tie, cancelling, staircase, descent, mixed))
+            made += within_each('E from 2 to 28', case, [draw.between(1, min(case.passes, 3000) + 1)])
+    return made
+
+
+def within_orders(draw):
+    """The same list without a NaN in five orders: one estimate for each allowance."""
+    made = []
+    while len(made) < 30:
+        f = Format(len(made) // 5 % 4, *FAR[len(made) // 5 % 11])
+        case = drawn(draw, f, (staircase, cancelling, descent))
+        if case.passes < 2:
+            continue
+        pairs = list(zip(case.left, case.right or case.left))
+        answers = set()
+        for order in (pairs, pairs[::-1], sorted(pairs), draw.shuffled(pairs), draw.shuffled(pairs)):
+            left, right = map(list, zip(*order))
+            call = Within('in five orders', numbers_of(f), case.c, left, case.right and right, case.summand, case.passes - 1)
+            answers.add(call.after())
+            made.append(call)
+        assert len(answers) == 1
+    return made
+
+
+def within_spoiled(numbers, dot, turn):
+    """A call of which exactly the conditions of these numbers hold."""
+    case = spoiled(numbers - {16}, dot, turn) if numbers - {16} else Case((turn % 4, 5, 16), {}, [ONE, 2], [ONE, 3] if dot else None)
+    call = Within(', '.join(map(str, sorted(numbers))), (case.kind, case.e, case.w), case.c, case.left, case.right, case.summand,
+                  0 if 16 in numbers else 1 + turn, case.more, (0, 143, 24, 32)[turn % 4] if 2 in numbers else WITHIN_BUFFER, 13 * turn)
+    assert call.holds == numbers and call.returned % 256 == next(n for n in WITHIN_ORDER if n in numbers)
+    return call
+
+
+def within_refusals():
+    """Each refusal at its limits, each two at once, and more; buffers and lists of every length near the limits. Kind 4 is refused, whatever its lists."""
+    made = []
+    add = lambda note, f, c, left, right=None, summand=0, **more: made.append(Within(note, f, c, left, right, summand, first=5 * len(made) % 256, **more))
+    for room in (0, 24, 32, 143, 144, 145, 151):
+        add('buffers', HALF, {}, [ONE, 1], [ONE, 1] if room % 2 else None, room=room)
+    for n in range(1, 8):
+        add('lists', HALF, {}, [ONE] * (n % 3), None, more=(n, 0))
+        add('lists', HALF, {}, [ONE], [ONE], more=(n, 0) if n % 2 else (0, n))
+    for f in (HALF, (9, 5, 16), (4, 15, 80), (0, 1, 16), (0, 5, 16, 0, 7), (0, 5, 16, 2, 0), (0, 5, 16, 2 ** 28 + 1)):
+        add('allowance 0', f, {}, [ONE], allowance=0)
+        add('allowance 0', f, {'rounding': 8}, [ONE], [ONE, 1 << 40], allowance=0)
+    for i, f in enumerate(((4, 15, 80), (4, 11, 64), (4, 5, 16), (9, 5, 16), (15, 11, 64), (0, 1, 16), (1, 29, 64), (2, 11, 12), (3, 5, 65), (0, 28, 29))):
+        add('formats', f, {}, [1, 2], [3, 4] if i % 2 else None)
+    # ten bytes and twenty: the entry reads every kind by eights
+    add('kind 4, ten bytes', (4, 15, 80), {}, [1], more=(2, 0))
+    add('kind 4, forty bytes', (4, 15, 80), {}, [1] * 5)
+    for i, (named, bias) in enumerate(((0, 1), (0, -1), (0, 15), (0, 2 ** 63 - 1), (2, 0), (2, 15), (15, -1), (1, 2 ** 28 + 1), (1, -2 ** 28 - 1), (1, 2 ** 63 - 1))):
+        add('biases', (0, 5, 16, named, bias), {}, [ONE], [ONE] if i % 2 else None)
+    for i, (name, most) in enumerate(zip(SETTINGS, RANGES)):
+        add('settings', HALF, {name: (most, 15)[i % 2]}, [ONE], [ONE] if i // 2 % 2 else None)
+    add('precision', HALF, {'precision': 12}, [ONE])
+    add('precision', HALF, {'precision': 11}, [ONE])
+    add('summands', HALF, {}, [ONE], None, 3)
+    add('summands', HALF, {}, [], None, 15)
+    add('a dot has none', HALF, {}, [ONE], [ONE], 15)
+    for n, m in ((2, 3), (3, 2), (0, 1), (1, 0), (8, 7)):
+        add('pairs', HALF, {}, [ONE] * n, [ONE] * m)
+    for i in range(4):
+        far = [ONE] * i + [ONE + (1 << (16, 63)[i % 2])] + [ONE] * (3 - i)
+        add('stray bits', HALF, {}, far)
+        add('stray bits', HALF, {}, far, [STRAY] * 4)
+        add('stray bits', HALF, {}, [ONE] * 4, far)
+    add('stray bits', HALF, {}, [ONE] * 11 + [STRAY])
+    add('stray beside a NaN', HALF, {}, [0x7e00, STRAY])
+    for numbers in combinations((1, 2, 16, 3, 4, 5, 7), 2):
+        for dot in range(5 in numbers, 2):
+            made.append(within_spoiled(set(numbers), dot, len(made) % 4))
+    for n in (3, 5, 7):
+        for numbers in list(combinations((1, 2, 16, 3, 4, 5, 7), n))[::4]:
+            made.append(within_spoiled(set(numbers), 5 in numbers or n % 2, len(made) % 4))
+    return made
+
+
+def within_drawn(draw):
+    """Lists drawn, of every kind and of the formats that are named."""
+    made = []
+    for i in range(40):
+        f = Format(i % 4, *PAIRS[i % 7]) if i % 2 else Format(*WIDE[i // 2 % 11])
+        case = drawn(draw, f, (mixed, near_tie, cancelling, staircase))
+        made += within_each('drawn', case, [draw.between(1, case.passes + 1)])
+    return made
+
+
+def within():
+    draw = Draw(13)
+    return (within_examples() + within_passes(draw) + within_boundaries() + within_runs() + within_none() + within_settings() + within_biases()
+            + within_formats(draw) + within_orders(draw) + within_refusals() + within_drawn(draw))
+
+
+def within_asked(binary):
+    """Holds every accepted call to the oracle: result, flags and passes of the plain total, also where the allowance is too small. How many there are of
+    which it knows the format."""
+    known = set(known_formats(binary))
+    calls = [call for call in within() if not call.refusal and call.numbers[:3] + call.numbers[4:] * call.numbers[3] in known]
+    for call, answer in zip(calls, asked(binary, [call.case() for call in calls])):
+        if differs(call.record, answer):
+            sys.exit('%s: %s\n  oracle %s, model %x %d %d' % (
+                call.note, call.case().line(), answer, call.record.result, call.record.flags, call.record.passes))
+    return sum(call.shown is None for call in calls), sum(call.shown is not None for call in calls)
+
+
+def cover_within(every):
+    accepted = [call for call in every if not call.refusal]
+    full, part = [call for call in accepted if call.shown is None], [call for call in accepted if call.shown]
+    print('%5d  calls within an allowance, %d of them in time, %d not' % (len(every), len(full), len(part)))
+    total = lambda call: call.summand if call.right is None else 3
+    fewest('full, not, by total (three sums, a dot)', accepted, lambda call: (call.shown is None, total(call)), (False, True), range(4))
+    fewest('full, not, by kind', accepted, lambda call: (call.shown is None, call.numbers[0]), (False, True), range(4))
+    fewest('full by rounding', full, lambda call: (call.c['rounding'],), range(8))
+    fewest('not full, by rounding', part, lambda call: (call.c['rounding'],), range(8))
+    fewest('E', accepted, lambda call: (call.numbers[1],), range(2, 29))
+    sign = lambda n: (n > 0) - (n < 0)
+    fewest("no boundary, sign of S", [call for call in part if not call.shown[1]], lambda call: (sign(call.shown[2]),), (-1, 0, 1))
+    fewest("sign of the boundary, sign of S", [call for call in part if call.shown[1]],
+           lambda call: (sign(call.shown[1][0]), sign(call.shown[2])), (-1, 1), (-1, 0, 1))
+    left = lambda call: call.record.passes - call.allowance
+    fewest('passes that are left: 1, 2, 3', part, lambda call: (left(call),), range(1, 4))
+    fewest('as many as the passes, one more', [call for call in full if call.record.passes], lambda call: (left(call),), (0, -1))
+    fewest('allowances 1 to 6 that are not enough', part, lambda call: (call.allowance,), range(1, 7))
+    print('%5d  in a run of empty passes, %d of them at its first, %d at its last' % runs_of(part))
+    fewest('no pass, by total', [call for call in full if not call.record.passes], lambda call: (total(call),), range(4))
+    fewest('a bias named, full, not', [call for call in accepted if call.numbers[3]], lambda call: (call.shown is None,), (False, True))
+    fewest('flag 128 of the total that is not shown', [call for call in part if call.record.flags & SUBNORMAL], lambda call: (total(call),), range(4))
+    refused = [call for call in every if call.refusal]
+    fewest('one refusal alone', [call for call in refused if len(call.holds) == 1], lambda call: tuple(call.holds), (1, 2, 16, 3, 4, 5, 7))
+    fewest('two refusals at once, by pair', [call for call in refused if len(call.holds) == 2], lambda call: (tuple(sorted(call.holds)),),
+           map(tuple, map(sorted, combinations((1, 2, 16, 3, 4, 5, 7), 2))))
+    print('%5d  passes of the longest chain' % max(call.record.passes for call in accepted))
+
+
+def runs_of(part):
+    """How many unfinished answers show an empty pass between two that have the same boundary and lie 766 apart, how many the first such pass of a run, and
+    how many the last."""
+    inside = first = last = 0
+    for call in part:
+        _, _, steps = call.total()
+        still = lambda i: 0 < i < len(steps) and steps[i - 1][2] == steps[i][2] == 0 and steps[i - 1][0] - steps[i][0] == 766
+        at = call.allowance - 1
+        if still(at) or still(at + 1):
+            inside += 1
+            first += not still(at)
+            last += not still(at + 1)
+    return inside, first, last
 
 
 def main():

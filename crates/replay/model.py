@@ -1,5 +1,6 @@
 """What document 01 says of a total, and document 02 of which way its result leans, of a named bias, of a list's pence, of a table, of amounts known
-within a range, of career pages, of the most elements of a list, of values of ten bytes and of one total in several formats, in whole numbers of any length.
+within a range, of career pages, of the most elements of a list, of values of ten bytes, of one total in several formats and of a total within an allowance of
+passes, in whole numbers of any length.
 
 Written from the text of document 01, and from the Rust's where document 01
 names a function of it (the choice among NaNs, overflow, the largest number).
@@ -10,12 +11,14 @@ among the doubles by their size, with fractions and no rounding at all. A
 page's summaries are those of Python's floats, as fractions; a page is read
 field by field, and held to the page that is written of its values. A target's
 result is the list's exact sum rounded in the target's format, and by way of no
-other.
+other. What an allowance shows is the pass of that number, and it is held to the
+exact sum.
 """
 
 import math
 import struct
 from fractions import Fraction
+from functools import lru_cache
 
 IEEE, NOINF, FNUZ, FINITE = range(4)
 EVEN, TIES_AWAY, TIES_TO_ZERO, UP, DOWN, TO_ZERO, AWAY, TO_ODD = range(8)
@@ -255,13 +258,14 @@ def part(m, x, w):
     return units, None if units << (w - x) == m else w - 1
 
 
-def chain(p, terms, top):
-    """The number of passes, the last edge, and how the chain ends: the sum is
-    zero or exact, or inexact and far from what the rounding asks, or it lies
-    below the boundary, on it or above it, by magnitude."""
-    w, boundary, passes = top - 702, None, 0
+def passes_of(p, terms, top):
+    """The passes, one by one: the edge, the boundary that the pass is compared
+    against, a whole number with a sign and the position of its unit, or None,
+    S, and of the last pass how the chain ends: the sum is zero or exact, or
+    inexact and far from what the rounding asks, or it lies below the boundary,
+    on it or above it, by magnitude."""
+    w, boundary = top - 702, None
     while True:
-        passes += 1
         s, lost = 0, []
         for negative, m, x in terms:
             units, bit = part(m, x, w)
@@ -275,19 +279,36 @@ def chain(p, terms, top):
         n = abs(s).bit_length()
         if boundary is None:
             if not lost:
-                return passes, w, 'exact' if s else 'zero'
+                yield w, boundary, s, 'exact' if s else 'zero'
+                return
             if n >= p + 70:
                 r = n - p - 1
                 whole, d = divmod(abs(s), 1 << r)
                 if 2 ** 65 <= d <= 2 ** r - 2 ** 65:
-                    return passes, w, 'inexact'
+                    yield w, boundary, s, 'inexact'
+                    return
+                yield w, boundary, s, ''
                 whole += d > 2 ** r - 2 ** 65
                 boundary = (-whole if s < 0 else whole), w + r
                 w -= 701
                 continue
         elif not lost or n >= 66:
-            return passes, w, 'on' if s == 0 else 'above' if (s > 0) == (boundary[0] > 0) else 'below'
+            yield w, boundary, s, 'on' if s == 0 else 'above' if (s > 0) == (boundary[0] > 0) else 'below'
+            return
+        yield w, boundary, s, ''
         w = max([w + n] + [bit + 65 for bit in lost]) - 766
+
+
+@lru_cache(maxsize=1)
+def all_passes(p, terms, top):
+    """All of them, walked once for calls in a row over the same terms."""
+    return list(passes_of(p, terms, top))
+
+
+def chain(p, terms, top):
+    """The number of passes, the last edge, and how the chain ends."""
+    steps = all_passes(p, tuple(terms), top)
+    return len(steps), steps[-1][0], steps[-1][3]
 
 
 # ---- records of accepted lists
@@ -724,3 +745,42 @@ def target_record(f, daz, values, t, c):
     negative = int(total < 0)
     result, more, side = round_once(t, c, negative, abs(total), low)
     return Record(result, flags + more, passes, edge, leaning(t, result, total, low), end, side, negative)
+
+
+# ---- a total within an allowance of passes
+
+# the numbers of its refusals, in the order in which they are given
+WITHIN_ORDER = (1, 2, 16, 3, 4, 5, 6, 7)
+
+
+def within_conditions(kind, e, w, named, bias, c, summand, left, right, more, room, allowance):
+    """The numbers whose conditions hold, by the five numbers of a format. The answer has 144 bytes; a value has eight, of kind 4 too, which gets 3."""
+    bias, whole = named_bias(named, bias)
+    holds = conditions(kind, e, w, bias, c, summand, left, right, more, room, least=144)
+    if not whole:
+        holds.add(3)
+    if allowance == 0:
+        holds.add(16)
+    return holds
+
+
+@lru_cache(maxsize=1)
+def walked(f, c, summand, left, right):
+    """The record of an accepted total, its terms, and its passes. A format, settings and lists are tuples, so that one list is added up once for all its
+    allowances."""
+    f, c = Format(*f), dict(zip(SETTINGS, c))
+    record = sum_record(f, c, summand, left) if right is None else dot_record(f, c, left, right)
+    if not record.passes:
+        return record, [], []
+    xs, _ = operands(f, c, left)
+    terms, top = sum_terms(summand, xs) if right is None else dot_terms(list(zip(xs, operands(f, c, right)[0])))
+    return record, terms, all_passes(f.p, tuple(terms), top)
+
+
+def off(terms, w, boundary, s):
+    """How far S in units of 2^w, plus the boundary, is from the exact sum, and how far fewer units than terms would reach, both in units of the lowest
+    position."""
+    whole, at = boundary or (0, w)
+    low = min([w, at] + [x for _, _, x in terms])
+    total = sum((-m if negative else m) << (x - low) for negative, m, x in terms)
+    return abs(total - (s << (w - low)) - (whole << (at - low))), len(terms) << (w - low)

@@ -16,6 +16,7 @@ mod settings;
 mod table;
 mod totals;
 mod value;
+mod within;
 mod x87;
 
 pub use format::{Format, Kind};
@@ -28,6 +29,7 @@ pub use settings::{NanPropagation, Rounding, Settings, Summand, Tininess};
 pub use table::Table;
 pub use totals::Totals;
 pub use value::{Float, Value, Word};
+pub use within::{Boundary, Estimate, Unfinished, Units};
 pub use x87::X87;
 
 /// The most elements of a list, cells of a table, amounts of a range and values of a page.
@@ -254,4 +256,66 @@ pub fn sum_into<T: Float + Word>(
     targets: &[Target],
 ) -> Vec<Result<Record<u64>, Refusal>> {
     Totals::<T>::new().sum_into(values, targets)
+}
+
+/// The exact sum of the values, rounded once to the nearest, ties to even, if its chain of passes ends
+/// within the allowance; else what the last pass allowed has seen, which has bounds.
+///
+/// A pass is a walk over the list. Most lists take one. More are needed where values lie some 700 binary
+/// places apart or farther, and the large ones cancel, or the sum is very near to where a rounding turns.
+/// [`Record::passes`] says how many a list has taken.
+///
+/// # Errors
+///
+/// [`Refusal::NoPassAllowed`] where the allowance is 0, else [`Refusal::TooManyElements`] where there are
+/// more than 268,435,456 values.
+///
+/// Proved: the contract of `totals_sum_within` in `crates/totals/src/entry.rt`; `within-in-time`,
+/// `within-same`, `within-unfinished`, `within-near`, `within-narrower`, `within-order` in
+/// `crates/further_spec/proofs/Promises.antt`.
+///
+/// ```
+/// use fermuzhai::{sum, sum_within, Estimate, Refusal};
+///
+/// let list = [3.0, 2f64.powi(-1000), 0.25];
+/// let first = sum_within(&list, 1)?.unfinished().unwrap();
+/// assert_eq!(first.bounds(), (3.25 - 2.0 * f64::EPSILON, 3.25 + 2.0 * f64::EPSILON));
+///
+/// assert_eq!(sum_within(&list, 2)?, Estimate::Full(sum(&list)?));
+/// assert_eq!(sum_within(&list, u64::MAX)?, Estimate::Full(sum(&list)?));
+/// assert_eq!(sum_within(&list, 0), Err(Refusal::NoPassAllowed));
+/// # Ok::<(), Refusal>(())
+/// ```
+pub fn sum_within<T: Float + Word>(values: &[T], allowance: u64) -> Result<Estimate<T>, Refusal> {
+    Totals::new().sum_within(values, allowance)
+}
+
+/// The exact sum of the products of the pairs, rounded once, within an allowance of passes, as of
+/// [`sum_within`].
+///
+/// # Errors
+///
+/// The first of these that holds: [`Refusal::NoPassAllowed`] where the allowance is 0;
+/// [`Refusal::DifferentLengths`] where the lists have two lengths; [`Refusal::TooManyElements`] where there
+/// are more than 268,435,456 pairs.
+///
+/// Proved: the contract of `totals_dot_within` in `crates/totals/src/entry.rt`, and the theorems of
+/// [`sum_within`].
+///
+/// ```
+/// use fermuzhai::{dot, dot_within, Estimate};
+///
+/// let (left, right) = ([1e200, 3.0, -1e200], [1e200, 0.5, 1e200]);
+/// let seen = dot_within(&left, &right, 1)?.unfinished().unwrap();
+/// assert!(seen.sum.is_zero());
+/// assert!(seen.bounds().0 < 1.5 && 1.5 < seen.bounds().1);
+/// assert_eq!(dot_within(&left, &right, 2)?, Estimate::Full(dot(&left, &right)?));
+/// # Ok::<(), fermuzhai::Refusal>(())
+/// ```
+pub fn dot_within<T: Float + Word>(
+    left: &[T],
+    right: &[T],
+    allowance: u64,
+) -> Result<Estimate<T>, Refusal> {
+    Totals::new().dot_within(left, right, allowance)
 }

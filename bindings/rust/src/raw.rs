@@ -1,6 +1,6 @@
-//! The ten entries of `libtotals.a`, as they are: four over bytes, [`pence`], [`table`] and
-//! [`range`] over words, [`page_sum`] and [`page_write`] for career pages, and [`sum_into`] for a sum
-//! in three formats.
+//! The twelve entries of `libtotals.a`, as they are: four over bytes, [`pence`], [`table`] and
+//! [`range`] over words, [`page_sum`] and [`page_write`] for career pages, [`sum_into`] for a sum
+//! in three formats, and [`sum_within`] and [`dot_within`] for what an allowance of passes gives.
 //!
 //! The numbers and the layout of the answer are those of the repository's `docs/SPECIFICATION.md`.
 //! For most callers [`Totals`](crate::Totals), for ranges [`crate::range`] and for pages
@@ -178,6 +178,49 @@ mod entry {
             targets_len: usize,
             values: *const u8,
             values_len: usize,
+            answer: *mut u8,
+            answer_len: usize,
+        ) -> u64;
+        pub fn totals_sum_within(
+            kind: u64,
+            exponent_bits: u64,
+            width: u64,
+            bias_named: u64,
+            bias: i64,
+            rounding: u64,
+            tininess: u64,
+            nan_propagation: u64,
+            default_nan_negative: u64,
+            flush_to_zero: u64,
+            denormals_are_zero: u64,
+            saturate: u64,
+            precision: u64,
+            summand: u64,
+            allowance: u64,
+            values: *const u8,
+            values_len: usize,
+            answer: *mut u8,
+            answer_len: usize,
+        ) -> u64;
+        pub fn totals_dot_within(
+            kind: u64,
+            exponent_bits: u64,
+            width: u64,
+            bias_named: u64,
+            bias: i64,
+            rounding: u64,
+            tininess: u64,
+            nan_propagation: u64,
+            default_nan_negative: u64,
+            flush_to_zero: u64,
+            denormals_are_zero: u64,
+            saturate: u64,
+            precision: u64,
+            allowance: u64,
+            left: *const u8,
+            left_len: usize,
+            right: *const u8,
+            right_len: usize,
             answer: *mut u8,
             answer_len: usize,
         ) -> u64;
@@ -701,6 +744,134 @@ pub fn sum_into(
             targets.len(),
             values.as_ptr(),
             values.len(),
+            answer.as_mut_ptr(),
+            answer.len(),
+        )
+    }
+}
+
+/// [`sum`] within an allowance of passes. `bias` is as in [`pence`].
+///
+/// Returns 0 and writes 144 bytes, numbers with the little end first and in two's complement: the
+/// result in 0..7, the flags in 8, the mark in 9, the side in 10, the boundary's sign, 1 for minus, in
+/// 11, zeros in 12..15, the passes in 16..23, the last edge in 24..31, the boundary's whole number in
+/// 32..39, the position of its unit in 40..47, S in 48..143. What lies behind stays as it was.
+///
+/// A mark of 0 is a full answer: bytes 0 to 23 are those of [`sum`], the last edge is that of its last
+/// pass or 0 where there was none, and the rest is 0. A mark of 1 is an unfinished one: result, flags
+/// and side are 0, the passes are the allowance, and S counts units of 2^(last edge). What it says is
+/// told at [`Unfinished`](crate::Unfinished).
+///
+/// Or returns a refusal's code and writes nothing: 1, 2 under 144 bytes of answer, 16 of an allowance
+/// of 0, and then those of [`sum`], the first that holds in this order. 3 is also kind 4.
+///
+/// Proved: the contract of `totals_sum_within` in `crates/totals/src/entry.rt`; `within-in-time`,
+/// `within-unfinished`, `within-near`, `within-entry-refusal`, `within-entry-refused`,
+/// `within-entry-read-back`, `within-entry-plain` in `crates/further_spec/proofs/Promises.antt`.
+///
+/// ```
+/// use fermuzhai::raw;
+///
+/// // 2^1000, 1 and −2^1000: the first pass, at 298, has nothing left, and a second finds the 1
+/// let values = raw::bytes(&[0x7e70 << 48, 0x3ff0 << 48, 0xfe70 << 48]);
+/// let mut answer = [7; 145];
+/// let mut within = |allowance, answer: &mut [u8]| {
+///     raw::sum_within([0, 11, 64], None, [0; 8], 0, allowance, &values, answer)
+/// };
+/// assert_eq!(within(1, &mut answer), 0);
+/// assert_eq!(answer[..16], [0, 0, 0, 0, 0, 0, 0, 0, 0, 1, 0, 0, 0, 0, 0, 0]);
+/// assert_eq!(answer[16..32], [1u64.to_le_bytes(), 298u64.to_le_bytes()].concat());
+/// assert_eq!(answer[32..], [[0; 112].as_slice(), &[7]].concat());
+///
+/// assert_eq!(within(2, &mut answer), 0);
+/// assert_eq!(answer[..8], 1.0f64.to_le_bytes());
+/// assert_eq!(answer[9], 0);
+/// assert_eq!(within(0, &mut answer), 16);
+/// assert_eq!(within(0, &mut answer[..143]), 2);
+/// ```
+#[must_use = "the answer is written only where 0 is returned"]
+pub fn sum_within(
+    f: Format,
+    bias: Option<i64>,
+    c: Settings,
+    summand: u64,
+    allowance: u64,
+    values: &[u8],
+    answer: &mut [u8],
+) -> u64 {
+    // SAFETY: as in `sum`.
+    unsafe {
+        entry::totals_sum_within(
+            f[0],
+            f[1],
+            f[2],
+            bias.is_some().into(),
+            bias.unwrap_or(0),
+            c[0],
+            c[1],
+            c[2],
+            c[3],
+            c[4],
+            c[5],
+            c[6],
+            c[7],
+            summand,
+            allowance,
+            values.as_ptr(),
+            values.len(),
+            answer.as_mut_ptr(),
+            answer.len(),
+        )
+    }
+}
+
+/// [`dot`] within an allowance of passes. Returns and writes as [`sum_within`] does, with 5 behind 4.
+///
+/// Proved: the contract of `totals_dot_within` in `crates/totals/src/entry.rt`, and the theorems named
+/// there.
+///
+/// ```
+/// use fermuzhai::raw;
+///
+/// // 2^500 × 2^500, and beside it 2^−500 × 2^−500
+/// let values = raw::bytes(&[0x5f30 << 48, 0x20b0 << 48]);
+/// let mut answer = [0; 144];
+/// assert_eq!(raw::dot_within([0, 11, 64], None, [0; 8], 1, &values, &values, &mut answer), 0);
+/// assert_eq!((answer[9], answer[24..32].to_vec()), (1, 299i64.to_le_bytes().to_vec()));
+/// assert_eq!(answer[48 + 701 / 8], 1 << (701 % 8)); // S is 2^701, in units of 2^299
+/// assert_eq!(raw::dot_within([0, 11, 64], None, [0; 8], 1, &values, &[], &mut answer), 5);
+/// ```
+#[must_use = "the answer is written only where 0 is returned"]
+pub fn dot_within(
+    f: Format,
+    bias: Option<i64>,
+    c: Settings,
+    allowance: u64,
+    left: &[u8],
+    right: &[u8],
+    answer: &mut [u8],
+) -> u64 {
+    // SAFETY: as in `dot`.
+    unsafe {
+        entry::totals_dot_within(
+            f[0],
+            f[1],
+            f[2],
+            bias.is_some().into(),
+            bias.unwrap_or(0),
+            c[0],
+            c[1],
+            c[2],
+            c[3],
+            c[4],
+            c[5],
+            c[6],
+            c[7],
+            allowance,
+            left.as_ptr(),
+            left.len(),
+            right.as_ptr(),
+            right.len(),
             answer.as_mut_ptr(),
             answer.len(),
         )

@@ -202,7 +202,9 @@ impl Side {
 /// Two records are equal where every field is, results by their encodings: so −0 is not +0, and a
 /// NaN equals itself.
 ///
-/// The library's record has one field more, the last edge, which its byte entries do not hand out.
+/// The library's record has one field more, the last edge, which of its byte entries those within an
+/// allowance alone hand out: [`raw::sum_within`](crate::raw::sum_within) and
+/// [`raw::dot_within`](crate::raw::dot_within).
 #[derive(Clone, Copy, Debug)]
 #[non_exhaustive]
 pub struct Record<T> {

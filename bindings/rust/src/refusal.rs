@@ -26,12 +26,13 @@ impl Display for OfList {
 }
 
 /// Why a total was not taken, or a page not written. Where several reasons hold, the first in this
-/// order is given, but that of a table 9 and 10 come before 7, and of a page 12 and 13 before 4. The
-/// numbers and their conditions stand in `docs/SPECIFICATION.md` of the repository.
+/// order is given, but that of a table 9 and 10 come before 7, of a page 12 and 13 before 4, and within an
+/// allowance 16 before 3. The numbers and their conditions stand in `docs/SPECIFICATION.md` of the
+/// repository.
 ///
 /// Proved: `sum-refusal`, `dot-refusal`, `extended-call-refused-exactly`, `sum-pence-refused-exactly`, `table-refused-exactly`,
 /// `range-refused-exactly`, `page-refused-exactly`, `page-span-refused-exactly` in
-/// `crates/totals_spec/proofs/Promises.antt`; `target-refusal` in
+/// `crates/totals_spec/proofs/Promises.antt`; `target-refusal`, `within-refusal` in
 /// `crates/further_spec/proofs/Promises.antt`.
 ///
 /// ```
@@ -52,8 +53,8 @@ pub enum Refusal {
         list: Option<List>,
     },
     /// 2: a destination that is shorter than the page would be. Through [`raw`](crate::raw) also an
-    /// answer buffer under 24 bytes, of [`X87`](crate::X87) under 32, of three targets under 96, or of a
-    /// range a pair under two words.
+    /// answer buffer under 24 bytes, of [`X87`](crate::X87) under 32, of three targets under 96, within an
+    /// allowance under 144, or of a range a pair under two words.
     ShortBuffer,
     /// 3: the library has no such format, or the format names a bias outside −268,435,456 to
     /// 268,435,456; or it is [`Format::EXTENDED`](crate::Format::EXTENDED), of encodings in words.
@@ -99,6 +100,8 @@ pub enum Refusal {
     NotAPage,
     /// 13: a span of a page starts above its end, or ends above the page's count of values.
     BadSpan,
+    /// 16: an allowance of no pass.
+    NoPassAllowed,
     /// 17: of a target, more digits than the list's format has; or a NaN or an infinity in the list,
     /// and then of every target. It has no place.
     TargetOutOfReach,
@@ -136,6 +139,7 @@ impl Refusal {
             11 => Self::BadAmount,
             12 => Self::NotAPage,
             13 => Self::BadSpan,
+            16 => Self::NoPassAllowed,
             17 => Self::TargetOutOfReach,
             _ if code % 256 == 7 => Self::StrayBit {
                 place: (code / 256) as usize,
@@ -169,7 +173,7 @@ impl Display for Refusal {
                 )
             }
             Self::ShortBuffer => out.write_str(
-                "the destination is shorter than the page, the answer buffer has fewer than 24 bytes, 32 for X87 or 96 for targets, or the pair fewer than two words",
+                "the destination is shorter than the page, the answer buffer has fewer than 24 bytes, 32 for X87, 96 for targets or 144 within an allowance, or the pair fewer than two words",
             ),
             Self::NoSuchFormat => out.write_str(
                 "there is no such format, or the bias that it names is out of its range",
@@ -202,6 +206,7 @@ impl Display for Refusal {
             ),
             Self::NotAPage => out.write_str("the bytes are not a page: its trailer, areas or a summary are not what the values give, or it counts too many"),
             Self::BadSpan => out.write_str("the span starts above its end, or ends above the number of values"),
+            Self::NoPassAllowed => out.write_str("the allowance is of no pass at all"),
             Self::TargetOutOfReach => out.write_str("the target has more digits than the list's format, or the list holds a NaN or an infinity"),
             Self::Unknown { code } => {
                 write!(
@@ -239,6 +244,7 @@ mod tests {
         assert_eq!(Refusal::from_code(11), Some(Refusal::BadAmount));
         assert_eq!(Refusal::from_code(12), Some(Refusal::NotAPage));
         assert_eq!(Refusal::from_code(13), Some(Refusal::BadSpan));
+        assert_eq!(Refusal::from_code(16), Some(Refusal::NoPassAllowed));
         assert_eq!(Refusal::from_code(17), Some(Refusal::TargetOutOfReach));
         // a place belongs to a stray bit alone
         for code in [
@@ -250,6 +256,7 @@ mod tests {
             8 + 256,
             9 + 256,
             13 + 256,
+            16 + 256,
             17 + 256,
             u64::MAX,
         ] {
@@ -272,7 +279,7 @@ mod tests {
             ),
             (
                 Refusal::ShortBuffer,
-                "the destination is shorter than the page, the answer buffer has fewer than 24 bytes, 32 for X87 or 96 for targets, or the pair fewer than two words",
+                "the destination is shorter than the page, the answer buffer has fewer than 24 bytes, 32 for X87, 96 for targets or 144 within an allowance, or the pair fewer than two words",
             ),
             (
                 Refusal::NoSuchFormat,
@@ -316,6 +323,10 @@ mod tests {
             (
                 Refusal::BadSpan,
                 "the span starts above its end, or ends above the number of values",
+            ),
+            (
+                Refusal::NoPassAllowed,
+                "the allowance is of no pass at all",
             ),
             (
                 Refusal::TargetOutOfReach,

@@ -10,9 +10,9 @@ use crate::{
 /// with cells has at most as many of either.
 const MOST_EMPTY: usize = 1 << 20;
 
-/// The four totals in one format and under one choice of settings; the sums of the rows and columns
-/// of a table; those of a span of a page; a sum in several formats; and the pence of a sum, in which
-/// settings play no part.
+/// The four totals in one format and under one choice of settings; the same within an allowance of
+/// passes; the sums of the rows and columns of a table; those of a span of a page; a sum in several
+/// formats; and the pence of a sum, in which settings play no part.
 ///
 /// [`Totals::new`] is for the floats of Rust and for [`X87`](crate::X87), which has the four totals
 /// alone; [`Totals::of`] is for encodings of any other format.
@@ -294,12 +294,12 @@ impl<T: Value> Totals<T> {
     }
 
     /// Says which setting is out of its range.
-    fn with_setting(&self, refusal: Refusal) -> Refusal {
+    pub(crate) fn with_setting(&self, refusal: Refusal) -> Refusal {
         refusal.with_setting(self.format, self.settings)
     }
 
     /// Says which list of a dot is refused: the left one where that is at fault, else the right.
-    fn with_list(&self, refusal: Refusal, left: &[u8]) -> Refusal {
+    pub(crate) fn with_list(&self, refusal: Refusal, left: &[u8]) -> Refusal {
         let which = |left_is: bool| Some(if left_is { List::Left } else { List::Right });
         match refusal {
             Refusal::UnevenLength { .. } => Refusal::UnevenLength {

@@ -4,14 +4,16 @@
 mod common;
 mod draw;
 mod exact;
+mod numbers;
 
 use common::ROUNDINGS;
 use draw::Draw;
-use exact::{greatest, least, Exact};
+use exact::{greatest, Exact};
 use fermuzhai::{
     raw, sum, sum_into, Format, Kind, Record, Refusal, Rounding, Settings, Side, Target, Tininess,
     Totals,
 };
+use numbers::least;
 
 const LIMIT: usize = 1 << 28;
 const FARTHEST: i64 = Format::FARTHEST_BIAS;
@@ -153,7 +155,7 @@ fn refusal(list: Format, values: &[u64], target: Target) -> Option<Refusal> {
     if let Some(place) = values.iter().position(is_stray) {
         return Some(Refusal::StrayBit { place, list: None });
     }
-    let is_special = |&value: &u64| exact::number(list, value).is_none();
+    let is_special = |&value: &u64| numbers::number(list, value).is_none();
     let is_out = digits > list.digits() || values.iter().any(is_special);
     is_out.then_some(Refusal::TargetOutOfReach)
 }
@@ -934,7 +936,7 @@ fn drawn_value(draw: &mut Draw, f: Format, from: u64, fields: u64) -> u64 {
         let fraction = fraction & ((1 << (digits - 1)) - 1);
         let sign = draw.below(2) << (f.width - 1);
         let value = sign | field << (digits - 1) | fraction;
-        if exact::number(f, value).is_some() {
+        if numbers::number(f, value).is_some() {
             return value;
         }
     }
@@ -969,7 +971,7 @@ fn drawn_lists_into_drawn_targets() {
                 .clone()
                 .into_iter()
                 .map(|x| x ^ 1 << (list.width - 1));
-            values.extend(negated.filter(|&x| exact::number(list, x).is_some()));
+            values.extend(negated.filter(|&x| numbers::number(list, x).is_some()));
             if round % 2 == 0 {
                 let more = drawn_value(&mut draw, list, from, fields);
                 values.push(more);

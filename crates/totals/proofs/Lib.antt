@@ -6,6 +6,7 @@ pub mod Figures
 mod Counted
 mod Totalled
 mod Shown
+mod EstimateWritten
 mod Keeping
 mod Targets
 mod Columns

@@ -1,11 +1,12 @@
 -- A sum or a dot within an allowance of passes (document 02, A.13), as the code has it.
-use Rattle.std.specs.Prelude.{ℕ, Bool, List, ℤ, pos, Option, Some, None, Result, Ok, Err}
+use Rattle.std.specs.Prelude.{◌≡◌, ◌+◌, ◌*◌, ◌^◌, ◌<◌, [], ◌∷◌, ltb, eqb, ℕ, Bool, List, ℤ, pos, Option, Some, None, Result, Ok, Err}
 use Rattle.totals_spec.specs.Basics.{Signed, flag}
 use Rattle.totals_spec.specs.Format.{Format}
 use Rattle.totals_spec.specs.Chain as chain
-use Rattle.totals_spec.specs.Totals.{Answer, refused}
+use Rattle.totals_spec.specs.Totals.{Answer, refused, refuse_if}
 use Rattle.further_spec.specs.Estimate as spec
-use Rattle.limbs.specs.Value.{value}
+use Rattle.further_spec.proofs.Within.{Windowed}
+use Rattle.limbs.specs.Value.{Words, value}
 use Rattle.totals_spec.specs.Terms.{Term}
 use Rattle.window.specs.declared.Stopped.{Stopped}
 use Rattle.reduction.specs.declared.total.Wide.{Wide}
@@ -13,6 +14,7 @@ use Rattle.reduction.specs.Answered.{answer_of}
 use Rattle.totals.specs.declared.estimate.Boundary.{Boundary}
 use Rattle.totals.specs.declared.estimate.Estimate.{Estimate}
 use Rattle.totals.specs.declared.estimate.Estimate.TheVariants.{Full, Unfinished}
+use Rattle.totals.specs.declared.entry_within.Written.{Written}
 use Rattle.totals.specs.declared.refusal.Refusal.{Refusal}
 use Rattle.totals.specs.Refusal.{number_of, place_of}
 use Rattle.totals.specs.Walked.{Within}
@@ -66,3 +68,29 @@ pub record Made (f : Format) (a : ℕ) (r : Result Wide Stopped) : Type 0 where
   pub total : Answer
   pub terms : List Term
   pub within : Within f total terms a r
+
+-- ---- the entries
+
+-- a record whose fields have their bytes
+pub record Fits (a : Answer) : Type 0 where
+  pub number : a.refusal < 256
+  pub place : a.place < 2 ^ 32
+  pub flags : a.flags < 256
+  pub side : a.side < 4
+
+pub record FitsEstimate (e : spec.Estimate) : Type 0 where
+  pub answer : Fits e.answer
+  pub sum : Windowed e.sum
+  pub whole : e.whole < 2 ^ 64
+
+-- the words of an estimate
+pub record Writes (e : spec.Estimate) (w : Written) : Type 0 where
+  pub head : w.head
+      ≡ e.answer.result ∷ (e.answer.flags + 256 * e.mark + 65536 * e.answer.side + 16777216 * e.minus) ∷ e.answer.passes
+      ∷ spec.word_of e.answer.last_edge ∷ e.whole ∷ spec.word_of e.unit ∷ []
+  pub sum : value w.sum ≡ spec.window_of e.sum
+  pub long : Words 12 w.sum
+
+-- the refusals that stand before those of the total
+abbrev pub within_numbers : Bool → (room allowance : ℕ) → Bool → ℕ
+within_numbers cut room k bad = refuse_if cut 1 (refuse_if (ltb room 144) 2 (refuse_if (eqb k 0) 16 (refuse_if bad 3 0)))

@@ -38,7 +38,7 @@ const TEN_SIDE: u64 = 16777216;
 
 // The number that an entry returns where its call is refused.
 #[inline(always)]
-fn code(refusal: u64, place: u64) -> u64
+pub(crate) fn code(refusal: u64, place: u64) -> u64
     requires { (refusal < 256) × (place < 2 ^ 32) }
     ensures { result ≡ refusal + 256 * place }
 {
@@ -77,7 +77,7 @@ fn enter_tens(t: Wide, answer: &mut [u8])
 
 // Whether one of two lists ends within a value of so many bytes.
 #[inline(always)]
-fn either_cut(left: &[u8], right: &[u8], size: usize) -> bool
+pub(crate) fn either_cut(left: &[u8], right: &[u8], size: usize) -> bool
     requires { 0 < size }
     ensures { result ≡ (not (eqb (length left.now % size) 0) || not (eqb (length right.now % size) 0)) }
 {
@@ -86,7 +86,7 @@ fn either_cut(left: &[u8], right: &[u8], size: usize) -> bool
 
 // Refusals 1 and 2 of an entry: whether a list ends within a value, and the answer's bytes, of which some are needed.
 #[inline(always)]
-fn lengths(cut: bool, room: usize, needed: usize) -> Result<(), Refusal>
+pub(crate) fn lengths(cut: bool, room: usize, needed: usize) -> Result<(), Refusal>
     ensures { refusal_number result ≡ length_numbers cut room needed }
 {
     refuse_if(cut, Refusal::UnevenLength)?;
@@ -107,7 +107,7 @@ fn format_with(kind: u64, exponent_bits: u64, width: u64, named: Option<i64>) ->
 }
 
 // A format whose bias a caller names by two numbers: 1 and the bias, or 0 and 0. Anything else was not set up as a whole, and either reading would be a guess.
-fn named_format(
+pub(crate) fn named_format(
     kind: u64,
     exponent_bits: u64,
     width: u64,
@@ -126,7 +126,7 @@ fn named_format(
 
 // Settings from an entry's numbers, in its order.
 #[inline(always)]
-fn settings(
+pub(crate) fn settings(
     rounding: u64,
     tininess: u64,
     nan_propagation: u64,

@@ -2,6 +2,7 @@
 #![tactic(auto)]
 
 pub mod entry;
+pub mod entry_within;
 pub mod estimate;
 mod extended;
 mod lists;
