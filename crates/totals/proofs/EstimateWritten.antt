@@ -30,7 +30,7 @@ use Rattle.totals_spec.proofs.Pages.{value-bytes-length}
 use Rattle.further_spec.specs.Estimate.{Estimate, full, within, unfinished_at, sum_within, dot_within, word_of, window_of, estimate_written}
 use Rattle.further_spec.specs.Estimate.{estimate_entered, estimate_tested, sum_within_entry, dot_within_entry}
 use Rattle.further_spec.proofs.Within.{Windowed, sum-within-windowed, dot-within-windowed, within-fits}
-use Rattle.limbs.specs.Value.{Words, value}
+use Rattle.limbs.specs.Value.{value}
 use Rattle.values.specs.Laid.{laid}
 use Rattle.page.specs.Paged.{laid_over}
 use Rattle.page.proofs.Laying.{over-next}

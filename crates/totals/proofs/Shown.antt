@@ -1,6 +1,6 @@
 -- What is shown within an allowance of passes: a full answer, or what the last pass allowed has seen.
-use Rattle.std.proofs.Common.{◌≡◌, ◌≢◌, refl, sym, ap, ap₂, ◌∙◌, subst, ℕ, Bool, true, false, List, ◌+◌, ◌^◌, ◌<◌, ◌≤◌, zero-le, arith, eqb, le-leb, ne_eqb}
-use Rattle.std.specs.Prelude.{Option, Some, None, IfSome, Result, Ok, Err}
+use Rattle.std.proofs.Common.{◌≡◌, ◌≢◌, refl, sym, ap, ap₂, ◌∙◌, subst, ℕ, Bool, true, false, List, ◌^◌, ◌<◌, ◌≤◌, zero-le, arith, le-leb, ne_eqb}
+use Rattle.std.specs.Prelude.{Option, Some, None, IfSome, Ok, Err}
 use borrow.Author.Tests.{lt-leb}
 use Rattle.totals_spec.specs.Format.{Format, digits}
 use Rattle.totals_spec.specs.Settings.{Settings, summand_of}
@@ -14,7 +14,6 @@ use Rattle.window.specs.declared.Stopped.{Stopped}
 use Rattle.window.specs.declared.Units.{Units}
 use Rattle.window.specs.Joined.{boundary_of, signed_of}
 use Rattle.reduction.specs.declared.total.Wide.{Wide}
-use Rattle.reduction.specs.Held.{StoppedSum}
 use Rattle.reduction.specs.Answered.{wide, answer_of}
 use Rattle.totals.specs.Walked.{Within}
 use Rattle.totals.specs.Estimates.{seen_at}

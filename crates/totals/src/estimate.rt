@@ -183,26 +183,20 @@ pub fn sum_within(f: Format, c: Settings, u: u64, values: &[u64], allowance: u64
 }
 
 // The sum of the products of the pairs.
-pub fn dot_within(
-    f: Format,
-    c: Settings,
-    left: &[u64],
-    right: &[u64],
-    allowance: u64,
-) -> Estimate
+pub fn dot_within(f: Format, c: Settings, left: &[u64], right: &[u64], allowance: u64) -> Estimate
     ensures { estimate_of result ≡ spec.dot_within (format_of f) (settings_of c) left.now right.now allowance }
 {
-    estimated(dot_of(f, c, Words { values: left }, Words { values: right }, allowance))
+    estimated(dot_of(
+        f,
+        c,
+        Words { values: left },
+        Words { values: right },
+        allowance,
+    ))
 }
 
 // The same over bytes, eight to a value, little end first. Bytes past the last whole value are not looked at.
-pub fn sum_bytes_within(
-    f: Format,
-    c: Settings,
-    u: u64,
-    values: &[u8],
-    allowance: u64,
-) -> Estimate
+pub fn sum_bytes_within(f: Format, c: Settings, u: u64, values: &[u8], allowance: u64) -> Estimate
     ensures { estimate_of result ≡ spec.sum_within (format_of f) (settings_of c) u (values_in values.now) allowance }
 {
     estimated(sum_of(f, c, u, Bytes { values }, allowance))
@@ -217,5 +211,11 @@ pub fn dot_bytes_within(
 ) -> Estimate
     ensures { estimate_of result ≡ spec.dot_within (format_of f) (settings_of c) (values_in left.now) (values_in right.now) allowance }
 {
-    estimated(dot_of(f, c, Bytes { values: left }, Bytes { values: right }, allowance))
+    estimated(dot_of(
+        f,
+        c,
+        Bytes { values: left },
+        Bytes { values: right },
+        allowance,
+    ))
 }

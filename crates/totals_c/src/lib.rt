@@ -3,12 +3,13 @@
 
 ghost use Rattle.totals_spec.specs.Extended as ten;
 ghost use Rattle.totals_spec.specs.Pages as pages;
+ghost use Rattle.further_spec.specs.Estimate as estimate;
 ghost use Rattle.further_spec.specs.Several as several;
 ghost use Rattle.totals_spec.specs.Words as words;
 ghost use Rattle.totals.specs.Ranges.{EntersRange};
 ghost use Rattle.totals.specs.Entered.{Enters, EntersFigure, EntersTable, format_from, biased_from, settings_from};
 
-use totals::entry;
+use totals::{entry, entry_within};
 
 // The sum of the values (summand 0), of their magnitudes (1) or of their squares (2). Kind 4 is told apart before anything else is looked at.
 #[unsafe(no_mangle)]
@@ -314,4 +315,92 @@ pub extern "C" fn totals_page_write(values: &[u64], page: &mut [u8]) -> u64
     ensures { Enters (pages.page_written values.now page.old) result page.new }
 {
     entry::totals_page_write(values, page)
+}
+
+// The sum of the values within an allowance of passes.
+#[unsafe(no_mangle)]
+pub extern "C" fn totals_sum_within(
+    kind: u64,
+    exponent_bits: u64,
+    width: u64,
+    bias_named: u64,
+    bias: i64,
+    rounding: u64,
+    tininess: u64,
+    nan_propagation: u64,
+    default_nan_negative: u64,
+    flush_to_zero: u64,
+    denormals_are_zero: u64,
+    saturate: u64,
+    precision: u64,
+    summand: u64,
+    allowance: u64,
+    values: &[u8],
+    answer: &mut [u8],
+) -> u64
+    ensures { Enters (estimate.sum_within_entry kind exponent_bits width bias_named bias (settings_from rounding tininess nan_propagation default_nan_negative flush_to_zero denormals_are_zero saturate precision) summand allowance values.now answer.old) result answer.new }
+{
+    entry_within::totals_sum_within(
+        kind,
+        exponent_bits,
+        width,
+        bias_named,
+        bias,
+        rounding,
+        tininess,
+        nan_propagation,
+        default_nan_negative,
+        flush_to_zero,
+        denormals_are_zero,
+        saturate,
+        precision,
+        summand,
+        allowance,
+        values,
+        answer,
+    )
+}
+
+// The sum of the products of the pairs, likewise.
+#[unsafe(no_mangle)]
+pub extern "C" fn totals_dot_within(
+    kind: u64,
+    exponent_bits: u64,
+    width: u64,
+    bias_named: u64,
+    bias: i64,
+    rounding: u64,
+    tininess: u64,
+    nan_propagation: u64,
+    default_nan_negative: u64,
+    flush_to_zero: u64,
+    denormals_are_zero: u64,
+    saturate: u64,
+    precision: u64,
+    allowance: u64,
+    left: &[u8],
+    right: &[u8],
+    answer: &mut [u8],
+) -> u64
+    ensures { Enters (estimate.dot_within_entry kind exponent_bits width bias_named bias (settings_from rounding tininess nan_propagation default_nan_negative flush_to_zero denormals_are_zero saturate precision) allowance left.now right.now answer.old) result answer.new }
+{
+    entry_within::totals_dot_within(
+        kind,
+        exponent_bits,
+        width,
+        bias_named,
+        bias,
+        rounding,
+        tininess,
+        nan_propagation,
+        default_nan_negative,
+        flush_to_zero,
+        denormals_are_zero,
+        saturate,
+        precision,
+        allowance,
+        left,
+        right,
+        answer,
+    )
 }

@@ -1,5 +1,5 @@
 -- Word by word.
-use Rattle.std.proofs.Common.{List, [], ◌∷◌, ℕ, ◌+◌, ◌*◌, ap₂, ◌∙◌, arith, refl, rules}
+use Rattle.std.proofs.Common.{[], ◌∷◌, ℕ, ap₂, ◌∙◌, arith, refl, rules}
 use mir.Syntax.{w64}
 use mir.Val.{SFits}
 use Rattle.limbs.specs.Value.{value}

@@ -1,5 +1,5 @@
 -- Word by word, by whether there is a boundary.
-use Rattle.std.proofs.Common.{List, [], ◌∷◌, ℕ, ◌+◌, ◌*◌, ap, ap₂, ◌∙◌, arith, refl, rules}
+use Rattle.std.proofs.Common.{◌∙◌, refl, rules}
 use mir.Syntax.{w64}
 use mir.Val.{SFits}
 use Rattle.limbs.proofs.Words.{words}

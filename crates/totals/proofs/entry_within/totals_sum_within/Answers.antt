@@ -1,5 +1,5 @@
 -- By the tests before the total, and by the total. The bias is the number that its 64 bits are read as.
-use Rattle.std.proofs.Common.{sym, refl}
+use Rattle.std.proofs.Common.{refl}
 use Rattle.limbs.proofs.Signs.{read}
 use Rattle.totals.proofs.Refusals.{number-some}
 use Rattle.totals.proofs.EstimateWritten.{sum-refused, sum-asks, sum-entered}

@@ -1,7 +1,5 @@
 -- By where the chain ends or stops.
-use Rattle.std.proofs.Common.{◌∙◌, subst}
-use Rattle.std.specs.Prelude.{Result, Err, Ok}
-use Rattle.format.specs.Layouts.{layout_of}
+use Rattle.std.proofs.Common.{◌∙◌}
 use Rattle.format.proofs.Layouts.{layout_bounds}
 use Rattle.reduction.proofs.Widths.{narrow}
 use Rattle.totals.proofs.Shown.{full-shown, stopped-shown, boundary-near}
