@@ -34,6 +34,7 @@ pub fn element_term(f: Layout, c: Env, u: Summand, b: u64) -> Option<Term>
 }
 
 // A hundred times an element of a list.
+#[inline(always)]
 pub fn hundred_term(f: Layout, c: Env, a: u64) -> Option<Term>
     ensures { Gives result (hundred_item (layout_of f) (env_of c) a) }
 {
@@ -47,6 +48,7 @@ pub fn hundred_term(f: Layout, c: Env, a: u64) -> Option<Term>
 }
 
 // The term of a pair of a dot. Pairs with a zero are common enough to be told at once.
+#[inline(always)]
 pub fn pair_term(f: Layout, c: Env, x: u64, y: u64) -> Option<Term>
     ensures { Gives result (terms.pair_item (layout_of f) (env_of c) (x, y)) }
 {
