@@ -3,20 +3,16 @@ use mathlib.Core.Path.{◌≡◌, refl, sym, ap, ◌∙◌}
 use mathlib.Core.Logic.{◌≢◌}
 use mathlib.Core.Bool.{Bool, true, false, not, ◌&&◌, ◌||◌}
 use mathlib.Core.List.{List}
-use Prim.Native.Nat.{ℕ, ◌<◌, ◌≤◌}
+use Prim.Native.Nat.{ℕ}
 use native.Mathlib.Omega.{arith}
-use lib.Dec.{leb, ltb, eqb, eqb→eq}
+use lib.Dec.{leb, ltb, eqb}
 use lib.ListN.{length}
 use borrow.Author.Tests.{ne_eqb}
 use Rattle.totals_spec.specs.Basics.{any}
 use Rattle.totals_spec.specs.Format.{Format, valid_format}
 use Rattle.totals_spec.specs.Settings.{Settings, valid_settings, summand_of}
-use Rattle.totals_spec.specs.Bounds.{FormatBounds}
 use Rattle.totals_spec.specs.Totals.{Answer, limit, refuse_if, refused, answered, stray, first_index, pairs}
 use Rattle.totals_spec.specs.Totals.{sum_refusal, sum_accepted, sum_answer, dot_refusal, dot_place, dot_accepted, dot_answer}
-use Rattle.totals_spec.proofs.Valid.{format-bounds}
-use Rattle.totals_spec.proofs.Passes.{valid-of}
-use Rattle.totals_spec.proofs.Order.{first-zero}
 use Rattle.totals.specs.declared.refusal.Refusal.{Refusal}
 use Rattle.totals.specs.Refusal.{number_of, place_of, sum_numbers, dot_numbers}
 use Rattle.totals.proofs.Refusals.{number-some, no-place}
@@ -45,10 +41,6 @@ module _ (r : ℕ → ℕ) (s : Tests r) (at : ℕ) (a : Answer) where
   pub seventh : r 0 ≡ 0 → refused 7 at ≡ answered (r 7) at a
   seventh e = rw (s.passes e 7)
 
--- the width of a valid format, as the search needs it
-pub width-bounds : (f : Format) → FormatBounds f → (0 < f.W) × (f.W ≤ 64)
-width-bounds f b = (omega (arith, b.w-ge, b.e-ge), b.w_le)
-
 -- ---- a sum
 
 sum-tests : (f : Format) (c : Settings) (u n : ℕ)
@@ -69,16 +61,6 @@ pub sum-place : (f : Format) (c : Settings) (u n : ℕ) (e : Refusal) → number
 unfolding sum_numbers
 sum-place f c u n e q = no-place e (λ z. (sum-tests f c u n).no_seven (sym q ∙ z))
 
--- one that no earlier test refuses
-module _ (f : Format) (c : Settings) (l : List ℕ) {n : ℕ} (long : length l ≡ n) (e : sum_numbers f c 0 n ≡ 0) where
-  pub stray-number : sum_refusal f c 0 l ≡ refuse_if (any (stray f) l) 7 0
-  unfolding sum_numbers sum_refusal
-  stray-number = rw long ((sum-tests f c 0 n).passes e (refuse_if (any (stray f) l) 7 0))
-
-  pub stray-told : any (stray f) l ≡ true → refused 7 (first_index (stray f) l) ≡ sum_answer f c 0 l
-  unfolding sum_numbers sum_answer sum_refusal
-  stray-told t = rw (long, t) (seventh _ (sum-tests f c 0 n) (first_index (stray f) l) (sum_accepted f c (summand_of 0) l) e)
-
 -- ---- a dot
 
 dot-tests : (f : Format) (c : Settings) (n m : ℕ)
@@ -95,20 +77,9 @@ module _ (f : Format) (c : Settings) (n m : ℕ) where
   unfolding dot_numbers dot_answer dot_refusal
   dot-stopped x y left right e q = rw (left, right) (stopped _ (dot-tests f c n m) (dot_place f x y) (dot_accepted f c (pairs x y)) e q _)
 
-  pub alike : dot_numbers f c n m ≡ 0 → m ≡ n
-  unfolding dot_numbers
-  alike e =
-      let a = (first-zero (not (valid_format f)) 2 _ e).1 in
-      let b = (first-zero (not (valid_settings f c)) 3 _ a).1 in
-      sym (eqb→eq n m (valid-of (eqb n m) 4 _ b))
-
 -- ---- by whether an element has a stray bit
 
 module _ (f : Format) (c : Settings) (u : ℕ) (l : List ℕ) (e : sum_numbers f c u (length l) ≡ 0) where
-  pub sum-format : FormatBounds f
-  unfolding sum_numbers
-  sum-format = format-bounds f (valid-of (valid_format f) 2 _ e)
-
   pub sum-strayed : any (stray f) l ≡ true → refused 7 (first_index (stray f) l) ≡ sum_answer f c u l
   unfolding sum_numbers sum_answer sum_refusal
   sum-strayed t = rw t (seventh _ (sum-tests f c u (length l)) (first_index (stray f) l) (sum_accepted f c (summand_of u) l) e)
@@ -122,10 +93,6 @@ module _ (f : Format) (c : Settings) (u : ℕ) (l : List ℕ) (e : sum_numbers f
   sum-told t = rw (sum-unstrayed t)
 
 module _ (f : Format) (c : Settings) (x y : List ℕ) (e : dot_numbers f c (length x) (length y) ≡ 0) where
-  pub dot-format : FormatBounds f
-  unfolding dot_numbers
-  dot-format = format-bounds f (valid-of (valid_format f) 2 _ e)
-
   dot-seventh : (any (stray f) x || any (stray f) y) ≡ true → refused 7 (dot_place f x y) ≡ dot_answer f c x y
   unfolding dot_numbers dot_answer dot_refusal
   dot-seventh t = rw t (seventh _ (dot-tests f c (length x) (length y)) (dot_place f x y) (dot_accepted f c (pairs x y)) e)
