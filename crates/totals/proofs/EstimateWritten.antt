@@ -7,7 +7,7 @@ use Prim.Native.Nat.{ℕ, zero, suc, ◌+◌, ◌-◌, ◌*◌, ◌%◌, ◌^◌
 use native.Mathlib.Nat.{add-zero, zero-add, not-suc-le-zero, le_of_suc-le-suc, mod-eq_of_lt}
 use native.Mathlib.Numerals.{add-one}
 use native.Mathlib.Omega.{arith}
-use lib.Dec.{T, eqb, ltb, leb, ltb→lt, nltb→le}
+use lib.Dec.{T, eqb, ltb, leb, nltb→le}
 use lib.IntN.{ℤ, pos, negsuc}
 use mir.Syntax.{w64}
 use mir.Val.{SFits, of_z, to_z, bool_byte}
@@ -21,7 +21,7 @@ use Rattle.totals_spec.specs.Chain.{half, signed_from}
 use Rattle.totals_spec.specs.Format.{Format}
 use Rattle.totals_spec.specs.Settings.{Settings}
 use Rattle.totals_spec.specs.Totals.{refused, refuse_if, sum_answer, dot_answer}
-use Rattle.totals_spec.specs.Bytes.{to_bytes, uneven, values_in}
+use Rattle.totals_spec.specs.Bytes.{to_bytes, uneven, values_in, Entry}
 use Rattle.totals_spec.specs.Words.{misnamed, format_by}
 use Rattle.totals_spec.specs.Pages.{value_bytes}
 use Rattle.totals_spec.proofs.Fields.{two-numbers}
@@ -213,41 +213,50 @@ module _ (e : Estimate) (old : List ℕ) where
 
 -- ---- what an entry leaves, by its tests
 
-module _ (cut : Bool) (room k : ℕ) (bad : Bool) (x : Estimate) (old : List ℕ) {n : ℕ} (e : n ≡ within_numbers cut room k bad) where
-  pub within-refused : n ≢ 0 → Enters (estimate_tested cut (ltb room 144) bad k x old) n old
+module _ (cut : Bool) (room k : ℕ) (bad : Bool) (x : Estimate) (old : List ℕ) where
+  abbrev tested : (a b c d : Bool) → Entry
+  tested a b c d =
+      cond a (record { code = 1; buffer = old }) (cond b (record { code = 2; buffer = old })
+      (estimate_entered (cond c (full (refused 16 0)) (cond d (full (refused 3 0)) x)) old))
+
+  abbrev number : (a b c : Bool) → ℕ
+  number a b c = refuse_if a 1 (refuse_if b 2 (refuse_if c 16 0))
+
+  pub within-refused : {n : ℕ} → n ≡ within_numbers cut room k → n ≢ 0 → Enters (estimate_tested cut (ltb room 144) bad k x old) n old
   unfolding estimate_entered
-  within-refused h = go cut (ltb room 144) (eqb k 0) bad e
+  within-refused {n} e h = go cut (ltb room 144) (eqb k 0) e
     where
-      go : (a b c d : Bool) → n ≡ refuse_if a 1 (refuse_if b 2 (refuse_if c 16 (refuse_if d 3 0)))
-          → Enters (cond a (record { code = 1; buffer = old }) (cond b (record { code = 2; buffer = old })
-          (estimate_entered (cond c (full (refused 16 0)) (cond d (full (refused 3 0)) x)) old))) n old
-      go true b c d i = record { code_is = i; buffer-is = refl }
-      go false true c d i = record { code_is = i; buffer-is = refl }
-      go false false true d i = record { code_is = i; buffer-is = refl }
-      go false false false true i = record { code_is = i; buffer-is = refl }
-      go false false false false i = absurd (h i)
+      go : (a b c : Bool) → n ≡ number a b c → Enters (tested a b c bad) n old
+      go true b c i = record { code_is = i; buffer-is = refl }
+      go false true c i = record { code_is = i; buffer-is = refl }
+      go false false true i = record { code_is = i; buffer-is = refl }
+      go false false false i = absurd (h i)
 
-  module _ (z : n ≡ 0) where
+  module _ (e : 0 ≡ within_numbers cut room k) where
+    -- none of them
+    none : (Q : Entry → Type 0) → Q (tested false false false bad) → Q (estimate_tested cut (ltb room 144) bad k x old)
+    none Q h = go cut (ltb room 144) (eqb k 0) e
+      where
+        go : (a b c : Bool) → 0 ≡ number a b c → Q (tested a b c bad)
+        go true b c i = absurd (omega (arith, i))
+        go false true c i = absurd (omega (arith, i))
+        go false false true i = absurd (omega (arith, i))
+        go false false false i = h
+
     pub within-room : 144 ≤ room
-    within-room = go cut (ltb room 144) (ltb→lt room 144) (nltb→le room 144) (sym z ∙ e)
+    within-room = go cut (ltb room 144) (nltb→le room 144) e
       where
-        go : (a b : Bool) → (T b → room < 144) → (T (not b) → 144 ≤ room) → 0 ≡ refuse_if a 1 (refuse_if b 2 (refuse_if (eqb k 0) 16 (refuse_if bad 3 0)))
-            → 144 ≤ room
-        go true b f g i = absurd (omega (arith, i))
-        go false true f g i = absurd (omega (arith, i))
-        go false false f g i = g tt
+        go : (a b : Bool) → (T (not b) → 144 ≤ room) → 0 ≡ number a b (eqb k 0) → 144 ≤ room
+        go true b g i = absurd (omega (arith, i))
+        go false true g i = absurd (omega (arith, i))
+        go false false g i = g tt
 
-    pub within-enters : (c : ℕ) (b : List ℕ) → Enters (estimate_entered x old) c b → Enters (estimate_tested cut (ltb room 144) bad k x old) c b
-    within-enters c b h = go cut (ltb room 144) (eqb k 0) bad (sym z ∙ e)
-      where
-        go : (p q r d : Bool) → 0 ≡ refuse_if p 1 (refuse_if q 2 (refuse_if r 16 (refuse_if d 3 0)))
-            → Enters (cond p (record { code = 1; buffer = old }) (cond q (record { code = 2; buffer = old })
-            (estimate_entered (cond r (full (refused 16 0)) (cond d (full (refused 3 0)) x)) old))) c b
-        go true q r d i = absurd (omega (arith, i))
-        go false true r d i = absurd (omega (arith, i))
-        go false false true d i = absurd (omega (arith, i))
-        go false false false true i = absurd (omega (arith, i))
-        go false false false false i = h
+    pub within-misnamed : bad ≡ true → Enters (estimate_tested cut (ltb room 144) bad k x old) 3 old
+    unfolding estimate_entered
+    within-misnamed b = none (λ (t : Entry). Enters t 3 old) (rw b (record { code_is = refl; buffer-is = refl }))
+
+    pub within-enters : bad ≡ false → (c : ℕ) (l : List ℕ) → Enters (estimate_entered x old) c l → Enters (estimate_tested cut (ltb room 144) bad k x old) c l
+    within-enters b c l h = none (λ (t : Entry). Enters t c l) (rw b h)
 
 -- ---- each field fits where it is written
 
@@ -291,30 +300,41 @@ dot-within-fits f c xs ys k =
 
 -- ---- the two entries
 
-module _ (k e w named : ℕ) (b : ℤ) (c : Settings) (u n : ℕ) (bytes old : List ℕ) {t : ℕ}
-    (is : t ≡ within_numbers (uneven bytes) (length old) n (misnamed named b)) where
-  pub sum-refused : t ≢ 0 → Enters (sum_within_entry k e w named b c u n bytes old) t old
+module _ (k e w named : ℕ) (b : ℤ) (c : Settings) (u n : ℕ) (bytes old : List ℕ) where
+  pub sum-refused : {t : ℕ} → t ≡ within_numbers (uneven bytes) (length old) n → t ≢ 0 → Enters (sum_within_entry k e w named b c u n bytes old) t old
   unfolding sum_within_entry
-  sum-refused = within-refused (uneven bytes) (length old) n (misnamed named b) _ old is
+  sum-refused = within-refused (uneven bytes) (length old) n (misnamed named b) _ old
 
-  module _ (z : t ≡ 0) {x : Estimate} (i : x ≡ sum_within (format_by k e w named b) c u (values_in bytes) n) where
-    pub sum-asks : FitsEstimate x × (144 ≤ length old)
-    sum-asks = (rw i (sum-within-fits _ _ _ _ _), within-room (uneven bytes) (length old) n (misnamed named b) x old is z)
-
-    pub sum-entered : (v : ℕ) (l : List ℕ) → Enters (estimate_entered x old) v l → Enters (sum_within_entry k e w named b c u n bytes old) v l
+  module _ (is : 0 ≡ within_numbers (uneven bytes) (length old) n) where
+    pub sum-misnamed : misnamed named b ≡ true → Enters (sum_within_entry k e w named b c u n bytes old) 3 old
     unfolding sum_within_entry
-    sum-entered v l h = within-enters (uneven bytes) (length old) n (misnamed named b) _ old is z v l (rw i at h)
+    sum-misnamed = within-misnamed (uneven bytes) (length old) n (misnamed named b) _ old is
 
-module _ (k e w named : ℕ) (b : ℤ) (c : Settings) (n : ℕ) (left right old : List ℕ) {t : ℕ}
-    (is : t ≡ within_numbers (uneven left || uneven right) (length old) n (misnamed named b)) where
-  pub dot-refused : t ≢ 0 → Enters (dot_within_entry k e w named b c n left right old) t old
+    module _ {x : Estimate} (i : x ≡ sum_within (format_by k e w named b) c u (values_in bytes) n) where
+      pub sum-asks : FitsEstimate x × (144 ≤ length old)
+      sum-asks = (rw i (sum-within-fits _ _ _ _ _), within-room (uneven bytes) (length old) n (misnamed named b) x old is)
+
+      pub sum-entered : misnamed named b ≡ false → (v : ℕ) (l : List ℕ) → Enters (estimate_entered x old) v l
+          → Enters (sum_within_entry k e w named b c u n bytes old) v l
+      unfolding sum_within_entry
+      sum-entered z v l h = within-enters (uneven bytes) (length old) n (misnamed named b) _ old is z v l (rw i at h)
+
+module _ (k e w named : ℕ) (b : ℤ) (c : Settings) (n : ℕ) (left right old : List ℕ) where
+  pub dot-refused : {t : ℕ} → t ≡ within_numbers (uneven left || uneven right) (length old) n → t ≢ 0
+      → Enters (dot_within_entry k e w named b c n left right old) t old
   unfolding dot_within_entry
-  dot-refused = within-refused (uneven left || uneven right) (length old) n (misnamed named b) _ old is
+  dot-refused = within-refused (uneven left || uneven right) (length old) n (misnamed named b) _ old
 
-  module _ (z : t ≡ 0) {x : Estimate} (i : x ≡ dot_within (format_by k e w named b) c (values_in left) (values_in right) n) where
-    pub dot-asks : FitsEstimate x × (144 ≤ length old)
-    dot-asks = (rw i (dot-within-fits _ _ _ _ _), within-room (uneven left || uneven right) (length old) n (misnamed named b) x old is z)
-
-    pub dot-entered : (v : ℕ) (l : List ℕ) → Enters (estimate_entered x old) v l → Enters (dot_within_entry k e w named b c n left right old) v l
+  module _ (is : 0 ≡ within_numbers (uneven left || uneven right) (length old) n) where
+    pub dot-misnamed : misnamed named b ≡ true → Enters (dot_within_entry k e w named b c n left right old) 3 old
     unfolding dot_within_entry
-    dot-entered v l h = within-enters (uneven left || uneven right) (length old) n (misnamed named b) _ old is z v l (rw i at h)
+    dot-misnamed = within-misnamed (uneven left || uneven right) (length old) n (misnamed named b) _ old is
+
+    module _ {x : Estimate} (i : x ≡ dot_within (format_by k e w named b) c (values_in left) (values_in right) n) where
+      pub dot-asks : FitsEstimate x × (144 ≤ length old)
+      dot-asks = (rw i (dot-within-fits _ _ _ _ _), within-room (uneven left || uneven right) (length old) n (misnamed named b) x old is)
+
+      pub dot-entered : misnamed named b ≡ false → (v : ℕ) (l : List ℕ) → Enters (estimate_entered x old) v l
+          → Enters (dot_within_entry k e w named b c n left right old) v l
+      unfolding dot_within_entry
+      dot-entered z v l h = within-enters (uneven left || uneven right) (length old) n (misnamed named b) _ old is z v l (rw i at h)

@@ -91,6 +91,6 @@ pub record Writes (e : spec.Estimate) (w : Written) : Type 0 where
   pub sum : value w.sum ≡ spec.window_of e.sum
   pub long : Words 12 w.sum
 
--- the refusals that stand before those of the total
-abbrev pub within_numbers : Bool → (room allowance : ℕ) → Bool → ℕ
-within_numbers cut room k bad = refuse_if cut 1 (refuse_if (ltb room 144) 2 (refuse_if (eqb k 0) 16 (refuse_if bad 3 0)))
+-- the refusals 1, 2 and 16, which stand before those of the format and of the total
+abbrev pub within_numbers : Bool → (room allowance : ℕ) → ℕ
+within_numbers cut room k = refuse_if cut 1 (refuse_if (ltb room 144) 2 (refuse_if (eqb k 0) 16 0))

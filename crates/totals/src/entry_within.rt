@@ -10,7 +10,7 @@ ghost use Rattle.totals.specs.Entered.{Enters, settings_from};
 ghost use Rattle.totals.specs.Refusal.{refusal_number};
 ghost use Rattle.totals.specs.Estimates.{estimate_of, Fits, FitsEstimate, Writes, within_numbers};
 
-use crate::entry::{code, either_cut, format_by, lengths, misnamed, settings};
+use crate::entry::{code, either_cut, lengths, named_format, settings};
 use crate::estimate::{Estimate, Seen, dot_bytes_within, sum_bytes_within};
 use crate::refusal::{Refusal, refuse_if};
 use limbs_window::negate;
@@ -102,14 +102,13 @@ fn enter_estimate(e: Estimate, answer: &mut [u8]) -> u64
     0
 }
 
-// The refusals 1 and 2, 16, and of a bias that is not named as a whole.
+// The refusals 1 and 2, and 16.
 #[inline(always)]
-fn tested(cut: bool, room: usize, allowance: u64, bad: bool) -> Result<(), Refusal>
-    ensures { refusal_number result ≡ within_numbers cut room allowance bad }
+fn tested(cut: bool, room: usize, allowance: u64) -> Result<(), Refusal>
+    ensures { refusal_number result ≡ within_numbers cut room allowance }
 {
     lengths(cut, room, 144)?;
-    refuse_if(allowance == 0, Refusal::NoAllowance)?;
-    refuse_if(bad, Refusal::NoSuchFormat)
+    refuse_if(allowance == 0, Refusal::NoAllowance)
 }
 
 // The sum of the values (summand 0), of their magnitudes (1) or of their squares (2), within an allowance of passes.
@@ -135,11 +134,12 @@ pub fn totals_sum_within(
     ensures { Enters (spec.sum_within_entry kind exponent_bits width bias_named bias (settings_from rounding tininess nan_propagation default_nan_negative flush_to_zero denormals_are_zero saturate precision) summand allowance values.now answer.old) result answer.new }
 {
     let cut = values.len() % 8 != 0;
-    let bad = misnamed(bias_named, bias);
-    if let Err(refusal) = tested(cut, answer.len(), allowance, bad) {
+    if let Err(refusal) = tested(cut, answer.len(), allowance) {
         return refusal.number();
     }
-    let f = format_by(kind, exponent_bits, width, bias_named, bias);
+    let Ok(f) = named_format(kind, exponent_bits, width, bias_named, bias) else {
+        return Refusal::NoSuchFormat.number();
+    };
     let c = settings(
         rounding,
         tininess,
@@ -177,11 +177,12 @@ pub fn totals_dot_within(
     ensures { Enters (spec.dot_within_entry kind exponent_bits width bias_named bias (settings_from rounding tininess nan_propagation default_nan_negative flush_to_zero denormals_are_zero saturate precision) allowance left.now right.now answer.old) result answer.new }
 {
     let cut = either_cut(left, right, 8);
-    let bad = misnamed(bias_named, bias);
-    if let Err(refusal) = tested(cut, answer.len(), allowance, bad) {
+    if let Err(refusal) = tested(cut, answer.len(), allowance) {
         return refusal.number();
     }
-    let f = format_by(kind, exponent_bits, width, bias_named, bias);
+    let Ok(f) = named_format(kind, exponent_bits, width, bias_named, bias) else {
+        return Refusal::NoSuchFormat.number();
+    };
     let c = settings(
         rounding,
         tininess,

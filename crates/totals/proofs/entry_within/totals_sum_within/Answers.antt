@@ -1,26 +1,24 @@
--- By the tests before the total, and by the total. The bias is the number that its 64 bits are read as.
-use Rattle.std.proofs.Common.{refl}
+-- By the tests before the total, the format's name, and the total. The bias is the number that its 64 bits are read as.
 use Rattle.limbs.proofs.Signs.{read}
 use Rattle.totals.proofs.Refusals.{number-some}
-use Rattle.totals.proofs.EstimateWritten.{sum-refused, sum-asks, sum-entered}
+use Rattle.totals.proofs.EstimateWritten.{sum-refused, sum-misnamed, sum-asks, sum-entered}
 use Rattle.totals.proofs.entry_within.totals_sum_within.Goals as goal
 
 pub returns-in-Err : goal.returns-in-Err
-returns-in-Err c =
-    let named = rw (read c.args.bias c.ranges.bias.sfits) at c.misnamed-bad.ensures in
-    rw c.number.ensures (sum-refused _ _ _ _ _ _ _ _ _ _ (rw named at c.in-Err.ensures) (number-some _))
+returns-in-Err c = rw c.number.ensures (sum-refused _ _ _ _ _ _ _ _ _ _ c.in-Err.ensures (number-some _))
+
+pub returns-in_default-named_format : goal.returns-in_default-named_format
+returns-in_default-named_format c =
+    let (named, is) = rw (read c.args.bias c.ranges.bias.sfits) at c.in_default-named_format.ensures in
+    rw c.number-in_default-named_format.ensures (sum-misnamed _ _ _ _ _ _ _ _ _ _ (c.in_default.ensures {u = tt}) named)
 
 pub enter_estimate-requires : goal.enter_estimate-requires
 enter_estimate-requires c =
-    let bias = read c.args.bias c.ranges.bias.sfits in
-    let named = rw bias at c.misnamed-bad.ensures in
-    let format = rw bias at c.format_by-f.ensures in
-    sum-asks _ _ _ _ _ _ _ _ _ _ (rw named at (c.in_default.ensures {u = tt})) refl (rw (format, c.settings-c.ensures) at c.sum_bytes_within-e.ensures)
+    let (named, is) = rw (read c.args.bias c.ranges.bias.sfits) at c.in-Ok.ensures in
+    sum-asks _ _ _ _ _ _ _ _ _ _ (c.in_default.ensures {u = tt}) (rw (is, c.settings-c.ensures) at c.sum_bytes_within-e.ensures)
 
 pub returns : goal.returns
 returns c =
-    let bias = read c.args.bias c.ranges.bias.sfits in
-    let named = rw bias at c.misnamed-bad.ensures in
-    let format = rw bias at c.format_by-f.ensures in
-    sum-entered _ _ _ _ _ _ _ _ _ _ (rw named at (c.in_default.ensures {u = tt})) refl (rw (format, c.settings-c.ensures) at c.sum_bytes_within-e.ensures)
-    _ _ c.enter_estimate.ensures
+    let (named, is) = rw (read c.args.bias c.ranges.bias.sfits) at c.in-Ok.ensures in
+    sum-entered _ _ _ _ _ _ _ _ _ _ (c.in_default.ensures {u = tt}) (rw (is, c.settings-c.ensures) at c.sum_bytes_within-e.ensures)
+    named _ _ c.enter_estimate.ensures
