@@ -1,11 +1,12 @@
 // Replays the cases of standard input: works each one out, compares the answer with the one that its row holds, and prints how many agree. Totals are
 // worked out over words, over bytes and through a byte entry, the pence of a list, the totals of a table, of ranges and of a page's span by the function and
 // through its entry; pages are written through theirs, values of ten bytes are added through the byte entries, and one total in several formats comes
-// through its own.
+// through its own, and so do totals within an allowance of passes.
 // cases.py makes the list, and says how it is laid out; README.md says where the answers come from.
 #![tactic(auto)]
 
 mod counts;
+mod estimates;
 mod figures;
 mod input;
 mod lists;
@@ -184,5 +185,10 @@ fn main(rt: HostRuntime) -> io::Result<()> {
     report_rows::<WRITTEN, _>(&rt, "pages written ", pages::page_agrees)?;
     report_rows::<LONG_WRITTEN, _>(&rt, "longer pages written ", pages::page_agrees)?;
     report_rows::<{ tens::ROW }, _>(&rt, "values of ten bytes ", tens::agrees)?;
-    report_rows::<{ targets::ROW }, _>(&rt, "one total, several formats ", targets::agrees)
+    report_rows::<{ targets::ROW }, _>(&rt, "one total, several formats ", targets::agrees)?;
+    report_rows::<{ estimates::ROW }, _>(
+        &rt,
+        "totals within an allowance of passes ",
+        estimates::agrees,
+    )
 }
