@@ -15,19 +15,19 @@ advance-requires g c = loop-ready c.requires.0 _ _ c.loop-next.invariant.0 c.pas
 pub stopped-requires : goal.stopped-requires
 stopped-requires g c =
     let i = c.loop-next.invariant in
-    (i.1, loop-room c.requires.0 _ _ i.0 c.pass-q.ensures _ i.1 _ c.in-Continue.ensures c.if-next-allowance.true)
+    (i.1, loop-room c.requires.0 _ _ i.0 c.pass-q.ensures _ i.1 _ c.in-Continue.ensures (omega (arith, c.if-next-allowance.true)))
 
 pub returns-then-next-allowance : goal.returns-then-next-allowance
 returns-then-next-allowance g c =
     let i = c.loop-next.invariant in
-    loop-stopped c.requires.0 _ _ i.0 c.pass-q.ensures _ i.1 _ c.in-Continue.ensures c.if-next-allowance.true _ c.stopped.ensures
+    loop-stopped c.requires.0 _ _ i.0 c.pass-q.ensures _ i.1 _ c.in-Continue.ensures (omega (arith, c.if-next-allowance.true)) _ c.stopped.ensures
 
 pub loop-next-smaller : goal.loop-next-smaller
 loop-next-smaller g c = (loop-next c.requires.0 _ _ c.loop-next.invariant.0 c.pass-q.ensures _ c.in-Continue.ensures).falls
 
 pub loop-next-preserved : goal.loop-next-preserved
 loop-next-preserved g c =
-    ((loop-next c.requires.0 _ _ c.loop-next.invariant.0 c.pass-q.ensures _ c.in-Continue.ensures).walked, c.if-next-allowance.false)
+    ((loop-next c.requires.0 _ _ c.loop-next.invariant.0 c.pass-q.ensures _ c.in-Continue.ensures).walked, omega (arith, c.if-next-allowance.false))
 
 pub overflow_add-result : goal.overflow_add-result
 overflow_add-result g c = omega (arith, c.loop-next.invariant.1)
