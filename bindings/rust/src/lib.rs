@@ -270,9 +270,9 @@ pub fn sum_into<T: Float + Word>(
 /// [`Refusal::NoPassAllowed`] where the allowance is 0, else [`Refusal::TooManyElements`] where there are
 /// more than 268,435,456 values.
 ///
-/// Proved: the contract of `totals_sum_within` in `crates/totals/src/entry.rt`; `within-in-time`,
-/// `within-same`, `within-unfinished`, `within-near`, `within-narrower`, `within-order` in
-/// `crates/further_spec/proofs/Promises.antt`.
+/// Proved: the contract of `totals_sum_within` in `crates/totals/src/entry_within.rt`;
+/// `within-in-time`, `within-same`, `within-unfinished`, `within-near`, `within-narrower`,
+/// `within-order` in `crates/further_spec/proofs/Promises.antt`.
 ///
 /// ```
 /// use fermuzhai::{sum, sum_within, Estimate, Refusal};
@@ -299,8 +299,8 @@ pub fn sum_within<T: Float + Word>(values: &[T], allowance: u64) -> Result<Estim
 /// [`Refusal::DifferentLengths`] where the lists have two lengths; [`Refusal::TooManyElements`] where there
 /// are more than 268,435,456 pairs.
 ///
-/// Proved: the contract of `totals_dot_within` in `crates/totals/src/entry.rt`, and the theorems of
-/// [`sum_within`].
+/// Proved: the contract of `totals_dot_within` in `crates/totals/src/entry_within.rt`, and the
+/// theorems of [`sum_within`].
 ///
 /// ```
 /// use fermuzhai::{dot, dot_within, Estimate};

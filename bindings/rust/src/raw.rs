@@ -765,9 +765,10 @@ pub fn sum_into(
 /// Or returns a refusal's code and writes nothing: 1, 2 under 144 bytes of answer, 16 of an allowance
 /// of 0, and then those of [`sum`], the first that holds in this order. 3 is also kind 4.
 ///
-/// Proved: the contract of `totals_sum_within` in `crates/totals/src/entry.rt`; `within-in-time`,
-/// `within-unfinished`, `within-near`, `within-entry-refusal`, `within-entry-refused`,
-/// `within-entry-read-back`, `within-entry-plain` in `crates/further_spec/proofs/Promises.antt`.
+/// Proved: the contract of `totals_sum_within` in `crates/totals/src/entry_within.rt`;
+/// `within-in-time`, `within-unfinished`, `within-near`, `within-entry-refusal`,
+/// `within-entry-refused`, `within-entry-read-back`, `within-entry-plain` in
+/// `crates/further_spec/proofs/Promises.antt`.
 ///
 /// ```
 /// use fermuzhai::raw;
@@ -827,8 +828,8 @@ pub fn sum_within(
 
 /// [`dot`] within an allowance of passes. Returns and writes as [`sum_within`] does, with 5 behind 4.
 ///
-/// Proved: the contract of `totals_dot_within` in `crates/totals/src/entry.rt`, and the theorems named
-/// there.
+/// Proved: the contract of `totals_dot_within` in `crates/totals/src/entry_within.rt`, and the
+/// theorems named there.
 ///
 /// ```
 /// use fermuzhai::raw;

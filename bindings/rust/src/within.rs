@@ -467,9 +467,10 @@ impl<T: Word> Totals<T> {
     ///
     /// [`Refusal::NoPassAllowed`] where the allowance is 0, else those of [`Totals::sum`].
     ///
-    /// Proved: the contract of `totals_sum_within` in `crates/totals/src/entry.rt`; `within-in-time`,
-    /// `within-limit`, `within-same`, `within-unfinished`, `within-near`, `within-narrower`,
-    /// `within-refusal`, `within-order` in `crates/further_spec/proofs/Promises.antt`.
+    /// Proved: the contract of `totals_sum_within` in `crates/totals/src/entry_within.rt`;
+    /// `within-in-time`, `within-limit`, `within-same`, `within-unfinished`, `within-near`,
+    /// `within-narrower`, `within-refusal`, `within-order` in
+    /// `crates/further_spec/proofs/Promises.antt`.
     ///
     /// ```
     /// use fermuzhai::{Format, Kind, Refusal, Totals};
@@ -521,8 +522,8 @@ impl<T: Word> Totals<T> {
     ///
     /// [`Refusal::NoPassAllowed`] where the allowance is 0, else those of [`Totals::dot`].
     ///
-    /// Proved: the contract of `totals_dot_within` in `crates/totals/src/entry.rt`, and the theorems of
-    /// [`Totals::sum_within`].
+    /// Proved: the contract of `totals_dot_within` in `crates/totals/src/entry_within.rt`, and the
+    /// theorems of [`Totals::sum_within`].
     pub fn dot_within(
         &self,
         left: &[T],
