@@ -1,6 +1,7 @@
 // The total of a list that is accepted: a scan, and then passes at lower and lower edges until one of them decides.
 #![tactic(auto)]
 
+pub mod allowance;
 pub mod pass;
 pub mod terms;
 pub mod total;

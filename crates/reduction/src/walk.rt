@@ -5,6 +5,7 @@ ghost use Rattle.totals_spec.specs.Terms as terms;
 ghost use Rattle.window.specs.Joined.{Passed};
 ghost use Rattle.reduction.specs.Held.{Base, Sums, SumsWithin};
 
+use crate::allowance::{Allowance, Every};
 use crate::pass::{finished, start as middle};
 use crate::terms::Terms;
 use limbs::pair::low;
@@ -99,17 +100,22 @@ fn pass<T: Terms>(list: &T, w: u64) -> Pass
 // The exact sum of the terms, the highest of whose bits lies at `top`: pass after pass until one of them decides its first p digits, or is the last that is
 // allowed.
 #[inline(always)]
-pub fn within<T: Terms>(list: &T, p: u64, top: u64, allowance: u64) -> Result<ExactSum, Stopped>
-    requires { Base p (terms.terms (T.items list.now)) × (top ≡ terms.top_of (terms.terms (T.items list.now))) × (0 < allowance) }
-    ensures { SumsWithin p (terms.terms (T.items list.now)) allowance result }
+pub fn within<T: Terms, A: Allowance>(
+    list: &T,
+    p: u64,
+    top: u64,
+    allowance: A,
+) -> Result<ExactSum, Stopped>
+    requires { Base p (terms.terms (T.items list.now)) × (top ≡ terms.top_of (terms.terms (T.items list.now))) × (0 < A.allowed allowance) }
+    ensures { SumsWithin p (terms.terms (T.items list.now)) (A.allowed allowance) result }
 {
     let mut at = Chain::start(top);
     loop {
         let q = pass(list, at.edge);
         match at.advance(p, q) {
             ControlFlow::Continue(next) => {
-                if next.passes >= allowance {
-                    break Err(at.stopped(q, allowance));
+                if allowance.ends(next.passes) {
+                    break Err(at.stopped(q, allowance.passes()));
                 }
                 at = next;
             }
@@ -122,13 +128,13 @@ pub fn within<T: Terms>(list: &T, p: u64, top: u64, allowance: u64) -> Result<Ex
     }
 }
 
-// The same with every pass that it takes: no chain is as long as what is allowed here.
+// The same with every pass that it takes.
 #[inline(always)]
 pub fn exact<T: Terms>(list: &T, p: u64, top: u64) -> ExactSum
     requires { Base p (terms.terms (T.items list.now)) × (top ≡ terms.top_of (terms.terms (T.items list.now))) }
     ensures { Sums p (terms.terms (T.items list.now)) result }
 {
-    match within(list, p, top, u64::MAX) {
+    match within(list, p, top, Every) {
         Ok(e) => e,
         Err(_) => unreachable!(),
     }

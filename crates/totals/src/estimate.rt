@@ -23,6 +23,7 @@ use format::env::Settings;
 use format::environment::Env;
 use format::layout::Layout;
 use format::shape::Shape;
+use reduction::allowance::AtMost;
 use reduction::total::{Answer, Wide, place};
 use scan::numbers::Encoded;
 use values::elements::{Bytes, Elements, Words};
@@ -104,7 +105,7 @@ fn list_sum<E: Elements>(
         layout: f,
         elements,
     };
-    let total = sum_in(c, u, numbers, allowance);
+    let total = sum_in(c, u, numbers, AtMost(allowance));
     Ok(told(f, u == Summand::Square, allowance, total))
 }
 
@@ -134,7 +135,8 @@ fn list_dot<E: Elements>(
         layout: f,
         elements: right,
     };
-    Ok(told(f, true, allowance, dot_in(c, x, y, allowance)))
+    let total = dot_in(c, x, y, AtMost(allowance));
+    Ok(told(f, true, allowance, total))
 }
 
 fn sum_of<E: Elements>(

@@ -22,6 +22,7 @@ use arithmetic::summand::Summand;
 use format::environment::Env;
 use format::layout::Layout;
 use format::shape::Shape;
+use reduction::allowance::{Allowance, Every};
 use reduction::terms::{Paired, Summed, Terms};
 use reduction::total::{Answer, Wide, finish, special};
 use reduction::walk::{exact, within};
@@ -33,18 +34,18 @@ use window::{ExactSum, Stopped};
 
 // The record of a list of terms, of which s is the scan: what that decides alone, or the sum of the terms; or where this stops, within an allowance of passes.
 #[inline(always)]
-fn total<T: Terms>(
+fn total<T: Terms, A: Allowance>(
     f: Shape,
     c: Env,
     products: bool,
     infinity_first: bool,
     s: &Scan,
     list: &T,
-    allowance: u64,
+    allowance: A,
 ) -> Result<Wide, Stopped>
-    requires known { Known (wide (shape_of f)) (shape_of f) × SettingsBounds (shape_of f) (env_of c) × (0 < allowance) }
+    requires known { Known (wide (shape_of f)) (shape_of f) × SettingsBounds (shape_of f) (env_of c) × (0 < A.allowed allowance) }
     requires summable { Summable (shape_of f) (T.items list.now) × Scans (shape_of f) (env_of c) (T.items list.now) s.now }
-    ensures { Totals (shape_of f) (env_of c) products infinity_first (T.items list.now) allowance s.now result }
+    ensures { Totals (shape_of f) (env_of c) products infinity_first (T.items list.now) (A.allowed allowance) s.now result }
 {
     match decided(c, infinity_first, s) {
         Some(given) => Ok(special(f, s.subnormal, given.value, given.invalid)),
@@ -57,10 +58,15 @@ fn total<T: Terms>(
 
 // The sum of some numbers, within an allowance of passes.
 #[inline(always)]
-pub fn sum_in<N: Numbers>(c: Env, u: Summand, numbers: N, allowance: u64) -> Result<Wide, Stopped>
-    requires known { Known (wide (N.encoding numbers).format) (N.encoding numbers).format × SettingsBounds (N.encoding numbers).format (env_of c) × (0 < allowance) }
+pub fn sum_in<N: Numbers, A: Allowance>(
+    c: Env,
+    u: Summand,
+    numbers: N,
+    allowance: A,
+) -> Result<Wide, Stopped>
+    requires known { Known (wide (N.encoding numbers).format) (N.encoding numbers).format × SettingsBounds (N.encoding numbers).format (env_of c) × (0 < A.allowed allowance) }
     requires summable { Summable (N.encoding numbers).format (map (item_in (N.encoding numbers) (env_of c) (summand_in u)) (N.codes numbers)) }
-    ensures { Within (N.encoding numbers).format (sum_in (N.encoding numbers) (env_of c) (summand_in u) (N.codes numbers)) (terms_in (N.encoding numbers) (env_of c) (summand_in u) (N.codes numbers)) allowance result }
+    ensures { Within (N.encoding numbers).format (sum_in (N.encoding numbers) (env_of c) (summand_in u) (N.codes numbers)) (terms_in (N.encoding numbers) (env_of c) (summand_in u) (N.codes numbers)) (A.allowed allowance) result }
 {
     let s = scan_list(&numbers, c, u);
     total(
@@ -80,11 +86,16 @@ pub fn sum_in<N: Numbers>(c: Env, u: Summand, numbers: N, allowance: u64) -> Res
 
 // The sum of the products of the pairs of two lists, likewise.
 #[inline(always)]
-pub fn dot_in<N: Numbers>(c: Env, left: N, right: N, allowance: u64) -> Result<Wide, Stopped>
+pub fn dot_in<N: Numbers, A: Allowance>(
+    c: Env,
+    left: N,
+    right: N,
+    allowance: A,
+) -> Result<Wide, Stopped>
     requires as_long { length (N.codes right) ≡ length (N.codes left) }
-    requires known { Known (wide (N.encoding left).format) (N.encoding left).format × SettingsBounds (N.encoding left).format (env_of c) × (0 < allowance) }
+    requires known { Known (wide (N.encoding left).format) (N.encoding left).format × SettingsBounds (N.encoding left).format (env_of c) × (0 < A.allowed allowance) }
     requires summable { Summable (N.encoding left).format (map (pair_in (N.encoding left) (env_of c)) (totals.pairs (N.codes left) (N.codes right))) }
-    ensures { Within (N.encoding left).format (dot_in (N.encoding left) (env_of c) (totals.pairs (N.codes left) (N.codes right))) (products_in (N.encoding left) (env_of c) (totals.pairs (N.codes left) (N.codes right))) allowance result }
+    ensures { Within (N.encoding left).format (dot_in (N.encoding left) (env_of c) (totals.pairs (N.codes left) (N.codes right))) (products_in (N.encoding left) (env_of c) (totals.pairs (N.codes left) (N.codes right))) (A.allowed allowance) result }
 {
     let s = scan_pairs(&left, &right, c);
     total(
@@ -109,7 +120,7 @@ pub fn sum_of<N: Numbers>(c: Env, u: Summand, numbers: N) -> Wide
     requires summable { Summable (N.encoding numbers).format (map (item_in (N.encoding numbers) (env_of c) (summand_in u)) (N.codes numbers)) }
     ensures { answer_as (wide (N.encoding numbers).format) result ≡ given_as (wide (N.encoding numbers).format) (sum_in (N.encoding numbers) (env_of c) (summand_in u) (N.codes numbers)) }
 {
-    match sum_in(c, u, numbers, u64::MAX) {
+    match sum_in(c, u, numbers, Every) {
         Ok(w) => w,
         Err(_) => unreachable!(),
     }
@@ -122,7 +133,7 @@ pub fn dot_of<N: Numbers>(c: Env, left: N, right: N) -> Wide
     requires summable { Summable (N.encoding left).format (map (pair_in (N.encoding left) (env_of c)) (totals.pairs (N.codes left) (N.codes right))) }
     ensures { answer_as (wide (N.encoding left).format) result ≡ given_as (wide (N.encoding left).format) (dot_in (N.encoding left) (env_of c) (totals.pairs (N.codes left) (N.codes right))) }
 {
-    match dot_in(c, left, right, u64::MAX) {
+    match dot_in(c, left, right, Every) {
         Ok(w) => w,
         Err(_) => unreachable!(),
     }

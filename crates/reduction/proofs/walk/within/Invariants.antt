@@ -5,7 +5,7 @@ use Rattle.window.proofs.Walked.{Walked}
 use Rattle.reduction.proofs.walk.within.Given as goal
 
 abbrev pub invariant-loop-next : goal.invariant-loop-next
-invariant-loop-next g l = Walked l.p (terms (g.T.Terms.items l.list)) l.at × (l.at.passes < l.allowance)
+invariant-loop-next g l = Walked l.p (terms (g.T.Terms.items l.list)) l.at × (l.at.passes < g.A.Allowance.allowed l.allowance)
 
 abbrev pub decreases-loop-next : goal.decreases-loop-next
 decreases-loop-next g l = l.at.edge

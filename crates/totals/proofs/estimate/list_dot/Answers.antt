@@ -18,18 +18,18 @@ returns-in-Some-find_stray g c =
     let f = c.in-Some-find_stray.ensures in
     refused-shown _ _ _ _ _ (rw f.1 at (dot-strayed-right _ _ _ _ c.requires.0 c.in_default.ensures f.0))
 
-pub dot_in-requires-clause-as_long : goal.dot_in-requires-clause-as_long
-dot_in-requires-clause-as_long g c =
+pub dot_in-total-requires-clause-as_long : goal.dot_in-total-requires-clause-as_long
+dot_in-total-requires-clause-as_long g c =
     let a = dot-accepts _ _ _ _ (dot-unstrayed _ _ _ _ c.requires.0 c.in_default.ensures c.in_default-find_stray.ensures) in
     a.same
 
-pub dot_in-requires-clause-known : goal.dot_in-requires-clause-known
-dot_in-requires-clause-known g c =
+pub dot_in-total-requires-clause-known : goal.dot_in-total-requires-clause-known
+dot_in-total-requires-clause-known g c =
     let a = dot-accepts _ _ _ _ (dot-unstrayed _ _ _ _ c.requires.0 c.in_default.ensures c.in_default-find_stray.ensures) in
     (narrow-known _ (layout_bounds c.args.f), a.settings, c.requires.1)
 
-pub dot_in-requires-clause-summable : goal.dot_in-requires-clause-summable
-dot_in-requires-clause-summable g c =
+pub dot_in-total-requires-clause-summable : goal.dot_in-total-requires-clause-summable
+dot_in-total-requires-clause-summable g c =
     let a = dot-accepts _ _ _ _ (dot-unstrayed _ _ _ _ c.requires.0 c.in_default.ensures c.in_default-find_stray.ensures) in
     dot-summable c.args.f _ _ _ a.same a.few
 
@@ -37,4 +37,4 @@ pub returns : goal.returns
 unfolding pair_item
 returns g c =
     let total = dot-is c.args.f _ _ ∙ dot-told _ _ _ _ c.requires.0 c.in_default.ensures c.in_default-find_stray.ensures in
-    told-as _ _ _ refl total (c.told.ensures _ _ c.dot_in.ensures)
+    told-as _ _ _ refl total (c.told.ensures _ _ c.dot_in-total.ensures)

@@ -12,7 +12,7 @@ special-requires g c =
 pub returns-in-Some : goal.returns-in-Some
 returns-in-Some g c =
     let a = c.args in
-    early-told a.f _ a.products a.infinity_first _ a.s.now _ c.decided.ensures.0 _ c.in-Some.is a.allowance _ c.special.ensures
+    early-told a.f _ a.products a.infinity_first _ a.s.now _ c.decided.ensures.0 _ c.in-Some.is _ _ c.special.ensures
 
 pub within-requires : goal.within-requires
 within-requires g c =
