@@ -292,7 +292,7 @@ fn check_at(totals: Totals<u64>, of: Of<'_>, allowance: u64, pass: Option<&Pass>
     assert_eq!(estimate.full(), None);
 }
 
-/// Every allowance from 1 to one more than the passes, or the first and the last ones of a long chain, and the greatest.
+/// Every allowance from 1 to one more than the passes, or the first and the last ones of a long chain and its thousandth, and the greatest.
 fn check(totals: Totals<u64>, of: Of<'_>) {
     let record = of.plain(totals).unwrap();
     let terms = of.terms(totals).unwrap_or_default();
@@ -300,7 +300,7 @@ fn check(totals: Totals<u64>, of: Of<'_>) {
     assert_eq!(record.passes, passes.len() as u64, "{totals:?} {of:?}");
     let last_edge = passes.last().map_or(0, |pass| pass.edge);
     let end = record.passes + 1;
-    let long = |k: &u64| *k <= 4 || *k + 4 > end;
+    let long = |k: &u64| *k <= 4 || *k == 1_000 || *k + 4 > end;
     let is_narrow = terms.iter().all(|term| term.exponent.abs() < 1 << 17);
     for allowance in (1..=end).filter(long).chain([u64::MAX]) {
         let pass = if allowance < record.passes {
