@@ -293,7 +293,8 @@ entry-number false true x old h = refl
 entry-number false false x old h = go (eqb x.refusal 0) (eqb→eq x.refusal 0)
   where
     go : (t : Bool) → (T t → x.refusal ≡ 0)
-        → (cond {A = Entry} t (record { code = 0; buffer = filled (to_bytes 8 x.number) old }) (record { code = x.refusal + 256 * x.place; buffer = old })).code % 256 ≡ x.refusal
+        → (cond {A = Entry} t (record { code = 0; buffer = filled (to_bytes 8 x.number) old })
+        (record { code = x.refusal + 256 * x.place; buffer = old })).code % 256 ≡ x.refusal
     go true e = sym (e tt)
     go false e = omega (arith, h)
 

@@ -10,7 +10,8 @@ use Rattle.totals_spec.specs.Terms.{Item, Term, terms}
 use Rattle.totals_spec.specs.Chain.{Boundary, no_boundary, boundary}
 use Rattle.totals_spec.specs.Totals.{Answer, is_square, pairs}
 use Rattle.further_spec.specs.Several.{reading_with, rounded_into, printed, printed_items, target_refusal, target_answer}
-use Rattle.further_spec.specs.Contribution.{rank_of, number_at, first_rank, last_rank, rank_with, reaches, least_rank, found, contribution_refusal, contribution}
+use Rattle.further_spec.specs.Contribution.{rank_of, number_at, first_rank, last_rank, rank_with, reaches, least_rank, found}
+use Rattle.further_spec.specs.Contribution.{contribution_refusal, contribution}
 use Rattle.further_spec.specs.Estimate.{pass_of, position_of, unit_of, unfinished_at, within, allowed, sum_within, dot_within}
 use Rattle.totals_spec.specs.Promises.{naming_own, naming_none}
 use Rattle.further_spec.specs.Promises.{Named-own}

@@ -12,8 +12,10 @@ use lib.Ieee.{size}
 use lib.Ieee.Digits.{size-lt, size_reaches, size-le}
 use borrow.Author.Tests.{ltb-true, ltb-false, leb-true, leb-false, eqb-false, le-ltb, le-leb, ne_eqb}
 use Rattle.totals_spec.specs.Basics.{flag}
-use Rattle.totals_spec.specs.Settings.{Rounding, ties_to_even, ties_to_away, ties_toward_zero, toward_positive, toward_negative, toward_zero, away_from_zero, to_odd}
-use Rattle.totals_spec.specs.Round.{Dropped, nothing, below_half, at_half, above_half, compared, dropped, inexact, is_half, is_above, odd, rounds_up, rounded_at}
+use Rattle.totals_spec.specs.Settings.{Rounding, ties_to_even, ties_to_away, ties_toward_zero, toward_positive, toward_negative}
+use Rattle.totals_spec.specs.Settings.{toward_zero, away_from_zero, to_odd}
+use Rattle.totals_spec.specs.Round.{Dropped, nothing, below_half, at_half, above_half, compared, dropped, inexact, is_half, is_above, odd}
+use Rattle.totals_spec.specs.Round.{rounds_up, rounded_at}
 use Rattle.totals_spec.specs.Round.{last_place}
 use Rattle.totals_spec.proofs.Bits.{pow-split}
 

@@ -21,7 +21,8 @@ use Rattle.totals_spec.specs.Side.{side_of, rounded_side}
 use Rattle.totals_spec.specs.Terms.{Item, Term, item, terms, exact_sum, plus_sum, minus_sum}
 use Rattle.totals_spec.specs.Chain.{zero_sum, Run, chain}
 use Rattle.totals_spec.specs.Round.{overflow, finished, tiny_sum, round_to, round}
-use Rattle.totals_spec.specs.Totals.{Answer, special, reported, finite_total, on_grid, sum_rounded, towards_negative, limit, stray, sum_refusal, sum_terms, refuse_if}
+use Rattle.totals_spec.specs.Totals.{Answer, special, reported, finite_total, on_grid, sum_rounded, towards_negative, limit, stray}
+use Rattle.totals_spec.specs.Totals.{sum_refusal, sum_terms, refuse_if}
 use Rattle.totals_spec.specs.Pence.{not_number}
 use Rattle.further_spec.specs.Several.{reading_with, with_reading, unrounded_total, exact_total, target_grid, on_target, rounded_into, printed, printed_items}
 use Rattle.further_spec.specs.Several.{target_refusal, target_answer}
@@ -180,7 +181,8 @@ unfolding printed_items printed special difference plus_sum minus_sum side_of ra
 printed-side f t c sub l b = go (terms l) (zero_for c l)
   where
     go : (ts : List Term) (minus : Bool) → SideAt t (target_grid f t) (on_target f t (exact_sum ts))
-        (cond (any (λ x. true) ts) (printed f t sub (exact_sum ts) (rounded_into f t c (exact_sum ts)) (chain (digits f) ts)) (special t sub (zero_of minus) false))
+        (cond (any (λ x. true) ts) (printed f t sub (exact_sum ts) (rounded_into f t c (exact_sum ts)) (chain (digits f) ts))
+        (special t sub (zero_of minus) false))
     go [] minus = unfold printed special difference plus_sum minus_sum side_of raised in
         rw (zero-mul (2 ^ (depth t + fall f false)))
         (back-zero t b (λ (v : Unpacked). side_of 0 v (record { neg = false; mag = 0 }) ≡ side_of (target_grid f t) v (record { neg = false; mag = 0 }))

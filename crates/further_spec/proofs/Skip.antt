@@ -19,7 +19,8 @@ use Rattle.totals_spec.proofs.Bits.{size_none, pow-split, multiple-mod}
 use Rattle.totals_spec.specs.Format.{room}
 use Rattle.totals_spec.specs.Terms.{Term, plus_sum, minus_sum}
 use Rattle.totals_spec.proofs.Good.{AllGood}
-use Rattle.totals_spec.specs.Chain.{lost_end, lost_of, cut_plus, cut_minus, look_at, Boundary, no_boundary, boundary, boundary_plus, boundary_minus, next, decide}
+use Rattle.totals_spec.specs.Chain.{lost_end, lost_of, cut_plus, cut_minus, look_at, Boundary, no_boundary, boundary, boundary_plus}
+use Rattle.totals_spec.specs.Chain.{boundary_minus, next, decide}
 use Rattle.totals_spec.specs.Chain.{sum_of, pass}
 use Rattle.totals_spec.proofs.Limit.{fair-look}
 use Rattle.totals_spec.proofs.Margin.{terms-max}

@@ -10,7 +10,8 @@ use lib.ListN.{length}
 use lib.Pow.{pow_pos, pow_mono}
 use Rattle.totals_spec.specs.Basics.{Signed, plus_of, minus_of, difference, raised, is_set, total, greatest}
 use Rattle.totals_spec.specs.Terms.{Term, plus_sum, minus_sum, top_of, exact_sum}
-use Rattle.totals_spec.specs.Chain.{look_at, lost_of, cut_plus, cut_minus, Boundary, no_boundary, boundary, boundary_plus, boundary_minus, Step, done, next, sum_of}
+use Rattle.totals_spec.specs.Chain.{look_at, lost_of, cut_plus, cut_minus, Boundary, no_boundary, boundary, boundary_plus, boundary_minus}
+use Rattle.totals_spec.specs.Chain.{Step, done, next, sum_of}
 use Rattle.totals_spec.specs.Chain.{pass, follow, run, chain}
 use Rattle.totals_spec.specs.Limit.{bottom_of, ceil_div}
 use Rattle.totals_spec.specs.Promises.{Finished}

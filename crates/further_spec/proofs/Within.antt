@@ -22,12 +22,14 @@ use Rattle.totals_spec.specs.Nan.{select_all}
 use Rattle.totals_spec.specs.Terms.{Term, item, pair_item, term_of, top_of}
 use Rattle.totals_spec.specs.Chain.{Look, look_at, half, residue, signed_from, wrapped, Boundary, no_boundary, boundary, sum_of, chain}
 use Rattle.totals_spec.specs.Limit.{most_passes}
-use Rattle.totals_spec.specs.Totals.{Answer, refused, special, reported, answered, is_square, is_value, stray, first_index, sum_refusal, sum_terms, sum_accepted}
+use Rattle.totals_spec.specs.Totals.{Answer, refused, special, reported, answered, is_square, is_value, stray, first_index, sum_refusal}
+use Rattle.totals_spec.specs.Totals.{sum_terms, sum_accepted}
 use Rattle.totals_spec.specs.Totals.{sum_answer, pairs, operands, dot_refusal, dot_terms, dot_place, dot_accepted, dot_answer, refuse_if}
 use Rattle.totals_spec.specs.Rearranged.{same_pair}
 use Rattle.totals_spec.specs.Places.{StrayAt, DotStrayAt}
 use Rattle.further_spec.specs.Conditions.{NoAllowance}
-use Rattle.further_spec.specs.Estimate.{Estimate, pass_of, full, position_of, whole_of, sign_of, unit_of, unfinished_at, within, allowed, sum_within, dot_within}
+use Rattle.further_spec.specs.Estimate.{Estimate, pass_of, full, position_of, whole_of, sign_of, unit_of, unfinished_at, within, allowed}
+use Rattle.further_spec.specs.Estimate.{sum_within, dot_within}
 use Rattle.further_spec.specs.Estimate.{shown, widest}
 use Rattle.totals_spec.specs.Promises.{FieldsFit}
 use Rattle.further_spec.specs.Promises.{Unfinished, NearSum, EstimateFits, Within-in-time, Within-limit, Within-same, Within-unfinished, Within-near}

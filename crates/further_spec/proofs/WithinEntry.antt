@@ -220,7 +220,8 @@ short-found : (old : List ℕ) → T (short144 old) ↔ Short144 old
 short-found old = ((λ t. omega (arith, ltb→lt (length old) 144 t)), λ h. lt→ltb (length old) 144 (omega (arith, h)))
 
 entry-tests : {A : Type 0} {l : List Condition} {m : ℕ} (odd : Bool) (old : List ℕ) (k named : ℕ) (b : ℤ) → T odd ↔ A → Tests l m
-    → Tests (within_entry_conditions A old k named b l) (refuse_if odd 1 (refuse_if (short144 old) 2 (refuse_if (eqb k 0) 16 (refuse_if (misnamed named b) 3 m))))
+    → Tests (within_entry_conditions A old k named b l) (refuse_if odd 1
+    (refuse_if (short144 old) 2 (refuse_if (eqb k 0) 16 (refuse_if (misnamed named b) 3 m))))
 entry-tests odd old k named b t h =
     test odd t (test (short144 old) (short-found old) (test (eqb k 0) (no-allowance k) (test (misnamed named b) (misnamed-found named b) h)))
 

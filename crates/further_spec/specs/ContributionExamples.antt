@@ -14,7 +14,8 @@ use Rattle.totals_spec.specs.Nan.{default_nan_of, select_all}
 use Rattle.totals_spec.specs.Side.{leans_of, side_of}
 use Rattle.totals_spec.specs.Totals.{special, sum_rounded, reported, finite_total, without_nan, accepted, sum_refusal, sum_accepted, sum_answer}
 use Rattle.totals_spec.specs.Bytes.{Entry}
-use Rattle.further_spec.specs.Contribution.{rank_of, number_at, first_rank, last_rank, rank_with, reaches, least_rank, Contribution, found, contribution_refusal}
+use Rattle.further_spec.specs.Contribution.{rank_of, number_at, first_rank, last_rank, rank_with, reaches, least_rank, Contribution, found}
+use Rattle.further_spec.specs.Contribution.{contribution_refusal}
 use Rattle.further_spec.specs.Contribution.{contribution, contribution_entry}
 use Rattle.totals_spec.specs.Careers.{binary16, half16}
 use Rattle.totals_spec.specs.MirrorExamples.{with}

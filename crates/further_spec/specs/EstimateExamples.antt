@@ -13,7 +13,8 @@ use Rattle.totals_spec.specs.Round.{dropped, rounded_at, overflows, largest, ove
 use Rattle.totals_spec.specs.Encode.{encode}
 use Rattle.totals_spec.specs.Side.{leans_of, side_of}
 use Rattle.totals_spec.specs.Nan.{default_nan_of, select_all}
-use Rattle.totals_spec.specs.Totals.{special, reported, sum_rounded, finite_total, without_nan, accepted, sum_refusal, sum_accepted, sum_answer, sum_terms, dot_refusal}
+use Rattle.totals_spec.specs.Totals.{special, reported, sum_rounded, finite_total, without_nan, accepted, sum_refusal, sum_accepted}
+use Rattle.totals_spec.specs.Totals.{sum_answer, sum_terms, dot_refusal}
 use Rattle.totals_spec.specs.Totals.{dot_place, dot_accepted, dot_answer}
 use Rattle.totals_spec.specs.Bytes.{values_in, Entry}
 use Rattle.totals_spec.specs.Pages.{value_bytes}

@@ -1,13 +1,15 @@
 -- THE PROMISES of A.12 to A.14, as statements about the definitions. The file of the same name in `proofs/` proves each, under the same name in small letters.
 -- Those of all else are in `totals_spec`.
-use Rattle.std.specs.Prelude.{◌≡◌, ◌≢◌, ◌↔◌, ◌⊎◌, Bool, true, false, ◌||◌, List, [], ◌∷◌, ◌++◌, map, ℕ, ◌+◌, ◌*◌, ◌-◌, ◌%◌, ◌^◌, ◌≤◌, ◌<◌, length, replicate, take, drop, get_or, ℤ, nat_abs, T as Holds, eqb}
+use Rattle.std.specs.Prelude.{◌≡◌, ◌≢◌, ◌↔◌, ◌⊎◌, Bool, true, false, ◌||◌, List, [], ◌∷◌, ◌++◌, map, ℕ, ◌+◌, ◌*◌, ◌-◌, ◌%◌, ◌^◌, ◌≤◌, ◌<◌}
+use Rattle.std.specs.Prelude.{length, replicate, take, drop, get_or, ℤ, nat_abs, T as Holds, eqb}
 use Rattle.totals_spec.specs.Basics.{Signed, plus_of, minus_of, raised, any}
 use Rattle.totals_spec.specs.Format.{Format, valid_format, digits, origin, fall, grid}
 use Rattle.totals_spec.specs.Settings.{Settings, valid_settings, value, summand_of}
 use Rattle.totals_spec.specs.Decode.{decode, is_nan, is_subnormal}
 use Rattle.totals_spec.specs.Terms.{Term, item, exact_sum}
 use Rattle.totals_spec.specs.Chain.{half, signed_from, chain}
-use Rattle.totals_spec.specs.Totals.{limit, stray, Answer, refused, sum_rounded, on_grid, towards_negative, is_square, pairs, sum_refusal, sum_terms, sum_answer}
+use Rattle.totals_spec.specs.Totals.{limit, stray, Answer, refused, sum_rounded, on_grid, towards_negative, is_square, pairs, sum_refusal}
+use Rattle.totals_spec.specs.Totals.{sum_terms, sum_answer}
 use Rattle.totals_spec.specs.Totals.{dot_refusal, dot_terms, dot_answer}
 use Rattle.totals_spec.specs.Bytes.{from_bytes, values_in, uneven, sum_entry, dot_entry}
 use Rattle.totals_spec.specs.Rearranged.{AsOften, same_pair, holds_nan}
@@ -81,7 +83,8 @@ Target-exact = (f : Format) (d : ℕ) (l : List ℕ) (t : Format) (c : Settings)
     → AllFinite f l
     × (0 < length (sum_terms f (reading_with d) value l)
     → target_answer f d l t c
-    ≡ printed f t (any (is_subnormal f) l) (exact_total f d l) (rounded_into f t c (exact_total f d l)) (chain (digits f) (sum_terms f (reading_with d) value l)))
+    ≡ printed f t (any (is_subnormal f) l) (exact_total f d l) (rounded_into f t c (exact_total f d l))
+    (chain (digits f) (sum_terms f (reading_with d) value l)))
 
 -- without a term the record is that of a zero, by the listed zeros and the target's mode
 abbrev pub Target-zeros : Type 0

@@ -11,7 +11,8 @@ use Rattle.totals_spec.specs.Chain.{Run, chain}
 use Rattle.totals_spec.specs.Round.{Rounded}
 use Rattle.totals_spec.specs.Encode.{encode}
 use Rattle.totals_spec.specs.Side.{side_of}
-use Rattle.totals_spec.specs.Totals.{Answer, refused, special, sum_rounded, towards_negative, zero_sign, stray, limit, refuse_if, first_index, answered, sum_terms}
+use Rattle.totals_spec.specs.Totals.{Answer, refused, special, sum_rounded, towards_negative, zero_sign, stray, limit, refuse_if}
+use Rattle.totals_spec.specs.Totals.{first_index, answered, sum_terms}
 use Rattle.totals_spec.specs.Settled.{settled}
 use Rattle.totals_spec.specs.Bytes.{to_bytes, values_in, Entry, written, uneven}
 use Rattle.totals_spec.specs.Pence.{not_number}

@@ -1,5 +1,7 @@
 -- A term's words added in place to a window, and what the carry out of them says.
-use Rattle.std.proofs.Common.{◌≡◌, ℕ, ◌+◌, ◌-◌, ◌*◌, ◌%◌, ◌^◌, ◌<◌, ◌≤◌, Bool, true, false, cond, eqb, ltb, List, get_or, set, sym, refl, ap, ◌∙◌, add-zero, mod-eq_of_lt, one-mul, zero-add, zero-mul, sub-add_cancel, arith, get_or-set_other, pow_pos, pow-add, ltb-false, eqb-true}
+use Rattle.std.proofs.Common.{◌≡◌, ℕ, ◌+◌, ◌-◌, ◌*◌, ◌%◌, ◌^◌, ◌<◌, ◌≤◌, Bool, true, false, cond, eqb, ltb, List, get_or, set, sym, refl}
+use Rattle.std.proofs.Common.{ap, ◌∙◌, add-zero, mod-eq_of_lt, one-mul, zero-add, zero-mul, sub-add_cancel, arith, get_or-set_other}
+use Rattle.std.proofs.Common.{pow_pos, pow-add, ltb-false, eqb-true}
 use native.Mathlib.Nat.{add-mod-mod, mod-mod}
 use borrow.Author.Tests.{eqb-false}
 use Rattle.limbs.specs.declared.word.Sum.{Sum}

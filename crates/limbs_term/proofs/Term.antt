@@ -1,5 +1,6 @@
 -- A term's words after its shift, and their complement.
-use Rattle.std.proofs.Common.{◌≡◌, ℕ, ◌+◌, ◌-◌, ◌*◌, ◌%◌, ◌^◌, ◌<◌, ◌≤◌, Bool, true, false, cond, sym, refl, ap, ◌∙◌, mod-eq_of_lt, mul_assoc, add-mul, add_comm, zero-add, arith, pow-add}
+use Rattle.std.proofs.Common.{◌≡◌, ℕ, ◌+◌, ◌-◌, ◌*◌, ◌%◌, ◌^◌, ◌<◌, ◌≤◌, Bool, true, false, cond, sym, refl, ap, ◌∙◌, mod-eq_of_lt}
+use Rattle.std.proofs.Common.{mul_assoc, add-mul, add_comm, zero-add, arith, pow-add}
 use lib.Bits.{bit_xor, bit_and, xor_zero_r, xor_add_and, and_mask}
 use Rattle.limbs.specs.declared.word.Place.{Place}
 use Rattle.limbs.specs.Splits.{Splits}

@@ -1,5 +1,6 @@
 -- A term's words within a window.
-use Rattle.std.proofs.Common.{◌≡◌, ℕ, ◌+◌, ◌-◌, ◌*◌, ◌%◌, ◌^◌, ◌<◌, ◌≤◌, Bool, true, false, sym, ap, ◌∙◌, lt_of_lt_of_le, mul-le-mul_right, mod-eq_of_lt, mul-lt-mul_of_pos_right, zero-add, arith, lit<, lit≤, pow_pos, pow_mono, pow-add}
+use Rattle.std.proofs.Common.{◌≡◌, ℕ, ◌+◌, ◌-◌, ◌*◌, ◌%◌, ◌^◌, ◌<◌, ◌≤◌, Bool, true, false, sym, ap, ◌∙◌, lt_of_lt_of_le, mul-le-mul_right}
+use Rattle.std.proofs.Common.{mod-eq_of_lt, mul-lt-mul_of_pos_right, zero-add, arith, lit<, lit≤, pow_pos, pow_mono, pow-add}
 use Rattle.limbs.proofs.Step.{wrapped, far}
 use Rattle.limbs_term.specs.declared.Laid.{Laid}
 use Rattle.limbs_term.specs.declared.Placed.{Placed}

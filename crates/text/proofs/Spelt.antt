@@ -64,7 +64,8 @@ tenth x k h = (div-lt_iff_lt-mul {k = 10} (omega arith)).1 (subst (λ (n : ℕ).
 
 one-digit : (x k : ℕ) → x < 10 → IsDigitCount 10 1 x k → (x + 48) ∷ [] ≡ last_digits 10 k x
 one-digit x k h f =
-    ap (λ (b : ℕ). b ∷ []) (sym (ap hex_digit_ascii (mod-eq_of_lt h) ∙ digit-is x h)) ∙ ap (λ (n : ℕ). last_digits 10 n x) (sym (fewest-least 10 1 x k (omega arith) h f))
+    ap (λ (b : ℕ). b ∷ []) (sym (ap hex_digit_ascii (mod-eq_of_lt h) ∙ digit-is x h))
+    ∙ ap (λ (n : ℕ). last_digits 10 n x) (sym (fewest-least 10 1 x k (omega arith) h f))
 
 -- the digits in front of the last
 fewer : (x j : ℕ) → IsDigitCount 10 1 x (suc (suc j)) → IsDigitCount 10 1 (x / 10) (suc j)

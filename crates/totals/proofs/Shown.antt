@@ -39,7 +39,8 @@ module _ (f : Format) (products : Bool) (ts : List Term) (k : ℕ) (t : Answer) 
   full-shown n w h = ap full (rw n at h.0) ∙ sym (in-time h.1)
 
   -- and one that does not
-  pub stopped-shown : (r : Stopped) → Within f t ts k (Err r) → seen_at f products k (boundary_of r.boundary) r.sum.place (signed_of r.sum) ≡ within f products ts k t
+  pub stopped-shown : (r : Stopped) → Within f t ts k (Err r)
+      → seen_at f products k (boundary_of r.boundary) r.sum.place (signed_of r.sum) ≡ within f products ts k t
   unfolding unfinished_at
   stopped-shown r h =
       let s = h.0.stands in

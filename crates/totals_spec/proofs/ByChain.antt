@@ -67,7 +67,8 @@ dot-few f c xs ys e =
     few-terms (pair_item f c) (pairs xs ys) (le_trans (le_of_eq (pairs-length xs ys (dot-lengths f c xs ys e))) (dot-accepts f c xs ys e).few)
 
 pub sum-by-chain : (f : Format) (c : Settings) (u : ℕ) (l : List ℕ) (sub products minus : Bool) → sum_refusal f c u l ≡ 0
-    → chain_total f c sub products minus (terms (map (item f c (summand_of u)) l)) ≡ finite_total f c sub products minus (terms (map (item f c (summand_of u)) l))
+    → chain_total f c sub products minus (terms (map (item f c (summand_of u)) l))
+    ≡ finite_total f c sub products minus (terms (map (item f c (summand_of u)) l))
 sum-by-chain f c u l sub products minus e =
     let a = sum-accepts f c u l e in
     finite-by-chain f c sub products minus _ a.format.range a.settings (good-terms f c (summand_of u) l) (sum-few f c u l e)

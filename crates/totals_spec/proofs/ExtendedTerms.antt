@@ -86,7 +86,8 @@ module _ (b : ℕ) where
   pub operand-decoded : (c : Settings) → Decoded extended (extended_operand c b)
   unfolding extended_operand
   operand-decoded c =
-      decoded-cond (sign_in b) (field_in b) (significand_in b) field_lt significand-lt (is_set c.denormals_are_zero && subnormal_extended b) (zero_of (sign_in b))
+      decoded-cond (sign_in b) (field_in b) (significand_in b) field_lt significand-lt (is_set c.denormals_are_zero && subnormal_extended b)
+      (zero_of (sign_in b))
       (decode_extended b) (λ t. tt) (λ t. extended-decoded)
 
   pub operand-is_nan : (c : Settings) → is_nan (extended_operand c b) ≡ is_nan (decode_extended b)

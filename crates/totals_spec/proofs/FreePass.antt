@@ -53,7 +53,8 @@ module _ (p w P N a c Ra RC : ℕ) (hp : p ≤ 64) (e_p : P ≡ a * 2 ^ w + Ra) 
 
     -- M / 2^r has p + 1 bits
     quotient-big : 2 ^ p ≤ k / 2 ^ (n - p - 1)
-    quotient-big = (le-div_iff_mul-le (pow_pos (n - p - 1))).1 (subst (λ (x : ℕ). x ≤ k) e (size_reaches k (n - 1) (subst (λ (x : ℕ). n - 1 < x) (sym kn) less)))
+    quotient-big = (le-div_iff_mul-le (pow_pos (n - p - 1))).1
+        (subst (λ (x : ℕ). x ≤ k) e (size_reaches k (n - 1) (subst (λ (x : ℕ). n - 1 < x) (sym kn) less)))
       where
         less : n - 1 < n
         less = omega arith
@@ -187,7 +188,8 @@ module _ (p w P N a c Ra RC : ℕ) (hp : p ≤ 64) (e_p : P ≡ a * 2 ^ w + Ra) 
       go true g = free-settle (rests-unit w (suc lost) (Ra + RC) l R) (h (omega arith)) (size k) refl (g tt)
       go false g = record {
         within = close-oriented s P N (3 * 2 ^ (next_edge w (size k) (suc lost) + 765))
-            (next-close w k (cond s N P) (cond s P N) (cond s RC Ra) (cond s Ra RC) sided (size k) (suc lost) (next_edge w (size k) (suc lost) + 765) (size-lt k)
+            (next-close w k (cond s N P) (cond s P N) (cond s RC Ra) (cond s Ra RC) sided (size k) (suc lost) (next_edge w (size k) (suc lost) + 765)
+            (size-lt k)
             (rests-oriented s Ra RC _ R) (omega arith) (omega arith));
         placed = tt;
       }

@@ -127,18 +127,6 @@ halves-written (nan s g m) e =
     fits true = omega (arith, e)
     fits false = omega (arith, e)
 
--- they are a head of 16 bits and a word
-pub halves-fit : (v : Unpacked) → Encodes extended v → (head_of v < 65536) × (significand_of v < 2 ^ 64)
-unfolding extended
-halves-fit (zero_of s) e = (omega (arith, flag-less 32768 s), omega arith)
-halves-fit (finite s k m) e = (go (ltb m (2 ^ 63)), omega (arith, e.1))
-  where
-    go : (t : Bool) → flag 32768 s + cond t 0 (suc k) < 65536
-    go true = omega (arith, flag-less 32768 s)
-    go false = omega (arith, flag-less 32768 s, e.0)
-halves-fit (infinity s) e = (omega (arith, flag-less 32768 s), omega arith)
-halves-fit (nan s g m) e = (omega (arith, flag-less 32768 s), omega (arith, flag-less (2 ^ 62) (not g), e))
-
 -- an answer as four words
 pub four-words : (r : Answer) (old : List ℕ) (h m : ℕ) → r.result ≡ joined h m → h < 65536 → m < 2 ^ 64 → r.flags < 256 → r.side < 4
     → extended_written r old

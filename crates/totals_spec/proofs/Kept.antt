@@ -152,7 +152,8 @@ module _ (p top w : ℕ) (x : Signed) (low : 322 ≤ w) (high : w ≤ top) where
 
 -- ---- every pass of a chain
 
-pub kept-pass : (p : ℕ) (ts : List Term) (b : Boundary) (w : ℕ) → p ≤ 64 → AllGood ts → Kept p (top_of ts) b w → KeptStep p (top_of ts) (pass p b w (look_at ts w))
+pub kept-pass : (p : ℕ) (ts : List Term) (b : Boundary) (w : ℕ) → p ≤ 64 → AllGood ts → Kept p (top_of ts) b w
+    → KeptStep p (top_of ts) (pass p b w (look_at ts w))
 unfolding pass
 kept-pass p ts b w hp g k =
     kept-decide p (top_of ts) w (sum_of b w (look_at ts w)) k.low k.high b (look_at ts w).lost hp k.bound (sum-size b w (look_at ts w))

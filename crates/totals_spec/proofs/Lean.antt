@@ -173,7 +173,8 @@ zero-beside false true = refl
 zero-beside false false = refl
 
 pub sum-leans : (f : Format) (c : Settings) (g : ℕ) (towards : Bool) (x : Signed) → RangeBounds f → 1 ≤ precision_of f c → precision_of f c ≤ digits f
-    → side_of g (decode f (encode f (sum_rounded f c g towards x).value)) x ≡ rounded_side (sum_rounded f c g towards x).value (sum_rounded f c g towards x).flags
+    → side_of g (decode f (encode f (sum_rounded f c g towards x).value)) x
+    ≡ rounded_side (sum_rounded f c g towards x).value (sum_rounded f c g towards x).flags
 unfolding sum_rounded
 sum-leans f c g towards x b q0 qp = go (eqb x.mag 0) refl
   where

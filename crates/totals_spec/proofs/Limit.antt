@@ -247,7 +247,8 @@ pub chain-limit : (p : ℕ) (ts : List Term) → p ≤ 64 → AllGood ts
 unfolding chain
 chain-limit p ts hp g =
     rw one-add
-    (passes-le (look_at ts) p (bottom_of ts) hp (fair-look ts g) (suc (top_of ts)) (ceil_div (top_of ts - 702 - bottom_of ts) (697 - p)) no_boundary (top_of ts - 702)
+    (passes-le (look_at ts) p (bottom_of ts) hp (fair-look ts g) (suc (top_of ts)) (ceil_div (top_of ts - 702 - bottom_of ts) (697 - p)) no_boundary
+    (top_of ts - 702)
     (ceil-enough (top_of ts - 702) (bottom_of ts) (697 - p) wide))
   where
     wide : 0 < 697 - p

@@ -138,13 +138,15 @@ module _ (p w P N a c Ra RC : ℕ) (z : Bool) (m e : ℕ) (hn : Near p w m e (wi
       RO : cond s RC Ra + cond s Ra RC ≤ 0
       RO = rests-oriented s Ra RC 0 R
 
-      flat : k ≡ 0 → cond s (with_minus (boundary z m e) N) (with_plus (boundary z m e) P) ≡ cond s (with_plus (boundary z m e) P) (with_minus (boundary z m e) N)
+      flat : k ≡ 0 → cond s (with_minus (boundary z m e) N) (with_plus (boundary z m e) P)
+          ≡ cond s (with_plus (boundary z m e) P) (with_minus (boundary z m e) N)
       flat q = omega (arith, near-sided, RO, ap (λ (x : ℕ). x * 2 ^ w) q)
 
       level : k ≡ 0 → with_plus (boundary z m e) P ≡ with_minus (boundary z m e) N
       level q = eq-oriented s (with_plus (boundary z m e) P) (with_minus (boundary z m e) N) (flat q)
 
-      apart : 0 < k → cond s (with_plus (boundary z m e) P) (with_minus (boundary z m e) N) < cond s (with_minus (boundary z m e) N) (with_plus (boundary z m e) P)
+      apart : 0 < k → cond s (with_plus (boundary z m e) P) (with_minus (boundary z m e) N)
+          < cond s (with_minus (boundary z m e) N) (with_plus (boundary z m e) P)
       apart q = sign-exact w k _ _ (cond s RC Ra) (cond s Ra RC) near-sided q RO
   near-right (suc lost) R l h = go (leb 66 (size k)) (leb→le 66 (size k)) (nleb→lt 66 (size k))
     where

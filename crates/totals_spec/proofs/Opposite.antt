@@ -115,7 +115,8 @@ module _ (f : Format) (b : RangeBounds f) where
     hm : fraction_of f n < 2 ^ fraction_bits f
     hm = mod-lt n (pow_pos (fraction_bits f))
 
-    flipped : (k : Kind) → (ZeroUnsigned k → n ≡ 0 → ⊥) → T (is_number (decode_fields k f (sign_bit f n) (field_of f n) (fraction_of f n))) → As k (other_sign f n)
+    flipped : (k : Kind) → (ZeroUnsigned k → n ≡ 0 → ⊥) → T (is_number (decode_fields k f (sign_bit f n) (field_of f n) (fraction_of f n)))
+        → As k (other_sign f n)
     flipped k z i = subst (As k) (sym (assembled-other s x m hx hm) ∙ ap (other_sign f) (whole n h)) (record {
       inside = fields_fit f b (not s) x m hx hm;
       value = rw (sign-back f b (not s) x m hx hm, field_back f b (not s) x m hx hm, fraction-back f b (not s) x m hx hm) (fields-opposite f k s x m none i);

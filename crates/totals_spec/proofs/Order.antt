@@ -11,7 +11,8 @@ use Rattle.totals_spec.proofs.Perm.{total-perm, greatest-perm, any-perm, length-
 use Rattle.totals_spec.specs.Format.{Format, valid_format, digits}
 use Rattle.totals_spec.specs.Settings.{Settings, valid_settings, Summand, value, magnitude, square, summand_of}
 use Rattle.totals_spec.specs.Decode.{field_of, sign_bit, Unpacked, zero_of, finite, infinity, nan, decode, is_finite, is_nan, is_subnormal, operand}
-use Rattle.totals_spec.specs.Terms.{Item, Term, item, item_of, pair_item, pair_of, is_nan_item, is_invalid, is_infinite, is_zero, term_of, plus_part, minus_part}
+use Rattle.totals_spec.specs.Terms.{Item, Term, item, item_of, pair_item, pair_of, is_nan_item, is_invalid, is_infinite, is_zero, term_of}
+use Rattle.totals_spec.specs.Terms.{plus_part, minus_part}
 use Rattle.totals_spec.specs.Terms.{plus_sum, minus_sum, top_of_term, top_of}
 use Rattle.totals_spec.specs.Chain.{look_at, cut_plus, cut_minus, lost_of, chain}
 use Rattle.totals_spec.specs.Totals.{is_value, is_square, refuse_if, zero_sign, towards_negative, finite_total, without_nan, accepted, stray, sum_refusal}

@@ -125,7 +125,8 @@ page-length l =
 -- ---- summaries
 
 -- the summary of the group g, among those of k
-summary-at : (k g : ℕ) (l : List ℕ) (r : List ℕ) → g < k → take 12 (drop (12 * g) (summaries_from k l ++ r)) ≡ summary (take group_size (drop (group_size * g) l))
+summary-at : (k g : ℕ) (l : List ℕ) (r : List ℕ) → g < k → take 12 (drop (12 * g) (summaries_from k l ++ r))
+    ≡ summary (take group_size (drop (group_size * g) l))
 summary-at zero g l r h = elim h [ ]
 summary-at (suc k) zero l r h =
     let s = summary (take group_size l) in

@@ -224,7 +224,12 @@ module _ (z : ℕ) (l : List Amount) (few : length l ≤ limit) (each : AllBound
         lower-holds binary64 low.mag low.neg (decode binary64 (lower_total l)) lower-is d (sum_of_amounts xs)
             (omega (arith, low_sums d z l xs a, sum, scaled-parts d (total plus_of (amounts (map low_of l))) (total minus_of (amounts (map low_of l))))),
         upper-holds binary64 high.mag high.neg (decode binary64 (upper_total z l)) upper_is d (sum_of_amounts xs)
-            (omega (arith, high_sums d z l xs a, sum, scaled-parts d (total plus_of (amounts (map (high_of z) l))) (total minus_of (amounts (map (high_of z) l))))),
+            (omega (
+              arith,
+              high_sums d z l xs a,
+              sum,
+              scaled-parts d (total plus_of (amounts (map (high_of z) l))) (total minus_of (amounts (map (high_of z) l))),
+            )),
       )
 
   -- and what encloses every such sum encloses that of the lows and that of the highs, which are allowed themselves

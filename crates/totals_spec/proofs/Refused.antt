@@ -117,7 +117,8 @@ dot-seven f c xs ys e =
 
 pub sum-refusal : Sum-refusal
 unfolding sum_answer
-sum-refusal f c u l = answered-number (sum_refusal f c u l) (first_index (stray f) l) (sum_accepted f c (summand_of u) l) (λ _. sum-unrefused f c (summand_of u) l)
+sum-refusal f c u l = answered-number (sum_refusal f c u l) (first_index (stray f) l) (sum_accepted f c (summand_of u) l)
+    (λ _. sum-unrefused f c (summand_of u) l)
 
 pub dot-refusal : Dot-refusal
 unfolding dot_answer

@@ -54,7 +54,8 @@ NoSide f a = is_number (decode f a.result) ≡ false → a.side ≡ 3
 pub sum-no-side : Sum-no-side
 unfolding sum_answer sum_accepted special reported
 sum-no-side f c u l r =
-    rw r (accepted-has (NoSide f) f c _ (is_square (summand_of u)) (map (item f c (summand_of u)) l) (λ v i e. no_number 0 _ _ e) (λ e. no_number _ _ _ e) _ _ _)
+    rw r (accepted-has (NoSide f) f c _ (is_square (summand_of u)) (map (item f c (summand_of u)) l) (λ v i e. no_number 0 _ _ e)
+    (λ e. no_number _ _ _ e) _ _ _)
 
 pub dot-no-side : Dot-no-side
 unfolding dot_answer dot_accepted special reported

@@ -9,7 +9,8 @@ use borrow.Author.Tests.{ne_eqb}
 use Rattle.totals_spec.specs.Basics.{flag, is_set}
 use Rattle.totals_spec.specs.Format.{Format, Kind, ieee, no_inf, fnuz, finite_only, kind_of, digits, emin_at}
 use Rattle.totals_spec.specs.Settings.{Settings, rounding_of, precision_of}
-use Rattle.totals_spec.specs.Settings.{Rounding, ties_to_even, ties_to_away, ties_toward_zero, toward_positive, toward_negative, toward_zero, away_from_zero, to_odd}
+use Rattle.totals_spec.specs.Settings.{Rounding, ties_to_even, ties_to_away, ties_toward_zero, toward_positive, toward_negative}
+use Rattle.totals_spec.specs.Settings.{toward_zero, away_from_zero, to_odd}
 use Rattle.totals_spec.specs.Decode.{Unpacked, zero_of}
 use Rattle.totals_spec.specs.Round.{Dropped, dropped, inexact, rounds_up, rounded_at, to_infinity, overflows, largest, Rounded, beyond, overflow}
 use Rattle.totals_spec.specs.Round.{stored_as, number_of, finished, tiny_sum, last_place, round_to, round}

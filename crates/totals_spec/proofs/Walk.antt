@@ -38,7 +38,8 @@ module _ {A : Type 0} where
 
   -- one more element
   pub any-take : (f : A → Bool) (l : List A) (i : ℕ) (d : A) → i < length l → any f (take (suc i) l) ≡ (any f (take i l) || f (get_or l i d))
-  any-take f l i d h = ap (any f) (take-suc l i d h) ∙ any_append f (take i l) (get_or l i d ∷ []) ∙ ap (λ b. any f (take i l) || b) (or-false (f (get_or l i d)))
+  any-take f l i d h = ap (any f) (take-suc l i d h) ∙ any_append f (take i l) (get_or l i d ∷ [])
+      ∙ ap (λ b. any f (take i l) || b) (or-false (f (get_or l i d)))
     where
       or-false : (b : Bool) → (b || false) ≡ b
       or-false true = refl

@@ -2,7 +2,8 @@
 -- The numbers of X87 are those of an Ieee format with E = 15 and 64 digits, `extended`: bias, emin, emax, infinities and rounding are that format's, and so
 -- are terms and passes. Only the encodings differ. There the leading bit of a significand is written out, so that some encodings stand for nothing, and some
 -- numbers have two.
-use Rattle.std.specs.Prelude.{ℕ, zero, suc, ◌+◌, ◌-◌, ◌*◌, ◌/◌, ◌%◌, ◌^◌, Bool, true, false, not, ◌&&◌, ◌||◌, cond, List, [], ◌∷◌, ◌++◌, map, length, drop, leb, ltb, eqb, ℤ}
+use Rattle.std.specs.Prelude.{ℕ, zero, suc, ◌+◌, ◌-◌, ◌*◌, ◌/◌, ◌%◌, ◌^◌, Bool, true, false, not, ◌&&◌, ◌||◌, cond, List, [], ◌∷◌, ◌++◌}
+use Rattle.std.specs.Prelude.{map, length, drop, leb, ltb, eqb, ℤ}
 use Rattle.std.proofs.Math.Option.{Option, none, some}
 use Rattle.totals_spec.specs.Basics.{flag, is_set, any}
 use Rattle.totals_spec.specs.Format.{Format}

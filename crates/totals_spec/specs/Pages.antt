@@ -1,7 +1,8 @@
 -- Career pages (document 02, A.8 and A.9), as bytes: the values, binary64, eight bytes each; right behind them a summary of each group of 64 values, of which
 -- the last may have fewer; at the end a trailer, short or long by the number of values. Numbers lie little end first. What opens is what would be written:
 -- the page of the values that it holds.
-use Rattle.std.specs.Prelude.{ℕ, zero, suc, ◌+◌, ◌-◌, ◌*◌, ◌^◌, Bool, true, false, not, ◌&&◌, ◌||◌, cond, List, [], ◌∷◌, ◌++◌, map, length, take, drop, leb, ltb, eqb}
+use Rattle.std.specs.Prelude.{ℕ, zero, suc, ◌+◌, ◌-◌, ◌*◌, ◌^◌, Bool, true, false, not, ◌&&◌, ◌||◌, cond, List, [], ◌∷◌, ◌++◌, map, length}
+use Rattle.std.specs.Prelude.{take, drop, leb, ltb, eqb}
 use Rattle.totals_spec.specs.Basics.{flag, any, same_list}
 use Rattle.totals_spec.specs.Format.{binary64, origin}
 use Rattle.totals_spec.specs.Settings.{Settings, no_settings, value}

@@ -1,6 +1,7 @@
 -- THE PROMISES, as statements about the definitions. The file of the same name in `proofs/` proves each, under the same name in small letters.
 -- The contracts of the code say that its answers are what the definitions give.
-use Rattle.std.specs.Prelude.{◌≡◌, ◌≢◌, ◌↔◌, ◌⊎◌, Bool, true, false, ◌&&◌, ◌||◌, cond, List, [], ◌∷◌, ◌++◌, map, ℕ, ◌+◌, ◌*◌, ◌-◌, ◌/◌, ◌%◌, ◌^◌, ◌≤◌, ◌<◌, max, length, replicate, take, drop, get_or, ℤ, pos, T as Holds, leb, ltb, eqb}
+use Rattle.std.specs.Prelude.{◌≡◌, ◌≢◌, ◌↔◌, ◌⊎◌, Bool, true, false, ◌&&◌, ◌||◌, cond, List, [], ◌∷◌, ◌++◌, map, ℕ, ◌+◌, ◌*◌, ◌-◌, ◌/◌, ◌%◌}
+use Rattle.std.specs.Prelude.{◌^◌, ◌≤◌, ◌<◌, max, length, replicate, take, drop, get_or, ℤ, pos, T as Holds, leb, ltb, eqb}
 use Rattle.std.proofs.Math.Option.{none, some}
 use Rattle.std.proofs.Math.IntN.{sub_ℕ}
 use Rattle.std.specs.Float.Ieee.{size}
@@ -225,7 +226,8 @@ Sum-exact = (f : Format) (c : Settings) (u : ℕ) (l : List ℕ) → sum_refusal
     → 0 < length (sum_terms f c (summand_of u) l)
     → sum_answer f c u l
     ≡ reported f (any (is_subnormal f) l) (is_square (summand_of u)) (on_grid f (is_square (summand_of u)) (exact_sum (sum_terms f c (summand_of u) l)))
-    (sum_rounded f c (grid f (is_square (summand_of u))) (towards_negative c) (on_grid f (is_square (summand_of u)) (exact_sum (sum_terms f c (summand_of u) l))))
+    (sum_rounded f c (grid f (is_square (summand_of u))) (towards_negative c)
+    (on_grid f (is_square (summand_of u)) (exact_sum (sum_terms f c (summand_of u) l))))
     (chain (digits f) (sum_terms f c (summand_of u) l))
 
 abbrev pub Dot-exact : Type 0

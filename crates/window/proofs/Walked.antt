@@ -37,7 +37,8 @@ total-seen p ts b w q i h = vanishes b w _ _ p (chain.look_at ts w) i.placed ∙
   where
     free : chain.sum_of chain.no_boundary w (chain.look_at ts w) ≡ total_of q
     free = unfold chain.sum_of chain.wrapped in
-        ap₂ (λ (x y : ℕ). chain.signed_from chain.half (chain.residue chain.half x y)) (add-zero (chain.look_at ts w).plus) (add-zero (chain.look_at ts w).minus)
+        ap₂ (λ (x y : ℕ). chain.signed_from chain.half (chain.residue chain.half x y)) (add-zero (chain.look_at ts w).plus)
+        (add-zero (chain.look_at ts w).minus)
         ∙ ap (chain.signed_from chain.half) (sym h.total)
 
 -- so what the code decides by is the pass of the definitions
