@@ -16,7 +16,7 @@ ghost use Rattle.totals.specs.Estimates.{seen_at, estimate_of, estimate_in, Made
 
 use crate::lists::{dot_in, sum_in};
 use crate::refusal::{Refusal, dot_refusal, refuse_if, sum_refusal};
-use crate::stray::find_stray;
+use crate::stray::no_stray;
 use arithmetic::summand::Summand;
 use format::Format;
 use format::env::Settings;
@@ -98,9 +98,7 @@ fn list_sum<E: Elements>(
     requires { (sum_numbers (layout_of f) (env_of c) (summand_number u) (length (E.list elements)) ≡ 0) × (0 < allowance) }
     ensures { estimate_in result ≡ spec.within (layout_of f) (totals.is_square (summand_in u)) (totals.sum_terms (layout_of f) (env_of c) (summand_in u) (E.list elements)) allowance (totals.sum_answer (layout_of f) (env_of c) (summand_number u) (E.list elements)) }
 {
-    if let Some(i) = find_stray(f.shape.width, &elements) {
-        return Err(Refusal::StrayBit(i));
-    }
+    no_stray(f.shape.width, &elements)?;
     let numbers = Encoded {
         layout: f,
         elements,
@@ -120,13 +118,8 @@ fn list_dot<E: Elements>(
     requires { (dot_numbers (layout_of f) (env_of c) (length (E.list left)) (length (E.list right)) ≡ 0) × (0 < allowance) }
     ensures { estimate_in result ≡ spec.within (layout_of f) true (totals.dot_terms (layout_of f) (env_of c) (E.list left) (E.list right)) allowance (totals.dot_answer (layout_of f) (env_of c) (E.list left) (E.list right)) }
 {
-    let width = f.shape.width;
-    if let Some(i) = find_stray(width, &left) {
-        return Err(Refusal::StrayBit(i));
-    }
-    if let Some(i) = find_stray(width, &right) {
-        return Err(Refusal::StrayBit(i));
-    }
+    no_stray(f.shape.width, &left)?;
+    no_stray(f.shape.width, &right)?;
     let x = Encoded {
         layout: f,
         elements: left,

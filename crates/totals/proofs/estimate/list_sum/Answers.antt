@@ -1,5 +1,6 @@
 -- By the search for a stray bit.
 use Rattle.std.proofs.Common.{◌≡◌, ◌∙◌, rules}
+use Rattle.std.proofs.lemmas.Result.{err_from_is_err_and}
 use Rattle.format.proofs.Layouts.{layout_bounds}
 use Rattle.totals_spec.proofs.Accepts.{sum-accepts}
 use Rattle.reduction.proofs.Items.{sum-summable}
@@ -13,22 +14,25 @@ use Rattle.totals_spec.specs.Totals.{is_square}
 use Rattle.arithmetic.specs.Summands.{summand_in}
 use Rattle.totals.proofs.estimate.list_sum.Goals as goal
 
-pub returns-in-Some : goal.returns-in-Some
-returns-in-Some g c = refused-shown _ _ _ _ _ (rw c.in-Some.ensures.1 at (sum-strayed _ _ _ _ c.requires.0 c.in-Some.ensures.0))
+pub returns-in_err-no_stray : goal.returns-in_err-no_stray
+returns-in_err-no_stray g c =
+    let p = err_from_is_err_and c.from_residual.result c.from_residual.ensures.1 in
+    let (some, is) = c.in_err-no_stray.ensures {u = tt} in
+    rw (p.1, p.2, is) (refused-shown _ _ _ _ _ (sum-strayed _ _ _ _ c.requires.0 some))
 
 pub sum_in-total-requires-clause-known : goal.sum_in-total-requires-clause-known
 sum_in-total-requires-clause-known g c =
-    let a = sum-accepts _ _ _ _ (sum-unstrayed _ _ _ _ c.requires.0 c.in_default.ensures) in
+    let a = sum-accepts _ _ _ _ (sum-unstrayed _ _ _ _ c.requires.0 (c.in_ok-no_stray.ensures {u = tt})) in
     (narrow-known _ (layout_bounds c.args.f), a.settings, c.requires.1)
 
 pub sum_in-total-requires-clause-summable : goal.sum_in-total-requires-clause-summable
 sum_in-total-requires-clause-summable g c =
-    let a = sum-accepts _ _ _ _ (sum-unstrayed _ _ _ _ c.requires.0 c.in_default.ensures) in
+    let a = sum-accepts _ _ _ _ (sum-unstrayed _ _ _ _ c.requires.0 (c.in_ok-no_stray.ensures {u = tt})) in
     sum-summable c.args.f _ _ _ a.few
 
 pub returns : goal.returns
 unfolding item
 returns g c =
     let square : c.eq.result ≡ is_square (summand_in c.args.u) = search rules in
-    let total = sum-is c.args.f _ _ _ ∙ rw (summand-is c.args.u) at (sum-told _ _ _ _ c.requires.0 c.in_default.ensures) in
+    let total = sum-is c.args.f _ _ _ ∙ rw (summand-is c.args.u) at (sum-told _ _ _ _ c.requires.0 (c.in_ok-no_stray.ensures {u = tt})) in
     told-as _ _ _ square total (c.told.ensures _ _ c.sum_in-total.ensures)
