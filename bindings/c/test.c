@@ -3221,7 +3221,308 @@ static void within_of_no_list(void)
     munmap(unread, 8 * (most + 2));
 }
 
-/* Words, pence, tables, targets and allowances have no kind 4, however many there are. */
+/* A contribution lies at an odd address, with bytes behind it. */
+#define CONTRIBUTION_ROOM (TOTALS_CONTRIBUTION_ANSWER_BYTES + 8)
+
+static uint8_t contribution_answer[1 + CONTRIBUTION_ROOM];
+
+static uint64_t contribute(totals_format f, const totals_settings *c, uint64_t wanted, const uint64_t *list, size_t count, size_t room)
+{
+    memset(contribution_answer, UNTOUCHED, sizeof contribution_answer);
+    return totals_contribution(f.kind, f.exponent_bits, f.width, f.bias_named, f.bias, c->rounding, c->tininess, c->nan_propagation,
+                               c->default_nan_negative, c->flush_to_zero, c->denormals_are_zero, c->saturate, c->precision, wanted, list,
+                               count, contribution_answer + 1, room);
+}
+
+static int nothing_contributed(void)
+{
+    return are_untouched(contribution_answer, 0, sizeof contribution_answer);
+}
+
+static int contributed(uint64_t number)
+{
+    uint8_t bytes[TOTALS_CONTRIBUTION_ANSWER_BYTES];
+    put(bytes, sizeof bytes, number);
+    return memcmp(contribution_answer + 1, bytes, sizeof bytes) == 0 && contribution_answer[0] == UNTOUCHED
+           && are_untouched(contribution_answer, 1 + sizeof bytes, sizeof contribution_answer);
+}
+
+/* The entry and the inline function: a number where the code is TOTALS_ACCEPTED, and else the code and nothing beside it. */
+static int contribution_is(totals_format f, const totals_settings *c, const uint64_t *list, size_t count, uint64_t wanted, uint64_t code,
+                           uint64_t number)
+{
+    const totals_contribution_record record = totals_contribution_words(f, list, count, wanted, c);
+    return contribute(f, c, wanted, list, count, CONTRIBUTION_ROOM) == code && (code == 0 ? contributed(number) : nothing_contributed())
+           && record.refusal == TOTALS_REFUSAL(code) && record.place == TOTALS_PLACE(code) && record.number == (code == 0 ? number : 0);
+}
+
+/* Worked out by hand. A row has two values at most. */
+static void contributions(void)
+{
+#define HALF {TOTALS_BINARY16, TOTALS_OWN_BIAS}
+#define NO TOTALS_NO_CONTRIBUTION
+    static const totals_format half = HALF, b64 = B64, b32 = B32;
+    const struct {
+        const totals_format *f;
+        uint64_t rounding, saturate, precision;
+        size_t count;
+        uint64_t list[2], wanted, code, number;
+    } rows[] = {
+        {&half, EVEN, 0, 0, 0, {0, 0}, 0x8000, 0, 0},
+        {&half, EVEN, 0, 0, 1, {0x3c00, 0}, 0x3c00, 0, 0x8c00}, /* a tie, which goes to 1 */
+        {&half, TOTALS_TOWARD_NEGATIVE, 0, 0, 1, {0x3c00, 0}, 0x3c00, 0, 0},
+        {&half, TOTALS_TOWARD_POSITIVE, 0, 0, 1, {0x3c00, 0}, 0x3c01, 0, 1},
+        {&half, TOTALS_TOWARD_POSITIVE, 0, 0, 1, {0x3c00, 0}, 0x3c00, 0, 0x8fff},
+        {&half, EVEN, 0, 0, 1, {0x7bff, 0}, 0x7bff, 0, 0xcbff},
+        {&half, EVEN, 0, 0, 2, {0x7bff, 0x7bff}, 0x7bff, 0, 0xfbff},
+        {&half, EVEN, 0, 0, 2, {0x7bff, 0x7bff}, 0x7bfe, NO, 0},
+        {&half, EVEN, 1, 0, 1, {0xfbff, 0}, 0xfbff, 0, 0xfbff}, /* from -65504 on and below */
+        {&half, EVEN, 0, 0, 1, {1, 0}, 0x8000, 0, 0x8001},
+        {&half, TOTALS_TOWARD_NEGATIVE, 0, 0, 1, {0x8000, 0}, 0, 0, 0},
+        {&half, EVEN, 0, 3, 1, {0x3c00, 0}, 0x3c01, NO, 0},
+        {&half, EVEN, 0, 1, 0, {0, 0}, 0, 0, 0x8200}, /* half of 2^-14, the one grid of one digit */
+        {&b64, EVEN, 0, 0, 1, {ONE, 0}, ONE, 0, MINUS + POWER(-54)},
+        {&b64, TOTALS_TO_ODD, 0, 0, 1, {POWER(-60), 0}, ONE, NO, 0},
+        {&b64, TOTALS_TO_ODD, 0, 0, 1, {POWER(-60), 0}, ONE + 1, 0, ONE},
+        {&b64, EVEN, 0, 0, 2, {POWER(1000), POWER(-1000)}, POWER(-1000), 0, MINUS + POWER(1000)},
+        {&b64, EVEN, 0, 0, 2, {POWER(1000), POWER(-1000)}, ONE, NO, 0},
+        {&b32, EVEN, 0, 0, 1, {0x3f800000, 0}, 0x3f800000, 0, 0xb3000000},
+    };
+    size_t i;
+
+    for (i = 0; i < sizeof rows / sizeof *rows; i++) {
+        totals_settings c = TOTALS_SETTINGS_INIT;
+        c.rounding = rows[i].rounding;
+        c.saturate = rows[i].saturate;
+        c.precision = rows[i].precision;
+        if (!contribution_is(*rows[i].f, &c, rows[i].list, rows[i].count, rows[i].wanted, rows[i].code, rows[i].number)) {
+            fprintf(stderr, "contributions: row %d\n", (int)i);
+            failures++;
+        }
+    }
+#undef NO
+}
+
+/* A sum of whole units in the format of four bits with two of exponent, rounded to two digits; an infinity is BEYOND_FOUR. */
+#define BEYOND_FOUR 99
+
+static int rounded_to_four(uint64_t rounding, int sum)
+{
+    const int magnitude = sum < 0 ? -sum : sum, sign = sum < 0 ? -1 : 1;
+    int step = 1, kept, rest, up, to_infinity;
+
+    while (magnitude >= 4 * step) {
+        step *= 2;
+    }
+    kept = magnitude / step;
+    rest = magnitude % step;
+    switch (rounding) {
+    case TOTALS_TIES_TO_EVEN: up = 2 * rest > step || (2 * rest == step && kept % 2 == 1); break;
+    case TOTALS_TIES_TO_AWAY: up = 2 * rest >= step; break;
+    case TOTALS_TIES_TOWARD_ZERO: up = 2 * rest > step; break;
+    case TOTALS_TOWARD_POSITIVE: up = rest > 0 && sum > 0; break;
+    case TOTALS_TOWARD_NEGATIVE: up = rest > 0 && sum < 0; break;
+    case TOTALS_TOWARD_ZERO: up = 0; break;
+    case TOTALS_AWAY_FROM_ZERO: up = rest > 0; break;
+    default: up = rest > 0 && kept % 2 == 0; break;
+    }
+    to_infinity = rounding == TOTALS_TOWARD_POSITIVE ? sum > 0 : rounding == TOTALS_TOWARD_NEGATIVE ? sum < 0
+                  : rounding != TOTALS_TOWARD_ZERO && rounding != TOTALS_TO_ODD;
+    if ((kept + up) * step >= 8) {
+        return sign * (to_infinity ? BEYOND_FOUR : 6);
+    }
+    return sign * (kept + up) * step;
+}
+
+/* Every list of up to two numbers of four bits and every wanted total, in each mode, beside a search through the eleven numbers. */
+static void contributions_of_four_bits(void)
+{
+    const totals_format four = {TOTALS_IEEE, 2, 4, TOTALS_OWN_BIAS};
+    /* the numbers in their order, and units by encoding; 6, 7, 14 and 15 are infinities and NaNs */
+    const uint64_t numbers[11] = {13, 12, 11, 10, 9, 0, 1, 2, 3, 4, 5};
+    const int units[16] = {0, 1, 2, 3, 4, 6, BEYOND_FOUR, BEYOND_FOUR, 0, -1, -2, -3, -4, -6, BEYOND_FOUR, BEYOND_FOUR};
+    totals_settings c = TOTALS_SETTINGS_INIT;
+    uint64_t list[2], wanted, first, second;
+    size_t count, i;
+    int wrong = 0;
+
+    for (c.rounding = 0; c.rounding < 8; c.rounding++) {
+        for (count = 0; count <= 2; count++) {
+            for (first = 0; first < (count > 0 ? 16 : 1); first++) {
+                for (second = 0; second < (count > 1 ? 16 : 1); second++) {
+                    const int sum = (count > 0 ? units[first] : 0) + (count > 1 ? units[second] : 0);
+                    list[0] = first;
+                    list[1] = second;
+                    for (wanted = 0; wanted < 16; wanted++) {
+                        /* two special values, or one beside a number, are above 80 */
+                        const int is_special = sum > 80 || units[wanted] == BEYOND_FOUR;
+                        for (i = 0; i < 11 && rounded_to_four(c.rounding, sum + units[numbers[i]]) != units[wanted]; i++) {
+                        }
+                        wrong += !contribution_is(four, &c, list, count, wanted,
+                                                  is_special ? TOTALS_NOT_FINITE : i == 11 ? TOTALS_NO_CONTRIBUTION : TOTALS_ACCEPTED,
+                                                  i == 11 ? 0 : numbers[i]);
+                    }
+                }
+            }
+        }
+    }
+    CHECK(wrong == 0);
+}
+
+static void contributions_of_floats(void)
+{
+    const double paid[3] = {412.25, 412.25, 430.5}, wide[2] = {number(GREATEST), number(GREATEST)};
+    const float single[1] = {1}, largest[2] = {3.4028234663852886e38f, 3.4028234663852886e38f};
+    totals_settings down = TOTALS_SETTINGS_INIT;
+    totals_double_contribution_record due = totals_contribution_double(paid, 3, 1700, NULL);
+    totals_float_contribution_record part;
+
+    /* 445, less half of the last digit of 1700, a tie: 1700 is even */
+    CHECK(due.refusal == TOTALS_ACCEPTED && due.place == 0 && due.number == 445 - power(-43) && due.bits == bits_of(due.number));
+    down.rounding = TOTALS_TOWARD_NEGATIVE;
+    CHECK(totals_contribution_double(paid, 3, 1700, &down).number == 445);
+    CHECK(totals_contribution_double(paid, 3, 1000, &down).number == -255);
+    CHECK(totals_contribution_double(NULL, 0, -0.0, NULL).refusal == TOTALS_ACCEPTED && totals_contribution_double(NULL, 0, -0.0, NULL).bits == 0);
+    due = totals_contribution_double(wide, 2, 1, NULL);
+    CHECK(due.refusal == TOTALS_NO_CONTRIBUTION && due.place == 0 && due.number == 0 && due.bits == 0);
+    part = totals_contribution_float(single, 1, 1, NULL);
+    CHECK(part.refusal == TOTALS_ACCEPTED && part.place == 0 && part.number == -2.98023223876953125e-8f && part.bits == 0xb3000000);
+    part = totals_contribution_float(largest, 2, 1, NULL);
+    CHECK(part.refusal == TOTALS_NO_CONTRIBUTION && part.place == 0 && part.number == 0 && part.bits == 0);
+}
+
+static void contributions_beside_specials(void)
+{
+    const double special[3] = {number(INFINITE), number(MINUS + INFINITE), number(INFINITE + 1)}, one[1] = {1};
+    const float single[1] = {1};
+    size_t i;
+
+    for (i = 0; i < 3; i++) {
+        const float narrow = (float)special[i];
+        CHECK(totals_contribution_double(special + i, 1, 1, NULL).refusal == TOTALS_NOT_FINITE);
+        CHECK(totals_contribution_double(one, 1, special[i], NULL).refusal == TOTALS_NOT_FINITE);
+        CHECK(totals_contribution_float(&narrow, 1, 1, NULL).refusal == TOTALS_NOT_FINITE);
+        CHECK(totals_contribution_float(single, 1, narrow, NULL).refusal == TOTALS_NOT_FINITE);
+    }
+}
+
+/* As many floats as find room without memory of their own, and one more. */
+static void long_contributions(void)
+{
+    const double one = 1;
+    float many[TOTALS_ROOM_ + 1];
+    totals_settings down = TOTALS_SETTINGS_INIT;
+    size_t i;
+
+    down.rounding = TOTALS_TOWARD_NEGATIVE;
+    for (i = 0; i <= TOTALS_ROOM_; i++) {
+        many[i] = 0.25f;
+    }
+    CHECK(totals_contribution_float(many, TOTALS_ROOM_, 130, &down).number == 2);
+    CHECK(totals_contribution_float(many, TOTALS_ROOM_ + 1, 130, &down).number == 1.75f && owned == 0);
+    has_memory = 0;
+    CHECK(totals_contribution_float(many, TOTALS_ROOM_, 130, &down).number == 2);
+    CHECK(totals_contribution_float(many, TOTALS_ROOM_ + 1, 130, &down).refusal == TOTALS_NO_MEMORY);
+    CHECK(totals_contribution_float(many, TOTALS_ROOM_ + 1, 130, &down).bits == 0);
+    CHECK(totals_contribution_double(&one, 1, 2, &down).number == 1);
+    has_memory = 1;
+}
+
+static const totals_format not_for_contributions[7] = {{1, 5, 16, 0, 0}, {2, 5, 16, 1, 16}, {3, 5, 16, 0, 0}, {TOTALS_EXTENDED, TOTALS_OWN_BIAS},
+                                                       {0, 1, 16, 0, 0}, {0, 5, 16, 0, 15}, {0, 5, 16, 2, 15}};
+static const totals_settings without_contributions[7] = {{8, 0, 0, 0, 0, 0, 0, 3}, {0, 0, 0, 2, 0, 0, 0, 3}, {0, 0, 0, 0, 1, 0, 0, 3},
+                                                         {0, 0, 0, 0, 0, 1, 0, 3}, {0, 0, 0, 0, UINT64_MAX, 2, 0, 3}, {0, 0, 0, 0, 0, 0, 2, 3},
+                                                         {0, 0, 0, 0, 0, 0, 0, 12}};
+
+/* Three values and the wanted total behind them, with conditions by their bits, in one of 28 ways. */
+static void refused_in_a_way(unsigned at, unsigned way)
+{
+#define BAD(i) ((at >> (i) & 1) == 1)
+    const uint64_t specials[4] = {0x7c00, 0xfc00, 0x7e00, 0xfdff};
+    const unsigned stray_at = way % 4, special_at = (way + 1) % 4;
+    const size_t room = BAD(0) ? way % 8 : TOTALS_CONTRIBUTION_ANSWER_BYTES;
+    const uint64_t code = BAD(0) ? 2 : BAD(1) ? 3 : BAD(2) ? 4 : BAD(3) ? 7 + 256 * (uint64_t)stray_at : BAD(4) ? 15 : BAD(5) ? 14 : 0;
+    totals_format f = HALF;
+    totals_settings c = {0, 0, 0, 0, 0, 0, 0, 3};
+    totals_contribution_record record;
+    /* to three digits no sum is the number behind 1 */
+    uint64_t all[4] = {0x3c00, 0x3c00, 0x3c00, 0x3c00};
+
+    all[3] += BAD(5);
+    if (BAD(1)) {
+        f = not_for_contributions[way % 7];
+    }
+    if (BAD(2)) {
+        c = without_contributions[way % 7];
+    }
+    if (BAD(4)) {
+        all[special_at] = specials[way / 7];
+    }
+    if (BAD(3)) {
+        all[stray_at] = 0x10000;
+        all[stray_at / 2 + 2] = 0x10000; /* the same, or one behind it */
+    }
+    CHECK(contribute(f, &c, all[3], all, 3, room) == code && nothing_contributed() == (code != 0));
+    record = totals_contribution_words(f, all, 3, all[3], &c);
+    CHECK(BAD(0) || (record.refusal == TOTALS_REFUSAL(code) && record.place == TOTALS_PLACE(code) && (code == 0 || record.number == 0)));
+#undef BAD
+}
+
+/* Every choice of conditions: the first in the order 2, 3, 4, 7, 15, 14 is returned, and nothing is written. */
+static void contributions_refused(void)
+{
+    unsigned at, way;
+    for (at = 0; at < 64; at++) {
+        for (way = 0; way < 28; way++) {
+            refused_in_a_way(at, way);
+        }
+    }
+#undef HALF
+}
+
+/* Lists that are as long as any other may be, or longer, or not there; no memory. */
+static void contributions_of_no_list(void)
+{
+    const size_t most = TOTALS_MOST_ELEMENTS;
+    const totals_format f = {TOTALS_BINARY16, TOTALS_OWN_BIAS}, none = {TOTALS_E4M3, TOTALS_OWN_BIAS};
+    uint64_t *unread = addresses(most + 1);
+    const double *doubles = (const double *)unread;
+    const float *floats = (const float *)unread;
+    const double one = 1;
+    totals_settings bad = TOTALS_SETTINGS_INIT;
+    size_t count;
+
+    bad.flush_to_zero = 1;
+    unread[0] = 0x10000;
+    unread[1] = 0x7e00;
+    /* nothing of it is read, by the entry neither */
+    for (count = most; count <= most + 1; count++) {
+        CHECK(contribution_is(f, &plain, unread, count, 0x3c00, TOTALS_TOO_MANY_ELEMENTS, 0));
+        CHECK(contribution_is(f, &plain, unread, count, 0x10000, TOTALS_TOO_MANY_ELEMENTS, 0));
+        CHECK(contribution_is(f, &plain, unread, count, 0x7e00, TOTALS_TOO_MANY_ELEMENTS, 0));
+        CHECK(contribution_is(f, &bad, unread, count, 0x7e00, TOTALS_SETTING_OUT_OF_RANGE, 0));
+        CHECK(contribution_is(none, &bad, unread, count, 0x7e00, TOTALS_NO_SUCH_FORMAT, 0));
+        CHECK(contribute(f, &plain, 0, unread, count, 7) == TOTALS_SHORT_BUFFER && nothing_contributed());
+        CHECK(totals_contribution_double(doubles, count, 1, NULL).refusal == TOTALS_TOO_MANY_ELEMENTS);
+        CHECK(totals_contribution_float(floats, count, 1, NULL).refusal == TOTALS_TOO_MANY_ELEMENTS && owned == 0);
+        CHECK(totals_contribution_words(f, NULL, count, 1, NULL).refusal == TOTALS_TOO_MANY_ELEMENTS);
+    }
+    CHECK(totals_contribution_double(&one, SIZE_MAX, 1, NULL).refusal == TOTALS_TOO_MANY_ELEMENTS);
+    CHECK(totals_contribution_double(&one, SIZE_MAX / 8 + 2, 1, NULL).refusal == TOTALS_TOO_MANY_ELEMENTS);
+    CHECK(totals_contribution_words(f, NULL, 1, 0x10000, NULL).refusal == TOTALS_NO_LIST);
+    CHECK(totals_contribution_words(f, NULL, most - 1, 0x10000, NULL).place == 0);
+    CHECK(totals_contribution_words(f, NULL, 1, 0, &bad).refusal == TOTALS_SETTING_OUT_OF_RANGE);
+    CHECK(totals_contribution_words(none, NULL, 1, 0, NULL).refusal == TOTALS_NO_SUCH_FORMAT);
+    CHECK(totals_contribution_double(NULL, 2, 1, NULL).refusal == TOTALS_NO_LIST && totals_contribution_double(NULL, 2, 1, NULL).bits == 0);
+    CHECK(totals_contribution_float(NULL, 2, 1, NULL).refusal == TOTALS_NO_LIST);
+    CHECK(totals_contribution_words(f, NULL, 0, 0x10000, NULL).refusal == TOTALS_STRAY_BIT);
+    has_memory = 0;
+    CHECK(totals_contribution_float(floats, most - 1, 1, NULL).refusal == TOTALS_NO_MEMORY && asked == 2147483640 && owned == 0);
+    has_memory = 1;
+    munmap(unread, 8 * (most + 1));
+}
+
+/* Words, pence, tables, targets, contributions and allowances have no kind 4, however many there are. */
 static void x87_elsewhere(void)
 {
     const totals_format formats[2] = {{TOTALS_EXTENDED, TOTALS_OWN_BIAS}, {TOTALS_EXTENDED, TOTALS_BIAS(16383)}};
@@ -3245,6 +3546,7 @@ static void x87_elsewhere(void)
             CHECK(REFUSED(totals_sum_within_words(formats[i], TOTALS_VALUE, list, k, 1, NULL), TOTALS_NO_SUCH_FORMAT, 0));
             CHECK(REFUSED(totals_dot_within_words(formats[i], list, k, list, 5, 1, NULL), TOTALS_NO_SUCH_FORMAT, 0));
             CHECK(totals_pence_words(formats[i], list, k).refusal == TOTALS_NO_SUCH_FORMAT);
+            CHECK(totals_contribution_words(formats[i], list, k, 1, NULL).refusal == TOTALS_NO_SUCH_FORMAT);
             CHECK(REFUSED(totals_table_words(formats[i], list, k, 1, k, rows, 1, columns, 5, NULL), TOTALS_NO_SUCH_FORMAT, 0));
         }
     }
@@ -3260,6 +3562,7 @@ static void lists_are_only_read(void)
     bad.rounding = 8;
     CHECK(totals_sum_double(list, 2, NULL).result == 3 && totals_sum_double(list, 2, &bad).refusal != TOTALS_ACCEPTED);
     CHECK(totals_pence_double(list, 2).figure == 300);
+    CHECK(totals_contribution_double(list, 2, 4, NULL).refusal == TOTALS_ACCEPTED);
     CHECK(totals_sum_into_double(list, 2, 0, &target, 1, &record) == TOTALS_ACCEPTED && record.result == 0x4200);
     CHECK(totals_sum_within_double(TOTALS_VALUE, list, 2, 1, NULL).result == 0x4008000000000000);
     CHECK(memcmp(list, before, sizeof list) == 0);
@@ -3268,10 +3571,11 @@ static void lists_are_only_read(void)
 /* Every refusal has words of its own. */
 static void refusals_in_words(void)
 {
-    const unsigned known[18] = {0, 1, 2, 3, 4, 5, 6, 7, TOTALS_NO_PENCE, TOTALS_BAD_SHAPE, TOTALS_NO_ROOM, TOTALS_BAD_AMOUNT, TOTALS_NOT_A_PAGE,
-                                TOTALS_BAD_SPAN, TOTALS_NO_PASS_ALLOWED, TOTALS_TARGET_OUT_OF_REACH, TOTALS_NO_LIST, TOTALS_NO_MEMORY};
+    const unsigned known[20] = {0, 1, 2, 3, 4, 5, 6, 7, TOTALS_NO_PENCE, TOTALS_BAD_SHAPE, TOTALS_NO_ROOM, TOTALS_BAD_AMOUNT, TOTALS_NOT_A_PAGE,
+                                TOTALS_BAD_SPAN, TOTALS_NO_CONTRIBUTION, TOTALS_NOT_FINITE, TOTALS_NO_PASS_ALLOWED, TOTALS_TARGET_OUT_OF_REACH,
+                                TOTALS_NO_LIST, TOTALS_NO_MEMORY};
     size_t i, k;
-    for (i = 0; i < 18; i++) {
+    for (i = 0; i < 20; i++) {
         CHECK(strcmp(totals_strerror(known[i]), totals_strerror(100)) != 0);
         for (k = 0; k < i; k++) {
             CHECK(strcmp(totals_strerror(known[i]), totals_strerror(known[k])) != 0);
@@ -3287,7 +3591,7 @@ static void version(void)
 {
     char text[32];
     sprintf(text, "%d.%d.%d", TOTALS_VERSION_MAJOR, TOTALS_VERSION_MINOR, TOTALS_VERSION_PATCH);
-    CHECK(strcmp(text, TOTALS_VERSION) == 0 && TOTALS_VERSION_NUMBER == 900);
+    CHECK(strcmp(text, TOTALS_VERSION) == 0 && TOTALS_VERSION_NUMBER == 1000);
 }
 
 int main(void)
@@ -3347,6 +3651,13 @@ int main(void)
     floats_within();
     within_refused();
     within_of_no_list();
+    contributions();
+    contributions_of_four_bits();
+    contributions_of_floats();
+    contributions_beside_specials();
+    long_contributions();
+    contributions_refused();
+    contributions_of_no_list();
     x87_elsewhere();
     lists_are_only_read();
     refusals_in_words();

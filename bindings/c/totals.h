@@ -14,18 +14,19 @@
  *   totals_sum_into_double  totals_sum_into_float  totals_sum_into_words   the exact sum, rounded into several formats
  *   totals_sum_within_double  totals_sum_within_float  totals_sum_within_words   a total within an allowance of passes
  *   totals_dot_within_double  totals_dot_within_float  totals_dot_within_words   and a dot
- *   totals_lower  totals_upper  totals_figure   of an unfinished one: two doubles around the exact sum, and a figure between them
+ *   totals_contribution_double  totals_contribution_float  totals_contribution_words   the least number that brings a sum to a wanted total
+ *   totals_lower  totals_upper  totals_figure   of an unfinished total: two doubles around the exact sum, and a figure between them
  *   totals_page_length                      the bytes that a page takes
  *   totals_strerror                         a refusal in words
  *   totals_sum         totals_dot           the functions of the library, over bytes
  *   totals_sum_biased  totals_dot_biased    the same in a format that names its bias
- *   totals_pence       totals_table   totals_range   and over words
+ *   totals_pence       totals_table   totals_range   totals_contribution   and over words
  *   totals_page_sum    totals_page_write    and of a page
  *   totals_sum_into                         the exact sum in three formats, over bytes
  *   totals_sum_within  totals_dot_within    what an allowance of passes gives, over bytes
  *
- * The first thirty-four count elements, but of a page its bytes, and answer with a record, those of several formats with one for
- * each. They are inline, plain C, and call the last twelve, which are proved. docs/LINKING.md has each with its special cases and an example.
+ * The first thirty-seven count elements, but of a page its bytes, and answer with a record, those of several formats with one for
+ * each. They are inline, plain C, and call the last thirteen, which are proved. docs/LINKING.md has each with its special cases and an example.
  * What is claimed of the library stands in docs/PROMISES.md, the exact meaning of each number below
  * in docs/SPECIFICATION.md. No function keeps a state, and all may be called from several threads.
  */
@@ -39,9 +40,9 @@
 
 /* The version of this header and of the archive that it was written for. */
 #define TOTALS_VERSION_MAJOR 0
-#define TOTALS_VERSION_MINOR 9
+#define TOTALS_VERSION_MINOR 10
 #define TOTALS_VERSION_PATCH 0
-#define TOTALS_VERSION "0.9.0"
+#define TOTALS_VERSION "0.10.0"
 #define TOTALS_VERSION_NUMBER (TOTALS_VERSION_MAJOR * 10000 + TOTALS_VERSION_MINOR * 100 + TOTALS_VERSION_PATCH)
 
 #ifdef __cplusplus
@@ -201,25 +202,32 @@ enum {
     TOTALS_NO_COMPARISON = 3 /* there is nothing to compare: a NaN, or an infinity */
 };
 
-/* The most elements of a list, pairs of a dot, cells of a table, entries of a range, or values of a page. An int cannot hold their bytes. */
+/*
+ * The most elements of a list, pairs of a dot, cells of a table, entries of a range, or values of a page. A list for which a contribution is
+ * sought has one less, since that is added. An int cannot hold their bytes.
+ */
 #define TOTALS_MOST_ELEMENTS 268435456
 
 /*
  * Refusals: in a record, or what TOTALS_REFUSAL makes of the number that a call returned. The lowest that holds is given, but that of
- * a table 9 and 10 come before 7, of a page 12 and 13 before 4, and within an allowance 16 before 3.
+ * a table 9 and 10 come before 7, of a page 12 and 13 before 4, within an allowance 16 before 3, and of a contribution 15 before 14.
  */
 enum {
     TOTALS_ACCEPTED = 0,
     TOTALS_UNEVEN_LENGTH = 1,        /* a length that is not a multiple of 8, of TOTALS_X87 of 10; a page may have such a length;
                                         targets that are not 312 bytes */
     TOTALS_SHORT_BUFFER = 2,         /* an answer buffer under 24 bytes, of TOTALS_X87 under 32, of targets under 96, within an
-                                        allowance under 144; range: a pair under two words; page: a destination shorter than the page would be */
+                                        allowance under 144, of a contribution under 8; range: a pair under two words; page: a destination
+                                        shorter than the page would be */
     TOTALS_NO_SUCH_FORMAT = 3,       /* kind above 3, exponent bits outside 2..28, width below these + 2 or above 64,
-                                        or a named bias outside -268,435,456..268,435,456; TOTALS_X87 as it is said above */
-    TOTALS_SETTING_OUT_OF_RANGE = 4, /* a setting or the summand out of its range */
+                                        or a named bias outside -268,435,456..268,435,456; TOTALS_X87 as it is said above;
+                                        contribution: a kind other than TOTALS_IEEE */
+    TOTALS_SETTING_OUT_OF_RANGE = 4, /* a setting or the summand out of its range; contribution: also flush_to_zero or denormals_are_zero
+                                        that is not 0 */
     TOTALS_DIFFERENT_LENGTHS = 5,    /* dot, range: the lists differ in length */
-    TOTALS_TOO_MANY_ELEMENTS = 6,    /* over 268,435,456 elements (of a dot: pairs; of a table: cells; of a range: entries; of a page: values) */
-    TOTALS_STRAY_BIT = 7,            /* an element is 2^width or more */
+    TOTALS_TOO_MANY_ELEMENTS = 6,    /* over 268,435,456 elements (of a dot: pairs; of a table: cells; of a range: entries; of a page: values);
+                                        of a contribution the number that is added is one of them */
+    TOTALS_STRAY_BIT = 7,            /* an element, or the wanted total of a contribution, is 2^width or more */
     TOTALS_NO_PENCE = 8,             /* pence: a NaN or an infinity in the list, or a figure of magnitude 2^63 or more */
     TOTALS_BAD_SHAPE = 9,            /* table: rows times columns, as whole numbers, is not the number of cells */
     TOTALS_NO_ROOM = 10,             /* table: a list of totals is shorter than there are rows, or columns */
@@ -227,6 +235,8 @@ enum {
                                         not finite or is below zero, even where no entry is missing */
     TOTALS_NOT_A_PAGE = 12,          /* page: the bytes are not the page of the values in them, or have over 268,435,456 of these */
     TOTALS_BAD_SPAN = 13,            /* page: the span starts above its end, or ends above the number of values */
+    TOTALS_NO_CONTRIBUTION = 14,     /* contribution: no finite number brings the sum to the wanted total */
+    TOTALS_NOT_FINITE = 15,          /* contribution: a NaN or an infinity in the list, or for the wanted total */
     TOTALS_NO_PASS_ALLOWED = 16,     /* within an allowance: it is 0 */
     TOTALS_TARGET_OUT_OF_REACH = 17, /* target: more digits than the list's format has, or a NaN or an infinity in the list */
     TOTALS_NO_LIST = 254,            /* this and the next from the inline functions alone: NULL for a list that is not empty */
@@ -235,16 +245,17 @@ enum {
 
 #define TOTALS_REFUSAL(code) ((code) % 256)
 /*
- * For TOTALS_STRAY_BIT, the index of the first such element; a dot looks into its right list only where the left has none. For
- * TOTALS_ACCEPTED, of totals_page_write alone, the length of the page.
+ * For TOTALS_STRAY_BIT, the index of the first such element; a dot looks into its right list only where the left has none, and for
+ * the wanted total of a contribution it is the number of elements. For TOTALS_ACCEPTED, of totals_page_write alone, the length of the page.
  */
 #define TOTALS_PLACE(code) ((code) / 256)
 
-/* An answer takes 24 bytes, one of TOTALS_X87 32, one of three targets 96, and one within an allowance 144. */
+/* An answer takes 24 bytes, one of TOTALS_X87 32, one of three targets 96, one within an allowance 144, and a contribution 8. */
 #define TOTALS_ANSWER_BYTES 24
 #define TOTALS_X87_ANSWER_BYTES 32
 #define TOTALS_INTO_ANSWER_BYTES 96
 #define TOTALS_WITHIN_ANSWER_BYTES 144
+#define TOTALS_CONTRIBUTION_ANSWER_BYTES 8
 
 /* Three targets, thirteen numbers of eight bytes each. */
 #define TOTALS_TARGETS_BYTES 312
@@ -527,9 +538,41 @@ uint64_t totals_dot_within(uint64_t kind, uint64_t exponent_bits, uint64_t width
                            uint8_t *answer, size_t answer_len);
 
 /*
+ * The contribution that reaches a target: the least finite number with which, behind the values, totals_sum has the wanted total for its
+ * result. The least is the most negative: below what the list comes to, it is an amount that goes back. Zeros of either sign are equal, as
+ * results and as the wanted total, and where zero is the answer it is +0. Every order of the values has the same answer.
+ *
+ *   kind to bias            the format, as in totals_pence, of TOTALS_IEEE
+ *   rounding to precision   the eight settings, as in totals_sum; flush_to_zero and denormals_are_zero must be 0. A precision is one of the
+ *                           sum: the number found may have all digits of the format
+ *   wanted                  the total, an encoding
+ *   values, count           encodings, one to a word in its low bits, and the number of them, below TOTALS_MOST_ELEMENTS
+ *   answer                  at least eight bytes, apart from the values
+ *
+ * count is one of elements, answer_len one of bytes. No pointer may be NULL, not even with count 0.
+ *
+ * Returns 0 and writes the encoding of the number to bytes 0 to 7 of the answer, little end first; later bytes stay as they were. Or writes
+ * nothing and returns the first of these that holds:
+ *
+ *   TOTALS_SHORT_BUFFER
+ *   TOTALS_NO_SUCH_FORMAT         also where bias_named is above 1, or is 0 and bias is not
+ *   TOTALS_SETTING_OUT_OF_RANGE
+ *   TOTALS_TOO_MANY_ELEMENTS
+ *   TOTALS_STRAY_BIT              plus 256 times the lowest index in the list; of the wanted total alone plus 256 times count
+ *   TOTALS_NOT_FINITE             without a place, as is
+ *   TOTALS_NO_CONTRIBUTION
+ */
+uint64_t totals_contribution(uint64_t kind, uint64_t exponent_bits, uint64_t width, uint64_t bias_named, int64_t bias,
+                             uint64_t rounding, uint64_t tininess, uint64_t nan_propagation, uint64_t default_nan_negative,
+                             uint64_t flush_to_zero, uint64_t denormals_are_zero, uint64_t saturate, uint64_t precision,
+                             uint64_t wanted,
+                             const uint64_t *values, size_t count,
+                             uint8_t *answer, size_t answer_len);
+
+/*
  * Records: what the inline functions answer. Where refusal is TOTALS_ACCEPTED, result, flags, passes and side hold the total, or
- * figure its pence, or lower and upper the two that it lies between, or length and count those of a page. Else refusal says why there
- * is none, and every other field is 0 but for the place of a TOTALS_STRAY_BIT. Later versions add fields at the end.
+ * figure its pence, or number a contribution, or lower and upper the two that it lies between, or length and count those of a page. Else
+ * refusal says why there is none, and every other field is 0 but for the place of a TOTALS_STRAY_BIT. Later versions add fields at the end.
  */
 typedef struct totals_record {
     uint64_t result; /* an encoding of the format */
@@ -575,6 +618,26 @@ typedef struct totals_pence_record {
     uint64_t place;
     unsigned refusal;
 } totals_pence_record;
+
+typedef struct totals_contribution_record {
+    uint64_t number; /* an encoding of the format */
+    uint64_t place;
+    unsigned refusal;
+} totals_contribution_record;
+
+typedef struct totals_double_contribution_record {
+    double number;
+    uint64_t bits; /* the encoding of the number */
+    uint64_t place;
+    unsigned refusal;
+} totals_double_contribution_record;
+
+typedef struct totals_float_contribution_record {
+    float number;
+    uint32_t bits; /* the encoding of the number */
+    uint64_t place;
+    unsigned refusal;
+} totals_float_contribution_record;
 
 typedef struct totals_range_record {
     double lower;
@@ -624,8 +687,8 @@ static inline const char *totals_strerror(uint64_t refusal)
     case TOTALS_ACCEPTED: return "accepted";
     case TOTALS_UNEVEN_LENGTH: return "the length in bytes is not a multiple of 8, or of 10 for X87, or that of the targets is not 312";
     case TOTALS_SHORT_BUFFER:
-        return "the answer buffer has fewer than 24 bytes, 32 for X87, 96 for targets or 144 within an allowance, the pair fewer than two "
-               "words, or the destination fewer than the page";
+        return "the answer buffer has fewer than 24 bytes, 32 for X87, 96 for targets, 144 within an allowance or 8 for a contribution, "
+               "the pair fewer than two words, or the destination fewer than the page";
     case TOTALS_NO_SUCH_FORMAT: return "there is no such format, or the bias that it names is out of its range";
     case TOTALS_SETTING_OUT_OF_RANGE: return "a setting or the summand is out of its range";
     case TOTALS_DIFFERENT_LENGTHS: return "the lists differ in length";
@@ -638,6 +701,8 @@ static inline const char *totals_strerror(uint64_t refusal)
         return "a tag is above 2, a figure is not finite, a low is above its high, or the ceiling is not finite or below zero";
     case TOTALS_NOT_A_PAGE: return "the bytes are not the page of the values in them, or have more than 268,435,456 of these";
     case TOTALS_BAD_SPAN: return "the span starts above its end, or ends above the number of values";
+    case TOTALS_NO_CONTRIBUTION: return "no finite number brings the sum to the wanted total";
+    case TOTALS_NOT_FINITE: return "the list holds a NaN or an infinity, or the wanted total is one";
     case TOTALS_NO_PASS_ALLOWED: return "the allowance is of no pass at all";
     case TOTALS_TARGET_OUT_OF_REACH:
         return "the target has more digits than the list's format, or the list holds a NaN or an infinity";
@@ -1106,6 +1171,45 @@ static inline totals_pence_record totals_take_pence_(totals_format f, totals_lis
     TOTALS_FREE(owned);
     if (code == TOTALS_ACCEPTED && is_refused) {
         code = list.count > TOTALS_MOST_ELEMENTS ? TOTALS_TOO_MANY_ELEMENTS : TOTALS_NO_LIST;
+    }
+    record.refusal = (unsigned)TOTALS_REFUSAL(code);
+    record.place = TOTALS_PLACE(code);
+    return record;
+}
+
+/* The list and the wanted total, an encoding, to the entry. */
+static inline uint64_t totals_call_contribution_(totals_format f, const totals_settings *settings, uint64_t wanted, const uint64_t *words,
+                                                 size_t count, uint8_t *answer)
+{
+    static const totals_settings defaults = TOTALS_SETTINGS_INIT;
+    const totals_settings *c = settings == NULL ? &defaults : settings;
+    return totals_contribution(f.kind, f.exponent_bits, f.width, f.bias_named, f.bias, c->rounding, c->tininess, c->nan_propagation,
+                               c->default_nan_negative, c->flush_to_zero, c->denormals_are_zero, c->saturate, c->precision, wanted, words,
+                               count, answer, TOTALS_CONTRIBUTION_ANSWER_BYTES);
+}
+
+static inline totals_contribution_record totals_take_contribution_(totals_format f, const totals_settings *settings, totals_list_ list,
+                                                                   uint64_t wanted)
+{
+    totals_contribution_record record = {0, 0, 0};
+    /* As in totals_take_: a format or a setting is refused first, with an empty list too, which reaches zero under any setting. */
+    const int is_refused = list.count >= TOTALS_MOST_ELEMENTS || totals_is_missing_(list);
+    const totals_list_ lent = is_refused ? totals_list_of_(NULL, 0, 8) : list;
+    uint8_t answer[TOTALS_CONTRIBUTION_ANSWER_BYTES];
+    uint64_t code, room[TOTALS_ROOM_], *owned = NULL;
+    const uint64_t *words = totals_words_(lent, room, &owned);
+
+    if (words == NULL) {
+        code = TOTALS_NO_MEMORY;
+    } else {
+        code = totals_call_contribution_(f, settings, is_refused ? 0 : wanted, words, lent.count, answer);
+    }
+    TOTALS_FREE(owned);
+    if (code == TOTALS_ACCEPTED && is_refused) {
+        code = list.count >= TOTALS_MOST_ELEMENTS ? TOTALS_TOO_MANY_ELEMENTS : TOTALS_NO_LIST;
+    }
+    if (code == TOTALS_ACCEPTED) {
+        record.number = totals_get_(answer);
     }
     record.refusal = (unsigned)TOTALS_REFUSAL(code);
     record.place = TOTALS_PLACE(code);
@@ -1683,6 +1787,52 @@ static inline totals_estimate totals_dot_within_words(totals_format format, cons
 {
     return totals_take_within_(format, settings, TOTALS_VALUE, 1, allowance, totals_list_of_(left, left_count, sizeof *left),
                                totals_list_of_(right, right_count, sizeof *right));
+}
+
+/*
+ * The least number with which, behind `count` elements, the total is `wanted`, as totals_contribution has it. A list may be NULL where its
+ * count is 0, and settings NULL for TOTALS_SETTINGS_INIT. A list of double is read where it lies; one of float is copied, eight bytes an
+ * element: up to 2 GiB. Of a list that is not there TOTALS_NO_LIST comes behind TOTALS_TOO_MANY_ELEMENTS, and before whatever is wrong with
+ * the wanted total; so does TOTALS_NO_MEMORY.
+ */
+static inline totals_double_contribution_record totals_contribution_double(const double *values, size_t count, double wanted,
+                                                                           const totals_settings *settings)
+{
+    const totals_format f = {TOTALS_BINARY64, TOTALS_OWN_BIAS};
+    totals_double_contribution_record of;
+    totals_contribution_record record;
+    uint64_t bits;
+
+    memcpy(&bits, &wanted, sizeof bits);
+    record = totals_take_contribution_(f, settings, totals_list_of_(values, count, sizeof *values), bits);
+    of.bits = record.number;
+    memcpy(&of.number, &of.bits, sizeof of.number);
+    of.place = record.place;
+    of.refusal = record.refusal;
+    return of;
+}
+
+static inline totals_float_contribution_record totals_contribution_float(const float *values, size_t count, float wanted,
+                                                                         const totals_settings *settings)
+{
+    const totals_format f = {TOTALS_BINARY32, TOTALS_OWN_BIAS};
+    totals_float_contribution_record of;
+    totals_contribution_record record;
+    uint32_t bits;
+
+    memcpy(&bits, &wanted, sizeof bits);
+    record = totals_take_contribution_(f, settings, totals_list_of_(values, count, sizeof *values), bits);
+    of.bits = (uint32_t)record.number;
+    memcpy(&of.number, &of.bits, sizeof of.number);
+    of.place = record.place;
+    of.refusal = record.refusal;
+    return of;
+}
+
+static inline totals_contribution_record totals_contribution_words(totals_format format, const uint64_t *values, size_t count,
+                                                                   uint64_t wanted, const totals_settings *settings)
+{
+    return totals_take_contribution_(format, settings, totals_list_of_(values, count, sizeof *values), wanted);
 }
 
 /*

@@ -145,7 +145,7 @@ column  0      i
       953      104 bytes of buffer before the call, two digits each
      1162      the same after the call
 
-At last come the rows of totals within an allowance of passes, their number first. Such a row has 1,112 bytes, with the format, the settings and the summand
+Then come the rows of totals within an allowance of passes, their number first. Such a row has 1,112 bytes, with the format, the settings and the summand
 where a sum's row has them; and else:
 
 column  0      s a sum, d a dot
@@ -160,6 +160,24 @@ column  0      s a sum, d a dot
        94      152 bytes of buffer before the call, two digits each
       399      the same after the call
       704      24 values, 16 digits each: a sum's list, or a dot's left one, from the first on; a dot's right list from the thirteenth on
+
+At last come the rows of contributions, their number first. Such a row has 383 bytes, with the format and the settings where a sum's row has them; and else:
+
+column  0      c
+       21      refusal of the functions, which have no buffer; nothing is asked of them where the format is misnamed
+       23      number of values, two digits
+       26      bytes that the byte call gets behind the values (0 to 7), two digits
+       29      bytes that are lent of the buffer, two digits
+       32      1 where the format names its bias, 0 where it does not, or another digit
+       34      that bias: a sign and 16 digits
+       52      a note of what the row is, 20 bytes
+       73      what the entry returns, three digits
+       77      place
+       79      wanted total, 16 digits
+       96      number found, 16 digits
+      113      sixteen bytes of buffer before the call, two digits each
+      146      the same after the call
+      179      twelve values, 16 digits each
 """
 
 import os
@@ -1386,6 +1404,9 @@ def texts(made):
     rows = within()
     stdin += '%04x\n' % len(rows) + ''.join(call.row() for call in rows)
     stdout += dots('totals within an allowance of passes') + ' %d of %d agree\n' % (len(rows), len(rows))
+    rows = reaches()
+    stdin += '%04x\n' % len(rows) + ''.join(reach.row() for reach in rows)
+    stdout += dots('contributions') + ' %d of %d agree\n' % (len(rows), len(rows))
     return stdin, stdout
 
 
@@ -1431,12 +1452,14 @@ def write(binary):
                 i, t.line(), answer, t.record.result, t.record.flags, t.record.passes))
     into, lists = several_asked(binary)
     full, unfinished = within_asked(binary)
+    reached, missed = reaches_asked(binary)
     for file, text in zip(('stdin', 'stdout'), texts(made)):
         with open(os.path.join(HERE, file), 'w') as out:
             out.write(text)
     print(len(accepted), 'accepted rows with the answers of the oracle,', sum(len(cases) for _, cases in made) - len(accepted),
           'refused ones;', len(totals), 'totals of tables;', len(of_spans), 'of spans of pages;', len(of_tens), 'of values of ten bytes;', into,
-          'targets, and the passes of', lists, 'of their lists;', full, 'totals in time, and', unfinished, 'that are not')
+          'targets, and the passes of', lists, 'of their lists;', full, 'totals in time, and', unfinished, 'that are not;', reached,
+          'contributions, and', missed, 'wanted totals that none reaches')
 
 
 def check():
@@ -1462,7 +1485,8 @@ def check():
                         ('amounts known within a range', lambda row: range_of(row).row()),
                         *((name, again(read, most)) for name, _, most, read in page_parts()),
                         ('values of ten bytes', lambda row: tens_of(row).row()), ('one total, several formats', lambda row: several_of(row).row()),
-                        ('totals within an allowance of passes', lambda row: within_of(row).row())):
+                        ('totals within an allowance of passes', lambda row: within_of(row).row()),
+                        ('contributions', lambda row: reach_of(row).row())):
         n = int(lines[at], 16)
         for i, row in enumerate(lines[at + 1:at + 1 + n]):
             rows += 1
@@ -1526,6 +1550,7 @@ def cover():
     cover_tens(tens())
     cover_several(several())
     cover_within(within())
+    cover_reaches(reaches())
 
 
 def cover_plain(every):
@@ -4405,6 +4430,481 @@ def runs_of(part):
             first += not still(at)
             last += not still(at + 1)
     return inside, first, last
+
+
+# ---- the contribution that reaches a wanted total
+
+REACH_ROW, REACH_LIST, REACH_BUFFER, REACH_NOTE, REACH_ANSWER = 383, 12, 16, 20, 8
+
+
+class Reach:
+    """A list, a wanted total, and the contribution that reaches it from there. The functions have no buffer, and so no refusal 2."""
+
+    def __init__(self, note, f, c, values, wanted, room=REACH_BUFFER):
+        self.note, self.numbers, self.c = note, five(f), {**PLAIN, **c}
+        self.values, self.wanted = values, wanted
+        self.more, self.room, self.first = 0, room, 0xa0
+        self.holds = contribution_conditions(*self.numbers, self.c, values, wanted, room)
+        given = lambda order: next((n for n in order if n in self.holds), 0)
+        self.refusal, lowest = given(CONTRIBUTION_ORDER[1:]), given(CONTRIBUTION_ORDER)
+        self.place = stray(self.numbers[2], [*values, wanted])[0] if self.refusal == 7 else 0
+        self.returned = lowest + 256 * self.place * (lowest == 7)
+        self.number = self.above = None
+        if self.refusal in (0, 14):
+            f, _ = format_of(self.numbers)
+            self.number, self.above = contribution(f, tuple(self.c[name] for name in SETTINGS), tuple(values), wanted)
+
+    def format(self):
+        return Format(*format_of(self.numbers)[0])
+
+    def before(self):
+        return bytes((self.first + 7 * i) % 256 for i in range(REACH_BUFFER))
+
+    def after(self):
+        return self.before() if self.returned else self.number.to_bytes(8, 'little') + self.before()[REACH_ANSWER:]
+
+    def row(self):
+        kind, e, w, named, bias = self.numbers
+        assert len(self.note) <= REACH_NOTE and len(self.values) <= REACH_LIST and self.room <= REACH_BUFFER
+        head = 'c %x %02x %02x %s %02x %x %02x %02x %02x %x %s %s %03x %x %016x %016x' % (
+            kind, e, w, ''.join('%x' % self.c[name] for name in SETTINGS[:7]), self.c['precision'], self.refusal, len(self.values), self.more, self.room,
+            named, signed(bias, 16), self.note.ljust(REACH_NOTE, '.'), self.returned, self.place, self.wanted, self.number or 0)
+        # what stands behind the list is no zero, and has bits that are stray in most formats
+        values = self.values + [0x5a5a5a5a5a5a5a5a] * (REACH_LIST - len(self.values))
+        text = ' '.join([head, self.before().hex(), self.after().hex()] + ['%016x' % v for v in values]) + '\n'
+        assert len(text) == REACH_ROW
+        return text
+
+    def case(self, k):
+        """The plain sum with the number at the place k behind the list."""
+        return Case(format_of(self.numbers)[0], self.c, [*self.values, at_place(self.format(), k)])
+
+
+def reach_of(row):
+    """The call of a row, with the model's answer."""
+    number = lambda at, digits: int(row[at:at + digits], 16)
+    c = {name: number(10 + i, 1) for i, name in enumerate(SETTINGS[:7])}
+    c['precision'] = number(18, 2)
+    values = [number(at, 16) for at in range(179, REACH_ROW - 1, 17)]
+    f = number(2, 1), number(4, 2), number(7, 2), number(32, 1), number(34, 17)
+    reach = Reach(row[52:72].rstrip('.'), f, c, values[:number(23, 2)], number(79, 16), number(29, 2))
+    reach.more, reach.first = number(26, 2), number(113, 2)
+    return reach
+
+
+def reach_examples():
+    """Rows by hand; of those that are refused the number of the refusal with a minus."""
+    at, half, minus = lambda n, negative=0: power(DOUBLE, n, negative), (0, 5, 16), 1 << 63
+    f = 0, 11, 64
+    rows = [
+        ('nothing wants -0', f, {}, [], minus, 0),
+        ('nothing wants 0', f, {}, [], 0, 0),
+        ('1 wants 1', f, {}, [at(0)], at(0), 0xbc90000000000000),
+        ('1 wants 2', f, {}, [at(0)], at(1), 0x3fefffffffffffff),
+        ('2^-60, to odd', f, {'rounding': TO_ODD}, [at(-60)], at(0), -14),
+        ('1, to odd', f, {'rounding': TO_ODD}, [at(0)], at(0), 0),
+        # the unit of 350 is 2^-44, that of 50 is 2^-47
+        ('300 wants 350', f, {}, [0x4059000000000000, 0x4069000000000000], 0x4075e00000000000, 0x4048fffffffffffc),
+        ('of precision 1', half, {'precision': 1}, [], 0, 0x8200),
+        ('1 wants 1', half, {}, [0x3c00], 0x3c00, 0x8c00),
+        ('toward negative', half, {'rounding': DOWN}, [0x3c00], 0x3c00, 0),
+        ('toward positive', half, {'rounding': UP}, [0x3c00], 0x3c01, 1),
+        ('toward zero', half, {'rounding': TO_ZERO}, [0x3c00], 0x3c00, 0),
+        ('toward zero, minus', half, {'rounding': TO_ZERO}, [0xbc00], 0xbc00, 0x93ff),
+        ('the largest', half, {}, [0x7bff], 0x7bff, 0xcbff),
+        ('twice the largest', half, {}, [0x7bff, 0x7bff], 0x7bff, 0xfbff),
+        ('minus the largest', half, {}, [0xfbff], 0xfbff, 0xcbff),
+        ('the same, saturated', half, {'saturate': 1}, [0xfbff], 0xfbff, 0xfbff),
+        ('toward positive', half, {'rounding': UP}, [0xfbff], 0xfbff, 0xfbff),
+        ('the least wants -0', half, {}, [1], 0x8000, 0x8001),
+        ('three digits', half, {'precision': 3}, [0x3c00], 0x3c01, -14),
+        ('flushed', half, {'flush': 1}, [0x3c00], 0x3c00, -4),
+        ('taken as zeros', half, {'daz': 1}, [0x3c00], 0x3c00, -4),
+        ('the largest wanted', half, {}, [0xfbff, 1], 1, 0x7bff),
+        ('too far below', half, {}, [0xfbff], 1, -14),
+        ('twice as far', half, {}, [0xfbff, 0xfbff], 0xfbff, 0x7bff),
+        ('farther', half, {}, [0xfbff, 0xfbff], 0xfbfe, -14),
+        *(('3 wants %d places' % n, (0, 2, 4), {}, [5], n, answer) for n, answer in enumerate((0xd, -14, 0xc, 0xb, 0xa, 0))),
+    ]
+    made = []
+    for note, f, c, values, wanted, answer in rows:
+        reach = Reach(note, f, c, values, wanted)
+        assert answer == (-reach.refusal if reach.refusal else reach.number), (note, reach.refusal, reach.number)
+        made.append(reach)
+    return made
+
+
+def reach_lists(f, v, turn):
+    """One of seven lists of which v may be wanted."""
+    one, far = power(f, 1), power(f, f.emax - 1)
+    beside = at_place(f, min(place_of(f, v) + 1, last_place(f)))
+    return [[], [v], [v, one, one ^ f.sign], [beside], [v, 1 + f.sign * (turn % 2)], [far, v, far ^ f.sign, beside], [one, one ^ f.sign, f.sign]][turn % 7]
+
+
+def reach_roundings():
+    """Each rounding and sign, and of the wanted totals the least number, a subnormal one, the greatest of these, the least normal number, and one that is
+    even, odd, a power of two, the largest."""
+    made = []
+    for i, (mode, negative, n) in enumerate(product(range(8), range(2), range(8))):
+        f = Format(IEEE, *PAIRS[i % 7])
+        least, one = 1 << f.fraction, power(f, 0)
+        v = (1, least // 2 + 1, least - 1, least, one + 2, one + least // 2 + 1, one, last_place(f))[n] + f.sign * negative
+        made.append(Reach('each rounding', numbers_of(f), {'rounding': mode}, reach_lists(f, v, i // 7 + n), v))
+    return made
+
+
+def reach_overflows():
+    """The largest number wanted, by rounding, sign and saturation, from lists of it and half its unit."""
+    made = []
+    for i, (mode, negative, saturate) in enumerate(product(range(8), range(2), range(2))):
+        f = Format(IEEE, *PAIRS[i % 7])
+        v = last_place(f) + f.sign * negative
+        half = power(f, f.emax - f.p, negative)
+        values = [[v, v], [v, half], [v], [v ^ f.sign], [half ^ f.sign, v, 1]][i % 5]
+        made.append(Reach('the largest', numbers_of(f), {'rounding': mode, 'saturate': saturate}, values, v))
+        if i % 2:
+            made.append(Reach('the one before', numbers_of(f), {'rounding': 7 - mode, 'saturate': saturate}, values, v - 1))
+    return made
+
+
+def reach_precisions():
+    """Fewer digits than the format's: a wanted total that has no more, at the ends of an exponent and within it, one that has more, and the largest."""
+    made = []
+    for i, (mode, step, n) in enumerate(product(range(8), range(3), range(3))):
+        f = Format(IEEE, *PAIRS[i % 7])
+        q = (1, 2, f.p - 1)[step]
+        result = f.largest(i % 2, q) if n == 2 else f.number(i % 2, ((1 << q) - 1, 1 << q - 1)[i // 9 % 2], 1 - q - i % 3)
+        c = {'rounding': mode, 'precision': q, 'saturate': i // 3 % 2}
+        values = reach_lists(f, result, i)
+        made.append(Reach('precision', numbers_of(f), c, values, result + (n == 1)))
+    return made
+
+
+def reach_zeros():
+    """Zeros wanted of either sign, of every precision in turn, from lists near zero."""
+    made = []
+    for i, (mode, negative, n) in enumerate(product(range(8), range(2), range(3))):
+        f = Format(IEEE, *PAIRS[i % 7])
+        least = power(f, f.emin, i % 2)
+        values = [[], [1 + f.sign * (i % 2)], [least, 3], [power(f, 2), power(f, 2, 1), least], [f.sign, 0]][(i + n) % 5]
+        made.append(Reach('a zero wanted', numbers_of(f), {'rounding': mode, 'precision': i % f.p * (n > 0)}, values, f.sign * negative))
+    return made
+
+
+def reach_zero_answers():
+    """Zero is the answer, +0: the list's sum is the edge from where on the total is reached, or lies above it by less than any number."""
+    made = []
+    for e, w in ((5, 16), (11, 64), (8, 32)):
+        f = Format(IEEE, e, w)
+        even, odd, half, trace = power(f, 0), power(f, 0, 0, 1), power(f, -f.p), 1
+        minus = lambda *values: [v ^ f.sign for v in values]
+        rows = [(EVEN, [odd, half], odd + 1), (EVEN, minus(odd + 1, half), odd + 1 + f.sign), (TIES_AWAY, [even, half], odd),
+                (TIES_TO_ZERO, minus(odd, half), odd + f.sign), (UP, [even, trace], odd), (UP, minus(odd + 1, trace ^ f.sign), odd + f.sign),
+                (DOWN, [odd], odd), (DOWN, minus(even), even + f.sign), (TO_ZERO, [odd], odd), (TO_ZERO, [f.sign + odd + 1, trace], odd + f.sign),
+                (AWAY, [even, trace], odd), (AWAY, minus(odd), odd + f.sign), (TO_ODD, [odd + 1], odd + 1), (TO_ODD, [even, trace], odd)]
+        for mode, values, wanted in rows:
+            made.append(Reach('zero is the answer', (0, e, w), {'rounding': mode}, values, wanted))
+            assert made[-1].number == 0, (f.w, mode, values, wanted, made[-1].number)
+    return made
+
+
+def reach_biases(draw):
+    """Named biases: at the top, in the middle and at the bottom of the numbers, the greatest and the least biases, and the kind's own, whose answers are those
+    without it."""
+    made = []
+    for i, (e, w, bias) in enumerate(PRODUCTS):
+        f = Format(IEEE, e, w, bias)
+        for n in range(2):
+            near = (1, f.ones // 2, f.ones - 1)[(i + n) % 3]
+            numbers = [any_number(draw, f, near) for _ in range(draw.between(1, 4))]
+            c = {'rounding': (i + 3 * n) % 8, 'precision': draw.choice([0, 0, draw.between(1, f.p)]), 'saturate': n}
+            made.append(Reach('a named bias', numbers_of(f), c, numbers, any_wanted(draw, f, c, numbers, near)))
+    for bias, mode in product((2 ** 28, -2 ** 28), range(4)):
+        f = Format(IEEE, *((11, 64), (5, 16), (28, 64), (3, 6))[mode], bias)
+        numbers = [any_number(draw, f, 2) for _ in range(3)]
+        made.append(Reach('2^28 and -2^28', numbers_of(f), {'rounding': 2 * mode}, numbers, any_wanted(draw, f, {**PLAIN, 'rounding': 2 * mode}, numbers, 2)))
+    for e, w in ((5, 16), (8, 32), (11, 64), (3, 5)):
+        f = Format(IEEE, e, w)
+        for _ in range(2):
+            numbers = [any_number(draw, f, f.bias) for _ in range(3)]
+            wanted = any_wanted(draw, f, PLAIN, numbers, f.bias)
+            plain, own = (Reach("the kind's own", g, {}, numbers, wanted) for g in ((0, e, w), (0, e, w, own_bias(0, e))))
+            assert plain.after() == own.after() and plain.returned == own.returned
+            made.append(own)
+    return made
+
+
+def any_number(draw, f, near):
+    """A finite number close to an exponent."""
+    while True:
+        b = any_value(draw, f, near) if draw.chance(40) else f.normal(draw.bits(1), min(max(near + draw.between(-3, 3), 0), f.ones - 1), draw.bits(f.fraction))
+        if f.decode(b)[0] in ('number', 'zero') and (f.e < 20 or abs((b >> f.fraction) % (1 << f.e) - near) <= WIDEST):
+            return b
+
+
+def any_wanted(draw, f, c, values, near):
+    """A finite wanted total: what the list gives with a number, that with one place more or less, what it gives alone, or a number."""
+    longer, last = Longer(f, {**PLAIN, **c}, values), last_place(f)
+    number = any_number(draw, f, near)
+    k = longer.place(place_of(f, number) if draw.chance(70) else 0) + draw.choice([0, 0, 0, 0, 1, -1, 2])
+    if draw.chance(15):
+        k = place_of(f, number)
+    k = min(max(k, -last), last)
+    return f.sign * draw.bits(1) if k == 0 else at_place(f, k)
+
+
+def reach_settings(draw, f):
+    """Settings drawn, without flush and denormals-are-zero."""
+    return {**settings(draw, f), 'flush': 0, 'daz': 0}
+
+
+def drawn_reach(draw, note, f, near=None):
+    """A list of one of the makers of lists to be summed, or numbers close to one exponent."""
+    near = draw.choice([1, f.bias, f.bias, f.ones - 2]) if near is None else near
+    c = reach_settings(draw, f)
+    if draw.chance(50) or f.e < 4:
+        values = [any_number(draw, f, near) for _ in range(draw.below(6))]
+    else:
+        case = drawn(draw, f, (near_tie, cancelling, staircase))
+        while case.right is not None or not is_finite_in(f, case.left):
+            case = drawn(draw, f, (near_tie, cancelling, staircase))
+        values = case.left
+        fields = [(v >> f.fraction) % (1 << f.e) for v in values]
+        near = draw.choice(fields) if fields else near
+    return Reach(note, numbers_of(f), c, values, any_wanted(draw, f, c, values, near))
+
+
+def reach_small(draw):
+    """Formats of few numbers, each of which is tried."""
+    made = []
+    for i in range(60):
+        f = Format(IEEE, *((2, 4), (3, 5), (3, 6))[i % 3])
+        last = last_place(f)
+        values = [at_place(f, draw.between(-last, last)) for _ in range(draw.below(4))]
+        c = {**reach_settings(draw, f), 'rounding': i // 3 % 8}
+        k = min(max(Longer(f, {**PLAIN, **c}, values).place(draw.between(-last, last)), -last), last)
+        wanted = at_place(f, draw.between(-last, last)) if i % 4 == 0 else at_place(f, k) or f.sign * (i % 2)
+        made.append(Reach('few numbers', numbers_of(f), c, values, wanted))
+    return made
+
+
+def reach_formats(draw):
+    """Every E from 2 to 28 with W = E + 2, W = 64 and a width drawn."""
+    return [drawn_reach(draw, 'E from 2 to 28', Format(IEEE, e, w)) for e in range(2, 29) for w in (e + 2, 64, draw.choice(widths(e)))]
+
+
+def reach_drawn(draw):
+    """binary16, binary32 and binary64."""
+    return [drawn_reach(draw, 'drawn', Format(IEEE, *((5, 16), (8, 32), (11, 64))[i % 3])) for i in range(60)]
+
+
+def reach_orders(draw):
+    """The same list in five orders: one answer."""
+    made = []
+    while len(made) < 30:
+        f = Format(IEEE, *((11, 64), (5, 16), (8, 32), (3, 6), (15, 64))[len(made) // 5 % 5])
+        reach = drawn_reach(draw, 'in five orders', f)
+        values = reach.values
+        if len(set(values)) < 3 or len(made) % 4 and reach.refusal:
+            continue
+        group = [Reach(reach.note, numbers_of(f), reach.c, order, reach.wanted)
+                 for order in (values, values[::-1], sorted(values), draw.shuffled(values), draw.shuffled(values))]
+        assert len({(other.number, other.returned) for other in group}) == 1
+        made += group
+    return made
+
+
+def bits_of(x):
+    """The encoding of a double."""
+    return int.from_bytes(struct.pack('<d', x), 'little')
+
+
+def reach_careers():
+    """Amounts of years, in pounds and pence, and a total that is to be reached; Python's own sum of doubles, which is exact and rounded once to the nearest,
+    says the same of the answer and of the number below it. Nothing makes nine of these amounts 0."""
+    made = []
+    pay = (18250.40, 19112.07, 20480.00, 21999.99, 23750.55, 26014.10, 28333.33, 30120.08, 31999.95, 33480.61, 35010.02, 36111.11)
+    for n, wanted in ((0, 480.0), (1, 40000.0), (2, 37362.47), (3, 57842.48), (4, 100000.0), (5, 103593.0), (6, 129607.12), (7, 250000.0), (8, 188060.5),
+                      (9, 0.0), (10, 253540.1), (11, 300000.0), (11, 288551.1), (11, 288551.10000000003), (12, 400000.0), (12, 1e15)):
+        values = [bits_of(x) for x in pay[:n]]
+        reach = Reach('a career', (0, 11, 64), {}, values, bits_of(wanted))
+        below, found = (math.fsum([*pay[:n], double(at_place(DOUBLE, k))]) for k in (reach.above - 1, reach.above))
+        assert below < wanted <= found and (found == wanted) == (reach.refusal == 0)
+        made.append(reach)
+    return made
+
+
+def reach_spoiled(numbers, turn):
+    """A call of which exactly the conditions of these numbers hold."""
+    largest, infinite, quiet, minus = 0x7bff, 0x7c00, 0x7e00, 0x8000
+    calls = {(False, False): [([ONE], ONE), ([ONE, 3], 0x4000), ([0x3555, ONE], 0x3c00), ([minus + 1, 0], minus)],
+             (False, True): [([largest] * 3, ONE), ([ONE, ONE], 0x3c01), ([minus + largest] * 2, ONE), ([ONE], 0x3c01)],
+             (True, False): [([largest, ONE], infinite), ([infinite, ONE], infinite), ([ONE, minus + infinite], minus + infinite),
+                             ([minus, largest], infinite)],
+             (True, True): [([quiet, ONE], ONE), ([ONE, infinite], ONE), ([ONE, ONE], infinite + 1), ([infinite, minus + infinite], infinite)]}
+    values, wanted = calls[15 in numbers, 14 in numbers][turn % 4]
+    c = {'precision': 3} if 14 in numbers and turn % 2 else {}
+    if 4 in numbers:
+        c.update(({'flush': 1}, {'daz': 1}, {'flush': 1, 'daz': 1}, {'flush': 2} if 14 not in numbers else {'daz': 1})[turn % 4])
+        c.update(({'rounding': 8}, {'precision': 12})[turn // 2 % 2] if numbers.isdisjoint({14, 15}) and turn % 2 else {})
+    f = HALF
+    if 3 in numbers and numbers.isdisjoint({14, 15}):
+        f = ((0, 1, 16), (4, 5, 16), (2, 5, 16), (0, 5, 16, 1, 2 ** 28 + 1))[turn % 4]
+    elif 3 in numbers:
+        f = ((1, 5, 16), (0, 5, 16, 2, 0), (3, 5, 16), (0, 5, 16, 0, 7))[turn % 4]
+    if 7 in numbers:
+        far = 1 << (16, 63, 17, 40)[turn % 4]
+        values, wanted = (values[:-1] + [values[-1] + far], wanted + far * (turn % 4 == 2)) if turn % 2 == 0 else (values, wanted + far)
+    reach = Reach(', '.join(map(str, sorted(numbers))), f, c, values, wanted, (0, 7, 1, 4)[turn % 4] if 2 in numbers else REACH_BUFFER)
+    assert reach.holds == numbers and reach.returned % 256 == next(n for n in CONTRIBUTION_ORDER if n in numbers), (numbers, turn, reach.holds)
+    return reach
+
+
+def reach_alone():
+    """Each refusal by itself, at its limits and one step inside them."""
+    made = []
+    add = lambda note, f, c, values, wanted, *room: made.append(Reach(note, f, c, values, wanted, *room))
+    for room in range(10):
+        add('buffers', HALF, {}, [ONE], ONE, room)
+    for f in ((1, 5, 16), (2, 5, 16), (3, 5, 16), (4, 15, 80), (4, 5, 16), (9, 5, 16), (15, 5, 16), (0, 1, 16), (0, 0, 8), (0, 29, 64), (0, 11, 12),
+              (0, 11, 65), (0, 28, 29), (0, 255, 255), (0, 2, 4), (0, 2, 64), (0, 28, 30), (0, 28, 64)):
+        add('formats', f, {}, [0, 1], 2)
+    for named, bias in ((0, 1), (0, -1), (0, 15), (0, 2 ** 63 - 1), (2, 0), (2, 15), (3, 15), (15, -1), (1, 2 ** 28 + 1), (1, -2 ** 28 - 1), (1, 2 ** 63 - 1),
+                        (1, 1 - 2 ** 63), (1, 2 ** 28), (1, -2 ** 28), (1, 0), (0, 0)):
+        add('biases', (0, 5, 16, named, bias), {}, [ONE], ONE)
+    for name, most in zip(SETTINGS, RANGES):
+        inside = 0 if name in ('flush', 'daz') else most - 1
+        for n in (inside, most, 15) if inside else (1, most, 15):
+            add('settings', HALF, {name: n}, [ONE], ONE)
+    for precision in (11, 12, 255):
+        add('precision', HALF, {'precision': precision}, [ONE], ONE)
+    return made
+
+
+def reach_places():
+    """Stray bits in the list at each of its places, in the wanted total, whose place is the list's length, and in both."""
+    made = []
+    add = lambda note, f, values, wanted: made.append(Reach(note, f, {}, values, wanted))
+    for i in range(12):
+        far = [ONE] * i + [ONE + (1 << (16, 40, 63)[i % 3])] + [ONE] * (11 - i)
+        add('stray bits', HALF, far, ONE)
+        if i % 2:
+            add('both', HALF, far[:i + 1 + i // 2 % 2 * (11 - i)], STRAY)
+    for n in range(13):
+        add('the wanted total', HALF, [ONE] * n, ONE + (1 << (16, 40, 63)[n % 3]))
+    add('stray bits', HALF, [ONE, 1 << 63, ONE, STRAY], ONE)
+    add('both', HALF, [STRAY] * 12, STRAY)
+    for w, place in ((63, 1), (64, 0)):
+        # the bit 63 is stray in one of these, and a sign in the other
+        add('the highest bit', (0, 2, w), [0, 1 << 63], 0)
+        add('the highest bit', (0, 2, w), [0], 1 << 63)
+        assert [reach.place for reach in made[-2:]] == [place, place]
+    add('four bits', (0, 2, 4), [0, 7], 16)
+    add('four bits', (0, 2, 4), [0, 16], 7)
+    return made
+
+
+def reach_not_finite():
+    """NaNs and infinities, in the list and wanted; and totals right within and beyond what the numbers reach."""
+    made = []
+    add = lambda note, c, values, wanted: made.append(Reach(note, HALF, c, values, wanted))
+    for b in (0x7c00, 0xfc00, 0x7c01, 0x7e00, 0xfdff, 0xffff):
+        add('a value not finite', {}, [ONE, b], ONE)
+        add('the only value', {}, [b], 0)
+        add('total not finite', {}, [ONE], b)
+        add('both not finite', {'saturate': 1}, [b], b)
+    for mode in range(8):
+        # with the largest number the sum is 0, and with no number more
+        minus = 0x8000 * (mode % 2)
+        add('just reached', {'rounding': mode}, [0xfbff - minus], minus)
+        add('just missed', {'rounding': mode}, [0xfbff - minus], minus + 1)
+        assert [reach.refusal for reach in made[-2:]] == [0, 14]
+    return made + [reach_spoiled({15}, turn) for turn in range(4)]
+
+
+def reach_refusals():
+    """Each two, three and more numbers that hold together; 6 is left to longer lists."""
+    made = []
+    for n in range(2, 7):
+        for numbers in combinations((2, 3, 4, 7, 15, 14), n):
+            made += [reach_spoiled(set(numbers), (len(made) + turn) % 4) for turn in range(2 if n == 2 else 1)]
+    return reach_alone() + reach_places() + reach_not_finite() + made
+
+
+def reaches():
+    draw = Draw(12)
+    made = (reach_examples() + reach_roundings() + reach_overflows() + reach_precisions() + reach_zeros() + reach_zero_answers() + reach_biases(draw)
+            + reach_small(draw) + reach_formats(draw) + reach_drawn(draw) + reach_orders(draw) + reach_careers() + reach_refusals())
+    # bytes behind the values, and buffers of other lengths
+    for i, reach in enumerate(made):
+        reach.more, reach.first = i % 8, 37 * i % 256
+        if reach.room == REACH_BUFFER:
+            reach.room = REACH_ANSWER + i % 9
+    return made
+
+
+def reaches_asked(binary):
+    """Holds the answers to the oracle: the plain sum with the number found is the wanted total, and with the next number below it is less; where no number
+    does it, one gives more, or there is none above, and the next one below gives less. How many calls there are of either sort of which it knows the format."""
+    known = set(known_formats(binary))
+    calls = [reach for reach in reaches() if reach.refusal in (0, 14) and reach.numbers[:3] + reach.numbers[4:] * reach.numbers[3] in known]
+    sums = [(reach, k) for reach in calls for k in (reach.above - 1, reach.above) if abs(k) <= last_place(reach.format())]
+    for (reach, k), answer in zip(sums, asked(binary, [reach.case(k) for reach, k in sums])):
+        f = reach.format()
+        found, target = place_of(f, int(answer.split()[0], 16)), place_of(f, reach.wanted)
+        right = found < target if k < reach.above else found == target if reach.number is not None else found > target
+        if not right or reach.number is not None and place_of(f, reach.number) != reach.above:
+            sys.exit('%s: %s\n  oracle %s, wanted %x, model %s' % (reach.note, reach.case(k).line(), answer, reach.wanted, reach.number))
+    return sum(not reach.refusal for reach in calls), sum(reach.refusal == 14 for reach in calls)
+
+
+def cover_reaches(every):
+    given, none = [reach for reach in every if not reach.refusal], [reach for reach in every if reach.refusal == 14]
+    print('%5d  contributions, %d of them found; %d wanted totals that no number reaches' % (len(every), len(given), len(none)))
+    mode, both = lambda reach: reach.c['rounding'], given + none
+    sign = lambda n: (n > 0) - (n < 0)
+    wanted = lambda reach: place_of(reach.format(), reach.wanted)
+    place = lambda reach: place_of(reach.format(), reach.number)
+    fewest('rounding, sign of the wanted total (minus, 0, plus)', given, lambda reach: (mode(reach), sign(wanted(reach))), range(8), (-1, 0, 1))
+    fewest('no number, by rounding', none, lambda reach: (mode(reach),), range(8))
+    fewest('no number: all give less; one gives more', none, lambda reach: (reach.above <= last_place(reach.format()),), (False, True))
+
+    def size(f, k):
+        k = abs(k)
+        return 0 if k == 0 else 4 if k == last_place(f) else 1 if k < 1 << f.fraction else 3 if k % (1 << f.fraction) == 0 else 2
+    fewest('size of the wanted total (0, subnormal, normal, a power of two, the largest), by rounding', given,
+           lambda reach: (size(reach.format(), wanted(reach)), mode(reach)), range(5), range(8))
+    fewest('size of the number', given, lambda reach: (size(reach.format(), place(reach)),), range(5))
+    fewest('zero wanted, by its sign and rounding', [reach for reach in given if wanted(reach) == 0],
+           lambda reach: (reach.wanted > 0, mode(reach)), (False, True), range(8))
+    fewest('zero is the answer, by rounding', [reach for reach in given if place(reach) == 0], lambda reach: (mode(reach),), range(8))
+    fewest('the least finite number is the answer, by saturation', [reach for reach in given if place(reach) == -last_place(reach.format())],
+           lambda reach: (reach.c['saturate'],), range(2))
+    exact = lambda reach: Case(reach.format(), reach.c, [*reach.values, reach.number])
+    fewest('side of the sum with the number', given, lambda reach: (exact(reach).leans,), range(3))
+    fewest('passes of that sum, 1 to 3', given, lambda reach: (exact(reach).passes,), range(1, 4))
+    overflows = [reach for reach in given if exact(reach).flags & OVERFLOW]
+    fewest('overflow of that sum, saturated or not', overflows, lambda reach: (reach.c['saturate'],), range(2))
+    fewest('precision below p, found or not, by rounding', [reach for reach in both if 0 < reach.c['precision'] < reach.format().p],
+           lambda reach: (reach.refusal, mode(reach)), (0, 14), range(8))
+    fewest('more digits than the precision, found or not', [reach for reach in given if reach.c['precision']],
+           lambda reach: (reach.format().decode(reach.number)[0] == 'number' and digits_of(reach) > reach.c['precision'],), (False, True))
+    fewest('E', both, lambda reach: (reach.numbers[1],), range(2, 29))
+    fewest('a bias named, found or not', [reach for reach in both if reach.numbers[3]], lambda reach: (reach.refusal,), (0, 14))
+    fewest('number of values', both, lambda reach: (len(reach.values),), range(13))
+    refused = [reach for reach in every if reach.holds]
+    order = CONTRIBUTION_ORDER[:3] + CONTRIBUTION_ORDER[4:]
+    fewest('one refusal alone', [reach for reach in refused if len(reach.holds) == 1], lambda reach: tuple(reach.holds), order)
+    fewest('two refusals at once, by pair', [reach for reach in refused if len(reach.holds) == 2], lambda reach: (tuple(sorted(reach.holds)),),
+           map(tuple, map(sorted, combinations(order, 2))))
+    fewest('three, four, five, six at once', refused, lambda reach: (len(reach.holds),), range(3, 7))
+    fewest('place of a stray bit', [reach for reach in every if reach.refusal == 7], lambda reach: (reach.place,), range(13))
+
+
+def digits_of(reach):
+    """How many digits the number found has."""
+    m = reach.format().decode(reach.number)[2]
+    return m.bit_length() - (m & -m).bit_length() + 1
 
 
 def main():

@@ -1,6 +1,6 @@
 """What document 01 says of a total, and document 02 of which way its result leans, of a named bias, of a list's pence, of a table, of amounts known
-within a range, of career pages, of the most elements of a list, of values of ten bytes, of one total in several formats and of a total within an allowance of
-passes, in whole numbers of any length.
+within a range, of career pages, of the most elements of a list, of values of ten bytes, of one total in several formats, of a total within an allowance of
+passes and of the contribution that reaches a total, in whole numbers of any length.
 
 Written from the text of document 01, and from the Rust's where document 01
 names a function of it (the choice among NaNs, overflow, the largest number).
@@ -12,7 +12,8 @@ page's summaries are those of Python's floats, as fractions; a page is read
 field by field, and held to the page that is written of its values. A target's
 result is the list's exact sum rounded in the target's format, and by way of no
 other. What an allowance shows is the pass of that number, and it is held to the
-exact sum.
+exact sum. A contribution is found by its size, as what is missing up to the sums
+that are rounded to the wanted total, and in small formats among all numbers.
 """
 
 import math
@@ -784,3 +785,174 @@ def off(terms, w, boundary, s):
     low = min([w, at] + [x for _, _, x in terms])
     total = sum((-m if negative else m) << (x - low) for negative, m, x in terms)
     return abs(total - (s << (w - low)) - (whole << (at - low))), len(terms) << (w - low)
+
+
+# ---- the contribution that reaches a wanted total
+
+# the numbers of its refusals, in the order in which they are given
+CONTRIBUTION_ORDER = (2, 3, 4, 6, 7, 15, 14)
+# up to this width every number of a format is tried
+SEARCHED = 10
+
+
+def place_of(f, b):
+    """How many numbers of the format b lies above zero, or, with a minus, below it. Both zeros have the place 0, the infinities those behind the largest
+    numbers."""
+    return f.sign - b if b >= f.sign else b
+
+
+def at_place(f, k):
+    """The number there; of the zeros +0."""
+    return k if k >= 0 else f.sign - k
+
+
+def last_place(f):
+    """That of the largest number."""
+    return (f.ones << f.fraction) - 1
+
+
+class Longer:
+    """A list of finite values, and the plain sums of it and one number more."""
+
+    def __init__(self, f, c, values):
+        self.f, self.c = f, c
+        self.terms, _ = sum_terms(VALUE, [f.decode(b) for b in values])
+
+    def exact(self, *more):
+        """The exact sum with these encodings: a whole number, and the position of its unit."""
+        terms = self.terms + sum_terms(VALUE, [self.f.decode(b) for b in more])[0]
+        low = min((x for _, _, x in terms), default=self.f.low)
+        return sum((-m if negative else m) << (x - low) for negative, m, x in terms), low
+
+    def place(self, k):
+        """The place of the sum with the number at the place k."""
+        total, low = self.exact(at_place(self.f, k))
+        if total == 0:
+            return 0
+        result, _, _ = round_once(self.f, self.c, int(total < 0), abs(total), low)
+        return place_of(self.f, result)
+
+
+def searched(longer, wanted):
+    """The place of the contribution, looked for among all finite numbers, the most negative one first; None where no number does it."""
+    last, target = last_place(longer.f), place_of(longer.f, wanted)
+    return next((k for k in range(-last, last + 1) if longer.place(k) == target), None)
+
+
+def edge_of(f, c, wanted):
+    """From where on an exact sum is rounded to the wanted total, or to more than it: a whole number, the position of its unit, and whether that sum itself
+    is. None where an overflow gives no more than the largest number, so that no sum is rounded to more than a positive total, and every one to a negative
+    total or more.
+
+    Of the results, the numbers of q digits, g is the first that is not below the wanted total. g and the result before it are whole numbers of one unit, one
+    of them odd, and the mode shares out what lies between the two. Beyond the largest result the next one is 2^(emax + 1), an overflow."""
+    mode, q = c['rounding'], c['precision'] or f.p
+    v = f.decode(wanted)
+    positive = v[0] == 'number' and not v[1]
+    m, x = v[2:] if v[0] == 'number' else (0, f.low)
+    top = max(f.emin, x + m.bit_length() - 1)
+    unit = top - q + 1
+    inward = m << x - unit if x >= unit else m >> unit - x
+    if not positive:
+        g, before = inward, inward + 1
+    else:
+        g = m << x - unit if x >= unit else -(-m >> unit - x)
+        if g == 1 << q - 1 and top > f.emin:
+            # below a power of two the results lie twice as close
+            g, unit = 2 * g, unit - 1
+        before = g - 1
+    outward = mode in (EVEN, TIES_AWAY, TIES_TO_ZERO, AWAY) or mode == (UP if positive else DOWN)
+    if max(g, before) == 1 << q and unit + q > f.emax and (c['saturate'] or not outward):
+        return None
+    sign = 1 if positive else -1
+    if mode in (EVEN, TIES_AWAY, TIES_TO_ZERO):
+        # the middle goes to the even one, to the outer one or to the inner one
+        return sign * (g + before), unit - 1, {EVEN: g % 2 == 0, TIES_AWAY: positive, TIES_TO_ZERO: not positive}[mode]
+    # either all that lies between goes to g, or g alone
+    between = {UP: True, DOWN: False, TO_ZERO: not positive, AWAY: positive, TO_ODD: g % 2 == 1}[mode]
+    return (sign * before, unit, False) if between else (sign * g, unit, True)
+
+
+def first_from(f, m, x, itself):
+    """The place of the least finite number that is not below m * 2^x, or that is above it, and the one behind the last where there is none."""
+    last = last_place(f)
+    if m == 0:
+        return 0 if itself else 1
+    size = abs(m)
+    unit = max(f.emin, x + size.bit_length() - 1) - f.fraction
+    count = size << x - unit if x >= unit else size >> unit - x
+    exact = x >= unit or count << unit - x == size
+    place = count + (unit - f.low << f.fraction)
+    k = place + (not (exact and itself)) if m > 0 else (exact and not itself) - place
+    return min(max(k, -last), last + 1)
+
+
+def first_place(longer, wanted):
+    """The place of the least finite number with which the sum is not below the wanted total, or the one behind the last. It is found by its size: what is
+    missing from the list's exact sum to the edge. Sums rise with the number, and so the sum with this one, and with the one below, decide."""
+    f = longer.f
+    last, target = last_place(f), place_of(f, wanted)
+    edge = edge_of(f, longer.c, wanted)
+    if edge is None:
+        k = last + 1 if target > 0 else -last
+    else:
+        (total, low), (m, x, itself) = longer.exact(), edge
+        at = min(low, x)
+        k = first_from(f, (m << x - at) - (total << low - at), at, itself)
+    assert k == -last or longer.place(k - 1) < target
+    assert k > last or longer.place(k) >= target
+    return k
+
+
+@lru_cache(maxsize=4)
+def contribution(f, c, values, wanted):
+    """The least finite number with which the plain sum of the list is the wanted total, None where none does it; and the first place of which the sum is not
+    below that. Format, settings and list are tuples. In a small format every number is tried, and what is found by its size has to be the same."""
+    f = Format(*f)
+    longer = Longer(f, dict(zip(SETTINGS, c)), values)
+    first = first_place(longer, wanted)
+    found = first if first <= last_place(f) and longer.place(first) == place_of(f, wanted) else None
+    if f.w <= SEARCHED:
+        assert searched(longer, wanted) == found
+    return None if found is None else at_place(f, found), first
+
+
+def none_does(f, c, values, wanted):
+    """Whether no finite number makes the sum the wanted total, also where this or a value is an infinity or a NaN, which is equal to nothing."""
+    g = Format(*f)
+    listed, aimed = [g.decode(b) for b in values], g.decode(wanted)
+    infinities = {v for v in listed if v[0] == 'infinity'}
+    if any(v[0] == 'nan' for v in [*listed, aimed]) or len(infinities) > 1:
+        return True
+    if infinities:
+        return aimed not in infinities
+    if aimed[0] == 'infinity':
+        outermost = -last_place(g) if aimed[1] else last_place(g)
+        return Longer(g, dict(zip(SETTINGS, c)), values).place(outermost) != place_of(g, wanted)
+    return contribution(f, c, values, wanted)[0] is None
+
+
+def contribution_conditions(kind, e, w, named, bias, c, values, wanted, room):
+    """The numbers whose conditions hold, by the five numbers of a format. 15 and 14 are asked of the Ieee format with the same E and W, and with its bias
+    where it names one as a whole, of the values without their stray bits, and 14 with flush to zero and denormals-are-zero 0: so they can hold beside every
+    other number, unless there is no such format, or another setting is out of its range."""
+    bias, whole = named_bias(named, bias)
+    holds = conditions(kind, e, w, bias, c, VALUE, values, None, (0, 0), room, least=8)
+    plain = {**c, 'flush': 0, 'daz': 0}
+    sound = 4 not in conditions(IEEE, e, w, None, plain, VALUE, [], None, (0, 0), 8)
+    if not whole or kind != IEEE:
+        holds.add(3)
+    if c['flush'] or c['daz']:
+        holds.add(4)
+    if len(values) >= LIMIT:
+        holds.add(6)
+    if stray(w, [wanted]):
+        holds.add(7)
+    f = IEEE, e, w, bias if whole else None
+    if valid_format(*f):
+        *listed, aimed = (b % (1 << w) for b in [*values, wanted])
+        if any(Format(*f).decode(b)[0] in ('nan', 'infinity') for b in [*listed, aimed]):
+            holds.add(15)
+        if sound and none_does(f, tuple(plain[name] for name in SETTINGS), tuple(listed), aimed):
+            holds.add(14)
+    return holds

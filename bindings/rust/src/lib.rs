@@ -5,6 +5,7 @@ extern crate alloc;
 
 use alloc::vec::Vec;
 
+mod contribution;
 mod format;
 mod into;
 mod page;
@@ -256,6 +257,45 @@ pub fn sum_into<T: Float + Word>(
     targets: &[Target],
 ) -> Vec<Result<Record<u64>, Refusal>> {
     Totals::<T>::new().sum_into(values, targets)
+}
+
+/// What must be added to reach a total: the least finite number with which, behind the values, [`sum`] has
+/// the wanted total for its result.
+///
+/// The number is the most negative one that does. Where the wanted total is below what the list comes to,
+/// it is an amount that goes back. Where zero is the answer it is +0. At most 65 sums are taken for it. A
+/// list of `f64` is read where it lies; one of `f32` is copied first, eight bytes a value.
+///
+/// # Errors
+///
+/// The first of these that holds: [`Refusal::TooManyElements`] where there are 268,435,456 values or more,
+/// since one is added; [`Refusal::NotFinite`] where a value or the wanted total is a NaN or an infinity;
+/// [`Refusal::NoContribution`] where no finite number does it.
+///
+/// Proved: the contract of `totals_contribution` in `crates/totals/src/entry_contribution.rt`;
+/// `contribution-least`, `contribution-none`, `contribution-rises`, `contribution-refusal`,
+/// `contribution-order` in `crates/further_spec/proofs/Promises.antt`.
+///
+/// ```
+/// use fermuzhai::{contribution, sum, Refusal};
+///
+/// // four months are paid: what must the fifth be, for 1000 in all?
+/// let paid: [f64; 4] = [250.0, 250.0, 250.0, 99.99];
+/// let due = contribution(&paid, 1000.0)?;
+/// assert_eq!(format!("{due:.2}"), "150.01");
+///
+/// let total = |last| sum(&[&paid[..], &[last]].concat()).map(|record| record.result);
+/// assert_eq!(total(due)?, 1000.0);
+/// assert!(total(f64::from_bits(due.to_bits() - 1))? < 1000.0);
+///
+/// // with −2^1000 the sum is 2^−1000, and with the next double 2^947 and that
+/// let apart = [2f64.powi(1000), 2f64.powi(-1000)];
+/// assert_eq!(contribution(&apart, 1.0), Err(Refusal::NoContribution));
+/// assert_eq!(contribution(&apart, f64::INFINITY), Err(Refusal::NotFinite));
+/// # Ok::<(), Refusal>(())
+/// ```
+pub fn contribution<T: Float + Word>(values: &[T], wanted: T) -> Result<T, Refusal> {
+    Totals::new().contribution(values, wanted)
 }
 
 /// The exact sum of the values, rounded once to the nearest, ties to even, if its chain of passes ends

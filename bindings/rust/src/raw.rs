@@ -1,6 +1,7 @@
-//! The twelve entries of `libtotals.a`, as they are: four over bytes, [`pence`], [`table`] and
-//! [`range`] over words, [`page_sum`] and [`page_write`] for career pages, [`sum_into`] for a sum
-//! in three formats, and [`sum_within`] and [`dot_within`] for what an allowance of passes gives.
+//! The thirteen entries of `libtotals.a`, as they are: four over bytes, [`pence`], [`table`],
+//! [`range`] and [`contribution`] over words, [`page_sum`] and [`page_write`] for career pages,
+//! [`sum_into`] for a sum in three formats, and [`sum_within`] and [`dot_within`] for what an
+//! allowance of passes gives.
 //!
 //! The numbers and the layout of the answer are those of the repository's `docs/SPECIFICATION.md`.
 //! For most callers [`Totals`](crate::Totals), for ranges [`crate::range`] and for pages
@@ -221,6 +222,26 @@ mod entry {
             left_len: usize,
             right: *const u8,
             right_len: usize,
+            answer: *mut u8,
+            answer_len: usize,
+        ) -> u64;
+        pub fn totals_contribution(
+            kind: u64,
+            exponent_bits: u64,
+            width: u64,
+            bias_named: u64,
+            bias: i64,
+            rounding: u64,
+            tininess: u64,
+            nan_propagation: u64,
+            default_nan_negative: u64,
+            flush_to_zero: u64,
+            denormals_are_zero: u64,
+            saturate: u64,
+            precision: u64,
+            wanted: u64,
+            values: *const u64,
+            count: usize,
             answer: *mut u8,
             answer_len: usize,
         ) -> u64;
@@ -873,6 +894,73 @@ pub fn dot_within(
             left.len(),
             right.as_ptr(),
             right.len(),
+            answer.as_mut_ptr(),
+            answer.len(),
+        )
+    }
+}
+
+/// The contribution that reaches a target: the least finite number with which, behind the values, their
+/// plain sum is the wanted total. `values` are encodings of a format of kind 0, one to a word in its low
+/// bits, and `wanted` is one too; `bias` is as in [`pence`].
+///
+/// Returns 0 and writes the encoding of the number to bytes 0 to 7 of the answer, the least byte first;
+/// what lies behind stays as it was. Or returns a refusal's code and writes nothing: 2 under eight bytes
+/// of answer, 3, 4, 6, 7 plus 256 times a place, 15 or 14, the first that holds in this order. What they
+/// mean is said at [`Totals::contribution`](crate::Totals::contribution). 3 is also any kind but 0, and 4
+/// a flush to zero or a denormals-are-zero that is not 0.
+///
+/// Proved: the contract of `totals_contribution` in `crates/totals/src/entry_contribution.rt`;
+/// `contribution-least`, `contribution-none`, `contribution-entry-refusal`,
+/// `contribution-entry-refused`, `contribution-entry-read-back`, `contribution-entry-order` in
+/// `crates/further_spec/proofs/Promises.antt`.
+///
+/// ```
+/// use fermuzhai::raw;
+///
+/// // 1 in binary16: with −2^−12 behind it the sum is a tie, and goes to 1
+/// let mut answer = [7; 9];
+/// assert_eq!(raw::contribution([0, 5, 16], None, [0; 8], 0x3c00, &[0x3c00], &mut answer), 0);
+/// assert_eq!(answer, [0x00, 0x8c, 0, 0, 0, 0, 0, 0, 7]);
+///
+/// // to three digits no sum is the next number, and a NaN is none
+/// let three = [0, 0, 0, 0, 0, 0, 0, 3];
+/// let mut wanting = |wanted| {
+///     raw::contribution([0, 5, 16], None, three, wanted, &[0x3c00], &mut answer)
+/// };
+/// assert_eq!(wanting(0x3c01), 14);
+/// assert_eq!(wanting(0x7e00), 15);
+/// assert_eq!(wanting(0x1_0000), 7 + 256); // behind the list of one value
+/// ```
+#[must_use = "the number is written only where 0 is returned"]
+pub fn contribution(
+    f: Format,
+    bias: Option<i64>,
+    c: Settings,
+    wanted: u64,
+    values: &[u64],
+    answer: &mut [u8],
+) -> u64 {
+    // SAFETY: each pointer comes with the length of the slice that it is taken from, and `answer`,
+    // being borrowed for writing, lies apart from `values`. Of the numbers nothing is asked.
+    unsafe {
+        entry::totals_contribution(
+            f[0],
+            f[1],
+            f[2],
+            bias.is_some().into(),
+            bias.unwrap_or(0),
+            c[0],
+            c[1],
+            c[2],
+            c[3],
+            c[4],
+            c[5],
+            c[6],
+            c[7],
+            wanted,
+            values.as_ptr(),
+            values.len(),
             answer.as_mut_ptr(),
             answer.len(),
         )

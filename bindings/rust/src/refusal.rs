@@ -26,14 +26,14 @@ impl Display for OfList {
 }
 
 /// Why a total was not taken, or a page not written. Where several reasons hold, the first in this
-/// order is given, but that of a table 9 and 10 come before 7, of a page 12 and 13 before 4, and within an
-/// allowance 16 before 3. The numbers and their conditions stand in `docs/SPECIFICATION.md` of the
-/// repository.
+/// order is given, but that of a table 9 and 10 come before 7, of a page 12 and 13 before 4, within an
+/// allowance 16 before 3, and of a contribution 15 before 14. The numbers and their conditions stand in
+/// `docs/SPECIFICATION.md` of the repository.
 ///
 /// Proved: `sum-refusal`, `dot-refusal`, `extended-call-refused-exactly`, `sum-pence-refused-exactly`, `table-refused-exactly`,
 /// `range-refused-exactly`, `page-refused-exactly`, `page-span-refused-exactly` in
-/// `crates/totals_spec/proofs/Promises.antt`; `target-refusal`, `within-refusal` in
-/// `crates/further_spec/proofs/Promises.antt`.
+/// `crates/totals_spec/proofs/Promises.antt`; `target-refusal`, `within-refusal`,
+/// `contribution-refusal` in `crates/further_spec/proofs/Promises.antt`.
 ///
 /// ```
 /// use fermuzhai::{dot, Refusal};
@@ -54,10 +54,11 @@ pub enum Refusal {
     },
     /// 2: a destination that is shorter than the page would be. Through [`raw`](crate::raw) also an
     /// answer buffer under 24 bytes, of [`X87`](crate::X87) under 32, of three targets under 96, within an
-    /// allowance under 144, or of a range a pair under two words.
+    /// allowance under 144, of a contribution under eight, or of a range a pair under two words.
     ShortBuffer,
     /// 3: the library has no such format, or the format names a bias outside −268,435,456 to
-    /// 268,435,456; or it is [`Format::EXTENDED`](crate::Format::EXTENDED), of encodings in words.
+    /// 268,435,456; or it is [`Format::EXTENDED`](crate::Format::EXTENDED), of encodings in words. Of a
+    /// contribution also any format that is not of [`Kind::Ieee`](crate::Kind::Ieee).
     NoSuchFormat,
     /// 4: a precision above the format's digits.
     PrecisionOutOfRange {
@@ -66,18 +67,20 @@ pub enum Refusal {
         /// The most that it can be.
         digits: u8,
     },
-    /// 4: a setting or the summand out of its range; only through [`raw`](crate::raw), whose numbers can say
-    /// what the types of this crate cannot.
+    /// 4: a setting or the summand out of its range. Of a contribution that is flush to zero or
+    /// denormals-are-zero where it is on, beside a precision that the format has. Any other comes only
+    /// through [`raw`](crate::raw), whose numbers can say what the types of this crate cannot.
     SettingOutOfRange,
     /// 5: the two lists of a dot have different lengths; or the three of a range, through
     /// [`raw`](crate::raw).
     DifferentLengths,
     /// 6: over 268,435,456 elements (of a dot: pairs; of a table: cells; of a range: entries; of a page
-    /// that is written: values).
+    /// that is written: values). Of a contribution the number that it adds to the list is one of them.
     TooManyElements,
     /// 7: an element is 2 to the power of the format's width, or more.
     StrayBit {
-        /// The index of the first such element; a dot looks into its left list first.
+        /// The index of the first such element; a dot looks into its left list first. Of a contribution
+        /// the length of the list where there is none in it, and the wanted total is one.
         place: usize,
         /// Which list of a dot it stands in, the left one where both hold one; `None` in a sum and
         /// in a table, and from [`Refusal::from_code`].
@@ -100,6 +103,10 @@ pub enum Refusal {
     NotAPage,
     /// 13: a span of a page starts above its end, or ends above the page's count of values.
     BadSpan,
+    /// 14: no finite number of the format, behind the list, makes its sum the wanted total.
+    NoContribution,
+    /// 15: of a contribution, a NaN or an infinity in the list, or for the wanted total. It has no place.
+    NotFinite,
     /// 16: an allowance of no pass.
     NoPassAllowed,
     /// 17: of a target, more digits than the list's format has; or a NaN or an infinity in the list,
@@ -139,6 +146,8 @@ impl Refusal {
             11 => Self::BadAmount,
             12 => Self::NotAPage,
             13 => Self::BadSpan,
+            14 => Self::NoContribution,
+            15 => Self::NotFinite,
             16 => Self::NoPassAllowed,
             17 => Self::TargetOutOfReach,
             _ if code % 256 == 7 => Self::StrayBit {
@@ -150,13 +159,13 @@ impl Refusal {
     }
 
     /// Says which setting is out of its range. In the types of this crate that can be the precision
-    /// alone.
+    /// alone, but of a contribution also a switch.
     pub(crate) fn with_setting(self, format: Format, settings: Settings) -> Self {
-        match (self, settings.precision) {
-            (Self::SettingOutOfRange, Some(precision)) => Self::PrecisionOutOfRange {
-                precision: precision.get(),
-                digits: format.digits(),
-            },
+        let (precision, digits) = (settings.precision, format.digits());
+        match (self, precision.map(|precision| precision.get())) {
+            (Self::SettingOutOfRange, Some(precision)) if precision > digits => {
+                Self::PrecisionOutOfRange { precision, digits }
+            }
             _ => self,
         }
     }
@@ -173,7 +182,7 @@ impl Display for Refusal {
                 )
             }
             Self::ShortBuffer => out.write_str(
-                "the destination is shorter than the page, the answer buffer has fewer than 24 bytes, 32 for X87, 96 for targets or 144 within an allowance, or the pair fewer than two words",
+                "the destination is shorter than the page, the answer buffer has fewer than 24 bytes, 32 for X87, 96 for targets, 144 within an allowance or 8 for a contribution, or the pair fewer than two words",
             ),
             Self::NoSuchFormat => out.write_str(
                 "there is no such format, or the bias that it names is out of its range",
@@ -206,6 +215,8 @@ impl Display for Refusal {
             ),
             Self::NotAPage => out.write_str("the bytes are not a page: its trailer, areas or a summary are not what the values give, or it counts too many"),
             Self::BadSpan => out.write_str("the span starts above its end, or ends above the number of values"),
+            Self::NoContribution => out.write_str("no finite number brings the sum to the wanted total"),
+            Self::NotFinite => out.write_str("the list holds a NaN or an infinity, or the wanted total is one"),
             Self::NoPassAllowed => out.write_str("the allowance is of no pass at all"),
             Self::TargetOutOfReach => out.write_str("the target has more digits than the list's format, or the list holds a NaN or an infinity"),
             Self::Unknown { code } => {
@@ -244,11 +255,12 @@ mod tests {
         assert_eq!(Refusal::from_code(11), Some(Refusal::BadAmount));
         assert_eq!(Refusal::from_code(12), Some(Refusal::NotAPage));
         assert_eq!(Refusal::from_code(13), Some(Refusal::BadSpan));
+        assert_eq!(Refusal::from_code(14), Some(Refusal::NoContribution));
+        assert_eq!(Refusal::from_code(15), Some(Refusal::NotFinite));
         assert_eq!(Refusal::from_code(16), Some(Refusal::NoPassAllowed));
         assert_eq!(Refusal::from_code(17), Some(Refusal::TargetOutOfReach));
         // a place belongs to a stray bit alone
         for code in [
-            14,
             18,
             255,
             256,
@@ -256,6 +268,8 @@ mod tests {
             8 + 256,
             9 + 256,
             13 + 256,
+            14 + 256,
+            15 + 256,
             16 + 256,
             17 + 256,
             u64::MAX,
@@ -279,7 +293,7 @@ mod tests {
             ),
             (
                 Refusal::ShortBuffer,
-                "the destination is shorter than the page, the answer buffer has fewer than 24 bytes, 32 for X87, 96 for targets or 144 within an allowance, or the pair fewer than two words",
+                "the destination is shorter than the page, the answer buffer has fewer than 24 bytes, 32 for X87, 96 for targets, 144 within an allowance or 8 for a contribution, or the pair fewer than two words",
             ),
             (
                 Refusal::NoSuchFormat,
@@ -323,6 +337,14 @@ mod tests {
             (
                 Refusal::BadSpan,
                 "the span starts above its end, or ends above the number of values",
+            ),
+            (
+                Refusal::NoContribution,
+                "no finite number brings the sum to the wanted total",
+            ),
+            (
+                Refusal::NotFinite,
+                "the list holds a NaN or an infinity, or the wanted total is one",
             ),
             (
                 Refusal::NoPassAllowed,

@@ -12,7 +12,8 @@ const MOST_EMPTY: usize = 1 << 20;
 
 /// The four totals in one format and under one choice of settings; the same within an allowance of
 /// passes; the sums of the rows and columns of a table; those of a span of a page; a sum in several
-/// formats; and the pence of a sum, in which settings play no part.
+/// formats; the contribution that brings a sum to a wanted total; and the pence of a sum, in which
+/// settings play no part.
 ///
 /// [`Totals::new`] is for the floats of Rust and for [`X87`](crate::X87), which has the four totals
 /// alone; [`Totals::of`] is for encodings of any other format.

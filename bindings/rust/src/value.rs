@@ -14,8 +14,8 @@ pub trait Float: Value {
     const FORMAT: Format;
 }
 
-/// A value of which pence, tables, sums into several formats and totals within an allowance are taken:
-/// its encoding fits a word of 64 bits, as that of each does but of [`X87`].
+/// A value of which pence, tables, sums into several formats, contributions and totals within an
+/// allowance are taken: its encoding fits a word of 64 bits, as that of each does but of [`X87`].
 ///
 /// Sealed: no other type can have it.
 pub trait Word: Value + sealed::Word {}

@@ -1,5 +1,6 @@
 -- The fields of a row, at the places that cases.py has: numbers in hex digits, and a sign before one of them.
-use Rattle.std.specs.Prelude.{Option, Some, None, Bool, cond, List, [], ◌∷◌, ◌++◌, set, map, replicate, ℕ, ◌+◌, ◌-◌, ◌*◌, ◌%◌, ◌^◌, ◌≡◌, eqb, ltb, ℤ, pos, neg_ℤ, length, get_or, min}
+use Rattle.std.specs.Prelude.{Option, Some, None, Bool, cond, List, [], ◌∷◌, ◌++◌, set, map, replicate, ℕ, ◌+◌, ◌-◌, ◌*◌, ◌%◌, ◌^◌, ◌≡◌}
+use Rattle.std.specs.Prelude.{eqb, ltb, ℤ, pos, neg_ℤ, length, get_or, min}
 use Rattle.std.specs.List.{range_with_len}
 use Rattle.totals_spec.specs.Pages.{value_bytes}
 use Rattle.hexadecimal.specs.Digits.{number_at}
@@ -8,6 +9,7 @@ use Rattle.format.specs.declared.Format.{Format}
 use Rattle.format.specs.declared.env.Settings.{Settings}
 use Rattle.reduction.specs.declared.total.Answer.{Answer}
 use Rattle.totals.specs.declared.pence.Pence.{Pence}
+use Rattle.totals.specs.declared.contribution.Contribution.{Contribution}
 
 -- the number of n digits from a place on, in a word
 abbrev pub word_at : List ℕ → ℕ → ℕ → ℕ
@@ -48,6 +50,17 @@ named_in s =
 abbrev pub format_in : List ℕ → Format
 format_in s = record { kind = word_at s 2 1; exponent_bits = word_at s 4 2; width = word_at s 7 2; named = named_in s }
 
+-- the same of a row that has a number to tell whether it names a bias, and the bias behind that
+abbrev pub told_format_in : List ℕ → Format
+told_format_in s =
+    let f = format_in s in
+    record {
+      kind = f.kind;
+      exponent_bits = f.exponent_bits;
+      width = f.width;
+      named = cond (eqb (word_at s 32 1) 0) f.named (Some (signed_at s 34 16));
+    }
+
 abbrev pub answer_in : List ℕ → Answer
 answer_in s = record {
   result = word_at s 32 16;
@@ -62,6 +75,9 @@ answer_in s = record {
 -- a record of pence: the figure, its sign and 16 digits, and behind it the refusal and the place
 abbrev pub pence_in : List ℕ → ℕ → Pence
 pence_in s at = record { figure = signed_at s at 16; refusal = word_at s (at + 18) 1; place = word_at s (at + 20) 1 }
+
+abbrev pub contribution_in : List ℕ → Contribution
+contribution_in s = record { number = word_at s 96 16; refusal = word_at s 21 1; place = word_at s 77 1 }
 
 -- n words of sixteen digits, one every seventeen columns
 unfoldable pub words_in : List ℕ → (column n : ℕ) → List ℕ

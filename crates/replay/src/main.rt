@@ -1,10 +1,11 @@
 // Replays the cases of standard input: works each one out, compares the answer with the one that its row holds, and prints how many agree. Totals are
 // worked out over words, over bytes and through a byte entry, the pence of a list, the totals of a table, of ranges and of a page's span by the function and
 // through its entry; pages are written through theirs, values of ten bytes are added through the byte entries, and one total in several formats comes
-// through its own, and so do totals within an allowance of passes.
+// through its own, and so do totals within an allowance of passes. Contributions come over words, over bytes and through their entry.
 // cases.py makes the list, and says how it is laid out; README.md says where the answers come from.
 #![tactic(auto)]
 
+mod contributions;
 mod counts;
 mod estimates;
 mod figures;
@@ -190,5 +191,6 @@ fn main(rt: HostRuntime) -> io::Result<()> {
         &rt,
         "totals within an allowance of passes ",
         estimates::agrees,
-    )
+    )?;
+    report_rows::<{ contributions::ROW }, _>(&rt, "contributions ", contributions::agrees)
 }

@@ -1,6 +1,6 @@
 // The fields of a row.
 ghost use Rattle.std.specs.Prelude.{◌≡◌, ◌+◌, ◌*◌, ◌%◌, ◌^◌, ◌<◌, ◌≤◌, min, get_or};
-ghost use Rattle.replay.specs.Row.{word_at, is_dot, named_in, format_in, settings_in, signed_at, answer_in, pence_in};
+ghost use Rattle.replay.specs.Row.{word_at, is_dot, named_in, format_in, told_format_in, settings_in, signed_at, answer_in, pence_in};
 ghost use Rattle.replay.specs.Row.{words_in, laid_words, bytes_in, value_column, right_in};
 
 use format::Format;
@@ -64,6 +64,20 @@ pub fn format_at(s: &[u8]) -> Format
         exponent_bits: number(s, 4, 2),
         width: number(s, 7, 2),
         named,
+    }
+}
+
+// The format of a row that tells whether it names a bias, and has the bias behind that.
+pub fn told_format_at(s: &[u8]) -> Format
+    ensures { result ≡ told_format_in s.now }
+{
+    let f = format_at(s);
+    if number(s, 32, 1) == 0 {
+        return f;
+    }
+    Format {
+        named: Some(signed_at(s, 34, 16)),
+        ..f
     }
 }
 

@@ -1,10 +1,6 @@
 // Rows of values of ten bytes, each worked out through an exported byte entry.
-use crate::row::{
-    at_most, bytes_in, format_at, is_dot, returned_at, settings_at, signed_at, summand_at,
-};
+use crate::row::{at_most, bytes_in, is_dot, returned_at, settings_at, summand_at, told_format_at};
 use crate::ways::{enter_dot, enter_sum, leaves};
-use format::Format;
-use hexadecimal::number;
 
 // The length of a row.
 pub const ROW: usize = 496;
@@ -23,20 +19,8 @@ const BYTES: usize = 128;
 
 const BUFFER: usize = 40;
 
-// With the bias that the row names, if it does.
-fn format_of(s: &[u8]) -> Format {
-    let f = format_at(s);
-    if number(s, 32, 1) == 0 {
-        return f;
-    }
-    Format {
-        named: Some(signed_at(s, 34, 16)),
-        ..f
-    }
-}
-
 fn enter(s: &[u8], answer: &mut [u8]) -> u64 {
-    let f = format_of(s);
+    let f = told_format_at(s);
     let c = settings_at(s);
     let left: [u8; BYTES] = bytes_in(s, LISTS);
     let n = at_most(s, 23, 2, BYTES);

@@ -1,7 +1,7 @@
 -- A total by its refusals: the tests that do not look at the elements, then the search for a stray bit, then the total itself.
 use mathlib.Core.Path.{◌≡◌, refl, sym, ap, ◌∙◌}
 use mathlib.Core.Logic.{◌≢◌}
-use mathlib.Core.Bool.{Bool, true, false, not, ◌&&◌, ◌||◌}
+use mathlib.Core.Bool.{Bool, true, false, cond, not, ◌&&◌, ◌||◌}
 use mathlib.Core.List.{List}
 use Prim.Native.Nat.{ℕ}
 use native.Mathlib.Omega.{arith}
@@ -31,15 +31,17 @@ pub test : (b : Bool) (n : ℕ) (r : ℕ → ℕ) → n ≢ 0 → n ≢ 7 → Te
 test true n r h k s = record { passes = λ e t. absurd (h e); stops = λ q t. refl; no_seven = k }
 test false n r h k s = s
 
-module _ (r : ℕ → ℕ) (s : Tests r) (at : ℕ) (a : Answer) where
-  pub stopped : (e : Refusal) → number_of e ≡ r 0 → (t : ℕ) → refused (number_of e) (place_of e) ≡ answered (r t) at a
-  stopped e q t =
-      let h : r 0 ≢ 0 = λ z. number-some e (q ∙ z) in
-      let p = no-place e (λ z. s.no_seven (sym q ∙ z)) in
-      rw p (ap (λ (x : ℕ). refused x 0) q ∙ rw (s.stops h t, ne_eqb (r 0) 0 h, ne_eqb (r 0) 7 s.no_seven))
+-- a refusal of these tests has its record whatever comes behind it; they are a total's, or a contribution's
+pub stopped : {A : Type 0} (r : ℕ → ℕ) → Tests r → (refused_as : ℕ → ℕ → A) (at : ℕ) (a : A) (e : Refusal) → number_of e ≡ r 0 → (t : ℕ)
+    → refused_as (number_of e) (place_of e) ≡ cond (eqb (r t) 0) a (refused_as (r t) (cond (eqb (r t) 7) at 0))
+stopped r s refused_as at a e q t =
+    let h : r 0 ≢ 0 = λ z. number-some e (q ∙ z) in
+    let p = no-place e (λ z. s.no_seven (sym q ∙ z)) in
+    rw p (ap (λ (x : ℕ). refused_as x 0) q ∙ rw (s.stops h t, ne_eqb (r 0) 0 h, ne_eqb (r 0) 7 s.no_seven))
 
-  pub seventh : r 0 ≡ 0 → refused 7 at ≡ answered (r 7) at a
-  seventh e = rw (s.passes e 7)
+-- where they all pass, refusal 7 has its place
+pub seventh : (r : ℕ → ℕ) → Tests r → (at : ℕ) (a : Answer) → r 0 ≡ 0 → refused 7 at ≡ answered (r 7) at a
+seventh r s at a e = rw (s.passes e 7)
 
 -- ---- a sum
 
@@ -54,7 +56,7 @@ sum-tests f c u n =
 pub sum-stopped : (f : Format) (c : Settings) (u n : ℕ) (l : List ℕ) → length l ≡ n → (e : Refusal) → number_of e ≡ sum_numbers f c u n
     → refused (number_of e) (place_of e) ≡ sum_answer f c u l
 unfolding sum_numbers sum_answer sum_refusal
-sum-stopped f c u n l long e q = rw long (stopped _ (sum-tests f c u n) (first_index (stray f) l) (sum_accepted f c (summand_of u) l) e q _)
+sum-stopped f c u n l long e q = rw long (stopped _ (sum-tests f c u n) refused (first_index (stray f) l) (sum_accepted f c (summand_of u) l) e q _)
 
 -- a refusal of these tests has no place
 pub sum-place : (f : Format) (c : Settings) (u n : ℕ) (e : Refusal) → number_of e ≡ sum_numbers f c u n → place_of e ≡ 0
@@ -75,7 +77,7 @@ module _ (f : Format) (c : Settings) (n m : ℕ) where
   pub dot-stopped : (x y : List ℕ) → length x ≡ n → length y ≡ m → (e : Refusal) → number_of e ≡ dot_numbers f c n m
       → refused (number_of e) (place_of e) ≡ dot_answer f c x y
   unfolding dot_numbers dot_answer dot_refusal
-  dot-stopped x y left right e q = rw (left, right) (stopped _ (dot-tests f c n m) (dot_place f x y) (dot_accepted f c (pairs x y)) e q _)
+  dot-stopped x y left right e q = rw (left, right) (stopped _ (dot-tests f c n m) refused (dot_place f x y) (dot_accepted f c (pairs x y)) e q _)
 
 -- ---- by whether an element has a stray bit
 

@@ -50,7 +50,7 @@ module _ (l : Layout) (c : Settings) (xs : List ℕ) (s : Scan) (g : ScannedAs (
   pub top-room : s.top + 7 < 2 ^ 64
   top-room = omega (arith, top_small f {t = s.top + 7} (layout_bounds l).range (omega (arith, scanned.top, sum_top f c value xs)))
 
-  special-is : any (not_number f) xs ≡ met s
+  pub special-is : any (not_number f) xs ≡ met s
   special-is = odd-items f c xs ∙ sym (rw (scanned.some, scanned.positive-infinity, scanned.negative-infinity))
 
   keeping : (sum : Option ExactSum) → KeepsSum sum (met s) (spec.digits f) (sum_terms f c value xs) → Keeps f c xs (record { scan = s; sum = sum })

@@ -1,3 +1,6 @@
+pub mod Halving
+mod Contributed
+mod ContributionWritten
 pub mod Search
 pub mod Written
 mod Answers

@@ -11,7 +11,7 @@ use Rattle.arithmetic.specs.Summands.{summand_in, summand_number}
 use Rattle.totals.specs.declared.refusal.Refusal.{Refusal}
 use Rattle.totals.specs.declared.refusal.Refusal.TheVariants.{UnevenLength, ShortBuffer, NoSuchFormat, SettingOutOfRange, DifferentLengths}
 use Rattle.totals.specs.declared.refusal.Refusal.TheVariants.{TooManyElements, StrayBit, NoPence, BadShape, NoRoom, BadAmount, NotAPage, BadSpan, NoAllowance}
-use Rattle.totals.specs.declared.refusal.Refusal.TheVariants.{TargetOutOfReach}
+use Rattle.totals.specs.declared.refusal.Refusal.TheVariants.{NoContribution, NotFinite, TargetOutOfReach}
 
 pub number-some : (e : Refusal) → number_of e ≢ 0
 number-some UnevenLength h = omega (arith, h)
@@ -27,6 +27,8 @@ number-some NoRoom h = omega (arith, h)
 number-some BadAmount h = omega (arith, h)
 number-some NotAPage h = omega (arith, h)
 number-some BadSpan h = omega (arith, h)
+number-some NoContribution h = omega (arith, h)
+number-some NotFinite h = omega (arith, h)
 number-some NoAllowance h = omega (arith, h)
 number-some TargetOutOfReach h = omega (arith, h)
 
@@ -45,6 +47,8 @@ no-place NoRoom h = refl
 no-place BadAmount h = refl
 no-place NotAPage h = refl
 no-place BadSpan h = refl
+no-place NoContribution h = refl
+no-place NotFinite h = refl
 no-place NoAllowance h = refl
 no-place TargetOutOfReach h = refl
 

@@ -98,7 +98,7 @@ module _ (f : Format) (d n : ℕ) (t : Format) (c : Settings) where
 module _ (f : Format) (d : ℕ) (l : List ℕ) (t : Format) (c : Settings) {n : ℕ} (long : length l ≡ n) where
   pub target-stopped : (e : Refusal) → number_of e ≡ target_numbers f d n t c → refused (number_of e) (place_of e) ≡ target_answer f d l t c
   unfolding target_numbers target_answer target_refusal
-  target-stopped e q = rw long (stopped _ (target-tests f d n t c) (first_index (stray f) l) _ e q _)
+  target-stopped e q = rw long (stopped _ (target-tests f d n t c) refused (first_index (stray f) l) _ e q _)
 
   pub target-strayed : target_numbers f d n t c ≡ 0 → any (stray f) l ≡ true → refused 7 (first_index (stray f) l) ≡ target_answer f d l t c
   unfolding target_numbers target_answer target_refusal

@@ -1,3 +1,4 @@
+pub mod Contributions
 pub mod Refusal
 pub mod Stray
 pub mod Walked

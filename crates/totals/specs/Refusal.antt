@@ -6,7 +6,7 @@ use Rattle.totals_spec.specs.Totals.{refuse_if, limit}
 use Rattle.totals.specs.declared.refusal.Refusal.{Refusal}
 use Rattle.totals.specs.declared.refusal.Refusal.TheVariants.{UnevenLength, ShortBuffer, NoSuchFormat, SettingOutOfRange, DifferentLengths}
 use Rattle.totals.specs.declared.refusal.Refusal.TheVariants.{TooManyElements, StrayBit, NoPence, BadShape, NoRoom, BadAmount, NotAPage, BadSpan, NoAllowance}
-use Rattle.totals.specs.declared.refusal.Refusal.TheVariants.{TargetOutOfReach}
+use Rattle.totals.specs.declared.refusal.Refusal.TheVariants.{NoContribution, NotFinite, TargetOutOfReach}
 
 abbrev pub number_of : Refusal → ℕ
 number_of UnevenLength = 1
@@ -22,6 +22,8 @@ number_of NoRoom = 10
 number_of BadAmount = 11
 number_of NotAPage = 12
 number_of BadSpan = 13
+number_of NoContribution = 14
+number_of NotFinite = 15
 number_of NoAllowance = 16
 number_of TargetOutOfReach = 17
 

@@ -1,7 +1,9 @@
 // Exact totals of lists of binary floating-point numbers, rounded once. Every call answers: what cannot be totalled is refused, with a number.
 #![tactic(auto)]
 
+pub mod contribution;
 pub mod entry;
+pub mod entry_contribution;
 pub mod entry_within;
 pub mod estimate;
 mod extended;
@@ -9,6 +11,7 @@ mod lists;
 pub mod pages;
 pub mod pence;
 pub mod range;
+mod rank;
 pub mod refusal;
 pub mod several;
 mod stray;

@@ -8,7 +8,7 @@ ghost use Rattle.format.specs.Shapes.{shape_of};
 ghost use Rattle.format.specs.Layouts.{layout_of};
 ghost use Rattle.format.specs.Environments.{env_of};
 ghost use Rattle.arithmetic.specs.Summands.{summand_in, summand_number};
-ghost use Rattle.reduction.specs.Answered.{wide, Known, answer_as, given_as};
+ghost use Rattle.reduction.specs.Answered.{answer_of, wide, Known, answer_as, given_as};
 ghost use Rattle.scan.specs.Encodings.{item_in, pair_in};
 ghost use Rattle.reduction.specs.Held.{Summable};
 ghost use Rattle.totals.specs.Refusal.{sum_numbers, dot_numbers};
@@ -139,13 +139,12 @@ pub fn dot_of<N: Numbers>(c: Env, left: N, right: N) -> Wide
     }
 }
 
-// The sum of the elements of a list, unless one of them has a stray bit.
-pub fn sum<E: Elements>(f: Layout, c: Env, u: Summand, elements: E) -> Result<Answer, Refusal>
-    requires { sum_numbers (layout_of f) (env_of c) (summand_number u) (length (E.list elements)) ≡ 0 }
-    ensures told { answer_in result ≡ totals.sum_answer (layout_of f) (env_of c) (summand_number u) (E.list elements) }
-    ensures accepted { ForOk result (λ a. totals.sum_refusal (layout_of f) (env_of c) (summand_number u) (E.list elements) ≡ 0) }
+// The sum of a list that is accepted.
+#[inline(always)]
+pub fn unstrayed_sum<E: Elements>(f: Layout, c: Env, u: Summand, elements: E) -> Answer
+    requires { totals.sum_refusal (layout_of f) (env_of c) (summand_number u) (E.list elements) ≡ 0 }
+    ensures { answer_of result ≡ totals.sum_answer (layout_of f) (env_of c) (summand_number u) (E.list elements) }
 {
-    no_stray(f.shape.width, &elements)?;
     let w = sum_of(
         c,
         u,
@@ -154,7 +153,17 @@ pub fn sum<E: Elements>(f: Layout, c: Env, u: Summand, elements: E) -> Result<An
             elements,
         },
     );
-    Ok(w.answer)
+    w.answer
+}
+
+// The sum of the elements of a list, unless one of them has a stray bit.
+pub fn sum<E: Elements>(f: Layout, c: Env, u: Summand, elements: E) -> Result<Answer, Refusal>
+    requires { sum_numbers (layout_of f) (env_of c) (summand_number u) (length (E.list elements)) ≡ 0 }
+    ensures told { answer_in result ≡ totals.sum_answer (layout_of f) (env_of c) (summand_number u) (E.list elements) }
+    ensures accepted { ForOk result (λ a. totals.sum_refusal (layout_of f) (env_of c) (summand_number u) (E.list elements) ≡ 0) }
+{
+    no_stray(f.shape.width, &elements)?;
+    Ok(unstrayed_sum(f, c, u, elements))
 }
 
 // The sum of the products of the pairs, likewise: a stray bit is looked for in the left list first.

@@ -40,6 +40,10 @@ pub enum Refusal {
     BadAmount,
     NotAPage,
     BadSpan,
+    // No finite number reaches the wanted total.
+    NoContribution,
+    // A NaN or an infinity, in the list or as the wanted total.
+    NotFinite,
     // No pass is allowed.
     NoAllowance,
     TargetOutOfReach,
@@ -64,6 +68,8 @@ impl Refusal {
             Refusal::BadAmount => 11,
             Refusal::NotAPage => 12,
             Refusal::BadSpan => 13,
+            Refusal::NoContribution => 14,
+            Refusal::NotFinite => 15,
             Refusal::NoAllowance => 16,
             Refusal::TargetOutOfReach => 17,
         }

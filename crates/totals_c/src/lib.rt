@@ -3,13 +3,14 @@
 
 ghost use Rattle.totals_spec.specs.Extended as ten;
 ghost use Rattle.totals_spec.specs.Pages as pages;
+ghost use Rattle.further_spec.specs.Contribution as contribution;
 ghost use Rattle.further_spec.specs.Estimate as estimate;
 ghost use Rattle.further_spec.specs.Several as several;
 ghost use Rattle.totals_spec.specs.Words as words;
 ghost use Rattle.totals.specs.Ranges.{EntersRange};
 ghost use Rattle.totals.specs.Entered.{Enters, EntersFigure, EntersTable, format_from, biased_from, settings_from};
 
-use totals::{entry, entry_within};
+use totals::{entry, entry_contribution, entry_within};
 
 // The sum of the values (summand 0), of their magnitudes (1) or of their squares (2). Kind 4 is told apart before anything else is looked at.
 #[unsafe(no_mangle)]
@@ -401,6 +402,48 @@ pub extern "C" fn totals_dot_within(
         allowance,
         left,
         right,
+        answer,
+    )
+}
+
+// The least number with which, behind the values, the plain sum is the wanted total.
+#[unsafe(no_mangle)]
+pub extern "C" fn totals_contribution(
+    kind: u64,
+    exponent_bits: u64,
+    width: u64,
+    bias_named: u64,
+    bias: i64,
+    rounding: u64,
+    tininess: u64,
+    nan_propagation: u64,
+    default_nan_negative: u64,
+    flush_to_zero: u64,
+    denormals_are_zero: u64,
+    saturate: u64,
+    precision: u64,
+    wanted: u64,
+    values: &[u64],
+    answer: &mut [u8],
+) -> u64
+    ensures { Enters (contribution.contribution_entry kind exponent_bits width bias_named bias (settings_from rounding tininess nan_propagation default_nan_negative flush_to_zero denormals_are_zero saturate precision) wanted values.now answer.old) result answer.new }
+{
+    entry_contribution::totals_contribution(
+        kind,
+        exponent_bits,
+        width,
+        bias_named,
+        bias,
+        rounding,
+        tininess,
+        nan_propagation,
+        default_nan_negative,
+        flush_to_zero,
+        denormals_are_zero,
+        saturate,
+        precision,
+        wanted,
+        values,
         answer,
     )
 }

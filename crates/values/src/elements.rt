@@ -1,9 +1,10 @@
 // The elements of a list, wherever they stand.
-ghost use Rattle.std.specs.Prelude.{◌≡◌, List, ℕ, ◌*◌, ◌^◌, ◌<◌, ◌≤◌, length, get_or};
+ghost use Rattle.std.specs.Prelude.{◌≡◌, List, [], ◌∷◌, ◌++◌, ℕ, ◌+◌, ◌*◌, ◌^◌, ◌<◌, ◌≤◌, length, get_or};
 ghost use Rattle.totals_spec.specs.Bytes.{values_in};
 ghost use Rattle.totals_spec.specs.Table.{column_of};
 
 use crate::word_at;
+use std::alloc::AllocError;
 
 // Elements that are read one after another. A walk has a copy of its own for each such list, with these methods inlined.
 pub trait Elements: Copy {
@@ -100,5 +101,38 @@ impl Elements for Column<'_> {
     #[inline(always)]
     fn at(&self, i: usize) -> u64 {
         self.cells[self.first + self.step * i]
+    }
+}
+
+// A list with one element more behind it.
+pub struct Appended<E: Elements> {
+    pub list: E,
+    pub last: u64,
+    pub ghost room: { length (E.list list) + 1 < 2 ^ 64 },
+}
+
+impl<E: Elements> Copy for Appended<E> {}
+
+impl<E: Elements> Clone for Appended<E> {
+    fn clone(&self) -> Result<Self, AllocError> {
+        Ok(*self)
+    }
+}
+
+impl<E: Elements> Elements for Appended<E> {
+    ghost list = { λ s. E.list s.list ++ (s.last ∷ []) };
+
+    #[inline(always)]
+    fn count(&self) -> usize {
+        self.list.count() + 1
+    }
+
+    #[inline(always)]
+    fn at(&self, i: usize) -> u64 {
+        if i < self.list.count() {
+            self.list.at(i)
+        } else {
+            self.last
+        }
     }
 }

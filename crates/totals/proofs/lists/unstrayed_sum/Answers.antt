@@ -1,0 +1,23 @@
+-- The total of the terms, where no test refuses it.
+use Rattle.std.proofs.Common.{◌∙◌}
+use Rattle.format.proofs.Layouts.{layout_bounds}
+use Rattle.totals_spec.proofs.Accepts.{sum-accepts}
+use Rattle.totals_spec.specs.Totals.{sum_answer}
+use Rattle.reduction.proofs.Items.{sum-summable}
+use Rattle.reduction.proofs.Widths.{narrow, narrow-known}
+use Rattle.totals.proofs.Refusals.{summand-is}
+use Rattle.totals.proofs.Totalled.{sum-is}
+use Rattle.totals.proofs.lists.unstrayed_sum.Goals as goal
+
+pub sum_of-w-requires-clause-known : goal.sum_of-w-requires-clause-known
+sum_of-w-requires-clause-known g c = (narrow-known _ (layout_bounds c.args.f), (sum-accepts _ _ _ _ c.requires).settings)
+
+pub sum_of-w-requires-clause-summable : goal.sum_of-w-requires-clause-summable
+sum_of-w-requires-clause-summable g c = sum-summable c.args.f _ _ _ (sum-accepts _ _ _ _ c.requires).few
+
+pub returns : goal.returns
+unfolding sum_answer
+returns g c =
+    rw (narrow _ (layout_bounds c.args.f)) at c.sum_of-w.ensures
+    ∙ sum-is c.args.f _ _ _
+    ∙ rw (summand-is c.args.u, c.requires)
