@@ -725,6 +725,12 @@ static inline const char *totals_strerror(uint64_t refusal)
 #define TOTALS_ROOM_ 512
 /* The most values of a page whose trailer has 16 bytes. */
 #define TOTALS_MOST_IN_SHORT_ 1048576
+/* What the entries take of a format, without a bias and with it, and of the settings, in their order. */
+#define TOTALS_WIDTHS_(f) (f).kind, (f).exponent_bits, (f).width
+#define TOTALS_NUMBERS_(f) TOTALS_WIDTHS_(f), (f).bias_named, (f).bias
+#define TOTALS_CHOICES_(c) \
+    (c)->rounding, (c)->tininess, (c)->nan_propagation, (c)->default_nan_negative, (c)->flush_to_zero, (c)->denormals_are_zero, \
+        (c)->saturate, (c)->precision
 
 typedef struct totals_list_ {
     const void *values;
@@ -830,13 +836,11 @@ static inline uint64_t totals_call_within_(totals_format f, const totals_setting
                                            uint8_t *answer)
 {
     if (pairs) {
-        return totals_dot_within(f.kind, f.exponent_bits, f.width, f.bias_named, f.bias, c->rounding, c->tininess, c->nan_propagation,
-                                 c->default_nan_negative, c->flush_to_zero, c->denormals_are_zero, c->saturate, c->precision, allowance,
-                                 left, 8 * left_count, right, 8 * right_count, answer, TOTALS_WITHIN_ANSWER_BYTES);
+        return totals_dot_within(TOTALS_NUMBERS_(f), TOTALS_CHOICES_(c), allowance, left, 8 * left_count, right, 8 * right_count, answer,
+                                 TOTALS_WITHIN_ANSWER_BYTES);
     }
-    return totals_sum_within(f.kind, f.exponent_bits, f.width, f.bias_named, f.bias, c->rounding, c->tininess, c->nan_propagation,
-                             c->default_nan_negative, c->flush_to_zero, c->denormals_are_zero, c->saturate, c->precision, summand,
-                             allowance, left, 8 * left_count, answer, TOTALS_WITHIN_ANSWER_BYTES);
+    return totals_sum_within(TOTALS_NUMBERS_(f), TOTALS_CHOICES_(c), summand, allowance, left, 8 * left_count, answer,
+                             TOTALS_WITHIN_ANSWER_BYTES);
 }
 
 /*
@@ -854,23 +858,16 @@ static inline uint64_t totals_call_(totals_format f, const totals_settings *c, u
         return TOTALS_NO_SUCH_FORMAT;
     }
     if (pairs && f.bias_named) {
-        return totals_dot_biased(f.kind, f.exponent_bits, f.width, f.bias, c->rounding, c->tininess, c->nan_propagation,
-                                 c->default_nan_negative, c->flush_to_zero, c->denormals_are_zero, c->saturate, c->precision, left,
-                                 8 * left_count, right, 8 * right_count, answer, TOTALS_ANSWER_BYTES);
+        return totals_dot_biased(TOTALS_WIDTHS_(f), f.bias, TOTALS_CHOICES_(c), left, 8 * left_count, right, 8 * right_count, answer,
+                                 TOTALS_ANSWER_BYTES);
     }
     if (f.bias_named) {
-        return totals_sum_biased(f.kind, f.exponent_bits, f.width, f.bias, c->rounding, c->tininess, c->nan_propagation,
-                                 c->default_nan_negative, c->flush_to_zero, c->denormals_are_zero, c->saturate, c->precision, summand,
-                                 left, 8 * left_count, answer, TOTALS_ANSWER_BYTES);
+        return totals_sum_biased(TOTALS_WIDTHS_(f), f.bias, TOTALS_CHOICES_(c), summand, left, 8 * left_count, answer, TOTALS_ANSWER_BYTES);
     }
     if (pairs) {
-        return totals_dot(f.kind, f.exponent_bits, f.width, c->rounding, c->tininess, c->nan_propagation, c->default_nan_negative,
-                          c->flush_to_zero, c->denormals_are_zero, c->saturate, c->precision, left, 8 * left_count, right,
-                          8 * right_count, answer, TOTALS_ANSWER_BYTES);
+        return totals_dot(TOTALS_WIDTHS_(f), TOTALS_CHOICES_(c), left, 8 * left_count, right, 8 * right_count, answer, TOTALS_ANSWER_BYTES);
     }
-    return totals_sum(f.kind, f.exponent_bits, f.width, c->rounding, c->tininess, c->nan_propagation, c->default_nan_negative,
-                      c->flush_to_zero, c->denormals_are_zero, c->saturate, c->precision, summand, left, 8 * left_count, answer,
-                      TOTALS_ANSWER_BYTES);
+    return totals_sum(TOTALS_WIDTHS_(f), TOTALS_CHOICES_(c), summand, left, 8 * left_count, answer, TOTALS_ANSWER_BYTES);
 }
 
 /* What a call returned, as a record. Where it is a refusal, the answer is not read. */
@@ -1121,13 +1118,9 @@ static inline totals_x87_record totals_take_x87_(const totals_settings *settings
     uint64_t code;
 
     if (pairs) {
-        code = totals_dot(TOTALS_EXTENDED, c->rounding, c->tininess, c->nan_propagation, c->default_nan_negative, c->flush_to_zero,
-                          c->denormals_are_zero, c->saturate, c->precision, left_bytes, left_size, right_bytes, right_size, answer,
-                          TOTALS_X87_ANSWER_BYTES);
+        code = totals_dot(TOTALS_EXTENDED, TOTALS_CHOICES_(c), left_bytes, left_size, right_bytes, right_size, answer, TOTALS_X87_ANSWER_BYTES);
     } else {
-        code = totals_sum(TOTALS_EXTENDED, c->rounding, c->tininess, c->nan_propagation, c->default_nan_negative, c->flush_to_zero,
-                          c->denormals_are_zero, c->saturate, c->precision, summand, left_bytes, left_size, answer,
-                          TOTALS_X87_ANSWER_BYTES);
+        code = totals_sum(TOTALS_EXTENDED, TOTALS_CHOICES_(c), summand, left_bytes, left_size, answer, TOTALS_X87_ANSWER_BYTES);
     }
     if (code == TOTALS_ACCEPTED && is_refused) {
         code = pairs && left.count != right.count ? TOTALS_DIFFERENT_LENGTHS
@@ -1166,7 +1159,7 @@ static inline totals_pence_record totals_take_pence_(totals_format f, totals_lis
     if (words == NULL) {
         code = TOTALS_NO_MEMORY;
     } else {
-        code = totals_pence(f.kind, f.exponent_bits, f.width, f.bias_named, f.bias, words, lent.count, &record.figure);
+        code = totals_pence(TOTALS_NUMBERS_(f), words, lent.count, &record.figure);
     }
     TOTALS_FREE(owned);
     if (code == TOTALS_ACCEPTED && is_refused) {
@@ -1183,9 +1176,7 @@ static inline uint64_t totals_call_contribution_(totals_format f, const totals_s
 {
     static const totals_settings defaults = TOTALS_SETTINGS_INIT;
     const totals_settings *c = settings == NULL ? &defaults : settings;
-    return totals_contribution(f.kind, f.exponent_bits, f.width, f.bias_named, f.bias, c->rounding, c->tininess, c->nan_propagation,
-                               c->default_nan_negative, c->flush_to_zero, c->denormals_are_zero, c->saturate, c->precision, wanted, words,
-                               count, answer, TOTALS_CONTRIBUTION_ANSWER_BYTES);
+    return totals_contribution(TOTALS_NUMBERS_(f), TOTALS_CHOICES_(c), wanted, words, count, answer, TOTALS_CONTRIBUTION_ANSWER_BYTES);
 }
 
 static inline totals_contribution_record totals_take_contribution_(totals_format f, const totals_settings *settings, totals_list_ list,
@@ -1275,9 +1266,8 @@ static inline totals_record totals_take_table_(totals_format f, const totals_set
     if (words == NULL || row_words == NULL) {
         code = TOTALS_NO_MEMORY;
     } else {
-        code = totals_table(f.kind, f.exponent_bits, f.width, f.bias_named, f.bias, c->rounding, c->tininess, c->nan_propagation,
-                            c->default_nan_negative, c->flush_to_zero, c->denormals_are_zero, c->saturate, c->precision, rows, columns,
-                            words, lent.count, row_words, of_rows, column_words, of_columns, answer, TOTALS_ANSWER_BYTES);
+        code = totals_table(TOTALS_NUMBERS_(f), TOTALS_CHOICES_(c), rows, columns, words, lent.count, row_words, of_rows, column_words,
+                            of_columns, answer, TOTALS_ANSWER_BYTES);
     }
     if (code == TOTALS_ACCEPTED && is_refused) {
         code = cells.count > TOTALS_MOST_ELEMENTS ? TOTALS_TOO_MANY_ELEMENTS : TOTALS_NO_LIST;
@@ -1337,9 +1327,7 @@ static inline void totals_put_target_(uint8_t *bytes, const totals_target *targe
 {
     const totals_format *f = &target->format;
     const totals_settings *c = &target->settings;
-    const uint64_t numbers[13] = {f->kind, f->exponent_bits, f->width, f->bias_named, (uint64_t)f->bias, c->rounding, c->tininess,
-                                  c->nan_propagation, c->default_nan_negative, c->flush_to_zero, c->denormals_are_zero, c->saturate,
-                                  c->precision};
+    const uint64_t numbers[13] = {f->kind, f->exponent_bits, f->width, f->bias_named, (uint64_t)f->bias, TOTALS_CHOICES_(c)};
     size_t i;
     for (i = 0; i < 13; i++) {
         totals_put_(bytes + 8 * i, numbers[i]);
@@ -1357,8 +1345,8 @@ static inline void totals_enter_three_(totals_format f, uint64_t denormals_are_z
     for (i = 0; i < 3; i++) {
         totals_put_target_(numbers + i * (TOTALS_TARGETS_BYTES / 3), targets + (i < count ? i : count - 1));
     }
-    code = totals_sum_into(f.kind, f.exponent_bits, f.width, f.bias_named, f.bias, denormals_are_zero, numbers, TOTALS_TARGETS_BYTES, values,
-                           size, answer, TOTALS_INTO_ANSWER_BYTES);
+    code = totals_sum_into(TOTALS_NUMBERS_(f), denormals_are_zero, numbers, TOTALS_TARGETS_BYTES, values, size, answer,
+                           TOTALS_INTO_ANSWER_BYTES);
     for (i = 0; i < 3; i++) {
         codes[i] = code == TOTALS_ACCEPTED ? totals_get_(answer + 32 * i) : code;
     }
@@ -1689,9 +1677,7 @@ static inline totals_double_record totals_page_sum_double(const uint8_t *page, s
         /* longer than any page, and perhaps than any memory */
         code = TOTALS_NOT_A_PAGE;
     } else {
-        code = totals_page_sum(page == NULL ? &none : page, size, start, end, c->rounding, c->tininess, c->nan_propagation,
-                               c->default_nan_negative, c->flush_to_zero, c->denormals_are_zero, c->saturate, c->precision, summand, answer,
-                               TOTALS_ANSWER_BYTES);
+        code = totals_page_sum(page == NULL ? &none : page, size, start, end, TOTALS_CHOICES_(c), summand, answer, TOTALS_ANSWER_BYTES);
     }
     return totals_as_double_(totals_record_of_(code, answer));
 }

@@ -248,6 +248,17 @@ mod entry {
     }
 }
 
+/// An entry, by its name, what stands before the settings, the settings, and what stands behind them.
+macro_rules! enter {
+    ($entry:ident; $($before:expr),*; $c:ident; $($behind:expr),*) => {
+        entry::$entry(
+            $($before,)*
+            $c[0], $c[1], $c[2], $c[3], $c[4], $c[5], $c[6], $c[7],
+            $($behind),*
+        )
+    };
+}
+
 /// The sum of the values (summand 0), of their magnitudes (1) or of their squares (2).
 ///
 /// Returns 0 and writes bytes 0 to 23 of the answer, or returns a refusal's code, which
@@ -276,23 +287,9 @@ pub fn sum(f: Format, c: Settings, summand: u64, values: &[u8], answer: &mut [u8
     // SAFETY: each pointer comes with the length of the slice that it is taken from, and `answer`,
     // being borrowed for writing, lies apart from `values`. Of the numbers nothing is asked.
     unsafe {
-        entry::totals_sum(
-            f[0],
-            f[1],
-            f[2],
-            c[0],
-            c[1],
-            c[2],
-            c[3],
-            c[4],
-            c[5],
-            c[6],
-            c[7],
-            summand,
-            values.as_ptr(),
-            values.len(),
-            answer.as_mut_ptr(),
-            answer.len(),
+        enter!(
+            totals_sum; f[0], f[1], f[2]; c;
+            summand, values.as_ptr(), values.len(), answer.as_mut_ptr(), answer.len()
         )
     }
 }
@@ -313,24 +310,10 @@ pub fn sum(f: Format, c: Settings, summand: u64, values: &[u8], answer: &mut [u8
 pub fn dot(f: Format, c: Settings, left: &[u8], right: &[u8], answer: &mut [u8]) -> u64 {
     // SAFETY: as in `sum`. The two lists may overlap, as both are only read.
     unsafe {
-        entry::totals_dot(
-            f[0],
-            f[1],
-            f[2],
-            c[0],
-            c[1],
-            c[2],
-            c[3],
-            c[4],
-            c[5],
-            c[6],
-            c[7],
-            left.as_ptr(),
-            left.len(),
-            right.as_ptr(),
-            right.len(),
-            answer.as_mut_ptr(),
-            answer.len(),
+        enter!(
+            totals_dot; f[0], f[1], f[2]; c;
+            left.as_ptr(), left.len(), right.as_ptr(), right.len(), answer.as_mut_ptr(),
+            answer.len()
         )
     }
 }
@@ -364,24 +347,9 @@ pub fn sum_biased(
 ) -> u64 {
     // SAFETY: as in `sum`.
     unsafe {
-        entry::totals_sum_biased(
-            f[0],
-            f[1],
-            f[2],
-            bias,
-            c[0],
-            c[1],
-            c[2],
-            c[3],
-            c[4],
-            c[5],
-            c[6],
-            c[7],
-            summand,
-            values.as_ptr(),
-            values.len(),
-            answer.as_mut_ptr(),
-            answer.len(),
+        enter!(
+            totals_sum_biased; f[0], f[1], f[2], bias; c;
+            summand, values.as_ptr(), values.len(), answer.as_mut_ptr(), answer.len()
         )
     }
 }
@@ -411,25 +379,10 @@ pub fn dot_biased(
 ) -> u64 {
     // SAFETY: as in `dot`.
     unsafe {
-        entry::totals_dot_biased(
-            f[0],
-            f[1],
-            f[2],
-            bias,
-            c[0],
-            c[1],
-            c[2],
-            c[3],
-            c[4],
-            c[5],
-            c[6],
-            c[7],
-            left.as_ptr(),
-            left.len(),
-            right.as_ptr(),
-            right.len(),
-            answer.as_mut_ptr(),
-            answer.len(),
+        enter!(
+            totals_dot_biased; f[0], f[1], f[2], bias; c;
+            left.as_ptr(), left.len(), right.as_ptr(), right.len(), answer.as_mut_ptr(),
+            answer.len()
         )
     }
 }
@@ -528,30 +481,11 @@ pub fn table(
     // that are borrowed for writing lie apart from each other and from `cells`. Of the numbers nothing
     // is asked.
     unsafe {
-        entry::totals_table(
-            f[0],
-            f[1],
-            f[2],
-            bias.is_some().into(),
-            bias.unwrap_or(0),
-            c[0],
-            c[1],
-            c[2],
-            c[3],
-            c[4],
-            c[5],
-            c[6],
-            c[7],
-            shape[0],
-            shape[1],
-            cells.as_ptr(),
-            cells.len(),
-            row_totals.as_mut_ptr(),
-            row_totals.len(),
-            column_totals.as_mut_ptr(),
-            column_totals.len(),
-            answer.as_mut_ptr(),
-            answer.len(),
+        enter!(
+            totals_table; f[0], f[1], f[2], bias.is_some().into(), bias.unwrap_or(0); c;
+            shape[0], shape[1], cells.as_ptr(), cells.len(), row_totals.as_mut_ptr(),
+            row_totals.len(), column_totals.as_mut_ptr(), column_totals.len(),
+            answer.as_mut_ptr(), answer.len()
         )
     }
 }
@@ -650,22 +584,9 @@ pub fn page_sum(
     // SAFETY: each pointer comes with the length of the slice that it is taken from, and `answer`,
     // being borrowed for writing, lies apart from `page`. Of the numbers nothing is asked.
     unsafe {
-        entry::totals_page_sum(
-            page.as_ptr(),
-            page.len(),
-            start,
-            end,
-            c[0],
-            c[1],
-            c[2],
-            c[3],
-            c[4],
-            c[5],
-            c[6],
-            c[7],
-            summand,
-            answer.as_mut_ptr(),
-            answer.len(),
+        enter!(
+            totals_page_sum; page.as_ptr(), page.len(), start, end; c;
+            summand, answer.as_mut_ptr(), answer.len()
         )
     }
 }
@@ -823,26 +744,9 @@ pub fn sum_within(
 ) -> u64 {
     // SAFETY: as in `sum`.
     unsafe {
-        entry::totals_sum_within(
-            f[0],
-            f[1],
-            f[2],
-            bias.is_some().into(),
-            bias.unwrap_or(0),
-            c[0],
-            c[1],
-            c[2],
-            c[3],
-            c[4],
-            c[5],
-            c[6],
-            c[7],
-            summand,
-            allowance,
-            values.as_ptr(),
-            values.len(),
-            answer.as_mut_ptr(),
-            answer.len(),
+        enter!(
+            totals_sum_within; f[0], f[1], f[2], bias.is_some().into(), bias.unwrap_or(0); c;
+            summand, allowance, values.as_ptr(), values.len(), answer.as_mut_ptr(), answer.len()
         )
     }
 }
@@ -875,27 +779,10 @@ pub fn dot_within(
 ) -> u64 {
     // SAFETY: as in `dot`.
     unsafe {
-        entry::totals_dot_within(
-            f[0],
-            f[1],
-            f[2],
-            bias.is_some().into(),
-            bias.unwrap_or(0),
-            c[0],
-            c[1],
-            c[2],
-            c[3],
-            c[4],
-            c[5],
-            c[6],
-            c[7],
-            allowance,
-            left.as_ptr(),
-            left.len(),
-            right.as_ptr(),
-            right.len(),
-            answer.as_mut_ptr(),
-            answer.len(),
+        enter!(
+            totals_dot_within; f[0], f[1], f[2], bias.is_some().into(), bias.unwrap_or(0); c;
+            allowance, left.as_ptr(), left.len(), right.as_ptr(), right.len(),
+            answer.as_mut_ptr(), answer.len()
         )
     }
 }
@@ -944,25 +831,9 @@ pub fn contribution(
     // SAFETY: each pointer comes with the length of the slice that it is taken from, and `answer`,
     // being borrowed for writing, lies apart from `values`. Of the numbers nothing is asked.
     unsafe {
-        entry::totals_contribution(
-            f[0],
-            f[1],
-            f[2],
-            bias.is_some().into(),
-            bias.unwrap_or(0),
-            c[0],
-            c[1],
-            c[2],
-            c[3],
-            c[4],
-            c[5],
-            c[6],
-            c[7],
-            wanted,
-            values.as_ptr(),
-            values.len(),
-            answer.as_mut_ptr(),
-            answer.len(),
+        enter!(
+            totals_contribution; f[0], f[1], f[2], bias.is_some().into(), bias.unwrap_or(0); c;
+            wanted, values.as_ptr(), values.len(), answer.as_mut_ptr(), answer.len()
         )
     }
 }
