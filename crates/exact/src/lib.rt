@@ -25,7 +25,7 @@ use format::modes::{Rounding, Tininess};
 use format::shape::Shape;
 use format::unpacked::Unpacked;
 use limbs::pair;
-use limbs::word::{ones, power, scaled};
+use limbs::word::{ones, power, scaled, split};
 
 // A magnitude to round: the significand times 2^position units, or with a sticky bit any number between that and significand + 1 of these.
 #[derive(Clone, Copy)]
@@ -74,7 +74,7 @@ pub fn narrowed(negative: bool, sticky: bool, position: u64, w: [u64; 12]) -> Un
             significand: pair::joined(w[0], w[1]),
         };
     }
-    let top = (n - 1) / 64;
+    let top = split(n - 1).word;
     let under = top - 1;
     Unrounded {
         negative,

@@ -9,15 +9,15 @@ use Rattle.exact.proofs.narrowed.Goals as goal
 use Rattle.exact.proofs.narrowed.Goals.{then-sticky, else-sticky}
 
 -- the word of the highest of n bits
-record Highest (n : ℕ) : Type 0 where
-  pub low : 64 * ((n - 1) / 64) < n
-  pub high : n ≤ 64 * ((n - 1) / 64) + 64
+record Highest (n t : ℕ) : Type 0 where
+  pub low : 64 * t < n
+  pub high : n ≤ 64 * t + 64
 
-highest : (n : ℕ) → 0 < n → Highest n
-highest n h =
+highest : (n t : ℕ) → 0 < n → t ≡ (n - 1) / 64 → Highest n t
+highest n t h e =
     let d = div-add-mod (n - 1) 64 in
     let m : (n - 1) % 64 < 64 = mod-lt (n - 1) (omega arith) in
-    record { low = omega (arith, d); high = omega (arith, d, m) }
+    record { low = omega (arith, d, e); high = omega (arith, d, m, e) }
 
 most : (w : List ℕ) (n : ℕ) → value w < 2 ^ 768 → n ≡ bit_length (value w) → n ≤ 768
 most w n h e = omega (arith, e, size-le (value w) 768 h)
@@ -32,27 +32,27 @@ pub overflow_add-result : goal.overflow_add-result
 overflow_add-result c =
     let n = c.bit_length-n.result in
     let l = most c.args.w n (value-lt (words 12 c.args.w _ c.well_formed.1.1.1.0)) c.bit_length-n.ensures in
-    record { fits = omega (arith, l, (highest n (omega arith)).low, c.requires) }
+    record { fits = omega (arith, l, (highest n c.split-top.result.word (omega arith) c.split-top.ensures.word).low, c.requires) }
 
 pub bounds-w-under : goal.bounds-w-under
 bounds-w-under c =
     let n = c.bit_length-n.result in
     let l = most c.args.w n (value-lt (words 12 c.args.w _ c.well_formed.1.1.1.0)) c.bit_length-n.ensures in
-    omega (arith, l, (highest n (omega arith)).low)
+    omega (arith, l, (highest n c.split-top.result.word (omega arith) c.split-top.ensures.word).low)
 
 pub bounds-w-top : goal.bounds-w-top
 bounds-w-top c =
     let n = c.bit_length-n.result in
     let l = most c.args.w n (value-lt (words 12 c.args.w _ c.well_formed.1.1.1.0)) c.bit_length-n.ensures in
-    omega (arith, l, (highest n (omega arith)).low)
+    omega (arith, l, (highest n c.split-top.result.word (omega arith) c.split-top.ensures.word).low)
 
 pub returns : goal.returns
 returns c =
     let w = c.args.w in
     let its-words = words 12 w _ c.well_formed.1.1.1.0 in
     let n = c.bit_length-n.result in
-    let h = highest n (omega arith) in
-    top-narrowed w its-words.fit _ _ _ ((n - 1) / 64) c.bit_length-n.ensures c.if-n-le128.false h.low h.high
+    let h = highest n c.split-top.result.word (omega arith) c.split-top.ensures.word in
+    top-narrowed w its-words.fit _ _ _ c.split-top.result.word c.bit_length-n.ensures c.if-n-le128.false h.low h.high
     (most w n (value-lt its-words) c.bit_length-n.ensures)
     (elim c.if-sticky.branch [
       | then-sticky k ↦ rw (k.result-is, k.if-sticky.true)
