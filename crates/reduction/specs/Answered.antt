@@ -80,6 +80,11 @@ pub record CanRound (f : spec.Format) (c : env.Settings) (g up : ℕ) (v : Unrou
   pub grid : g < 2 ^ 62
   pub few : up + 640 ≤ 2 ^ 30
 
+-- v is what is left to round of some sum, of which p digits are decided
+pub record LeavesSum (p : ℕ) (v : Unrounded) : Type 0 where
+  pub sum : Signed
+  pub left : LeftOf p sum v
+
 -- the rounding of a signed sum x on a grid g, which can be encoded, and leaves flag 128 free
 pub record RoundedSum (f : spec.Format) (c : env.Settings) (g : ℕ) (x : Signed) (r : Rounded) : Type 0 where
   pub equal : rounded_of r ≡ totals.sum_rounded f c g (totals.towards_negative c) x

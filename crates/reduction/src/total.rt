@@ -8,6 +8,7 @@ ghost use Rattle.totals_spec.specs.Encode as enc;
 ghost use Rattle.totals_spec.specs.Totals as totals;
 ghost use Rattle.totals_spec.specs.Side as side;
 ghost use Rattle.totals_spec.specs.Alone.{Alone};
+ghost use Rattle.totals_spec.specs.Chain.{Run};
 ghost use Rattle.totals_spec.specs.Settled as settled;
 ghost use Rattle.further_spec.specs.Several as several;
 ghost use Rattle.totals_spec.specs.Bounds.{SettingsBounds};
@@ -18,7 +19,7 @@ ghost use Rattle.format.specs.Environments.{env_of};
 ghost use Rattle.format.specs.Joined.{unpacked_of};
 ghost use Rattle.format.specs.Fits.{Encodes};
 ghost use Rattle.window.specs.Joined.{outcome_of, run_of, Ended, LeftOf};
-ghost use Rattle.reduction.specs.Answered.{wide, Known, words_as, written_as, answer_of, answer_as, given_as, CanRound, RoundedSum, Into, record_of, last_edge_of};
+ghost use Rattle.reduction.specs.Answered.{wide, Known, words_as, written_as, answer_of, answer_as, given_as, CanRound, LeavesSum, RoundedSum, Into, record_of, last_edge_of};
 
 use binary::encode;
 use binary::extended::encode as encode_ten;
@@ -193,6 +194,31 @@ fn recorded(subnormal: bool, res: u64, r: Rounded, passes: u64, last_edge: i64) 
     }
 }
 
+// The record of a sum of which v is left after some passes, the last of them at the edge `edge`: that of a chain that comes to the same sum.
+#[inline(always)]
+pub fn finish_left(
+    f: Shape,
+    c: Env,
+    products: bool,
+    subnormal: bool,
+    v: Unrounded,
+    passes: u64,
+    edge: u64,
+) -> Wide
+    requires { Known (wide (shape_of f)) (shape_of f) × SettingsBounds (shape_of f) (env_of c) × LeavesSum (spec.digits (shape_of f)) v × (edge < 2 ^ 62) }
+    ensures { (x : Signed) (r : Run) → LeftOf (spec.digits (shape_of f)) x v → r.passes ≡ passes → r.edge ≡ edge → answer_as (wide (shape_of f)) result ≡ given_as (wide (shape_of f)) (totals.reported (shape_of f) subnormal products (totals.on_grid (shape_of f) products x) (totals.sum_rounded (shape_of f) (env_of c) (spec.grid (shape_of f) products) (totals.towards_negative (env_of c)) (totals.on_grid (shape_of f) products x)) r) }
+{
+    let r = round_sum(f, c, f.grid(products), f.rise(products), v);
+    let x = r.value;
+    let b = encoded(f, x);
+    let last_edge = place(f, products, edge);
+    let answer = recorded(subnormal, b.significand, r, passes, last_edge);
+    Wide {
+        head: b.head,
+        answer,
+    }
+}
+
 // The record of a chain of passes.
 #[inline(always)]
 pub fn finish(f: Shape, c: Env, products: bool, subnormal: bool, e: ExactSum) -> Wide
@@ -200,15 +226,7 @@ pub fn finish(f: Shape, c: Env, products: bool, subnormal: bool, e: ExactSum) ->
     ensures { answer_as (wide (shape_of f)) result ≡ given_as (wide (shape_of f)) (totals.reported (shape_of f) subnormal products (totals.on_grid (shape_of f) products (settled.settled (outcome_of e))) (totals.sum_rounded (shape_of f) (env_of c) (spec.grid (shape_of f) products) (totals.towards_negative (env_of c)) (totals.on_grid (shape_of f) products (settled.settled (outcome_of e)))) (run_of e)) }
 {
     let v = left(f.digits(), e);
-    let r = round_sum(f, c, f.grid(products), f.rise(products), v);
-    let x = r.value;
-    let b = encoded(f, x);
-    let last_edge = place(f, products, e.edge);
-    let answer = recorded(subnormal, b.significand, r, e.passes, last_edge);
-    Wide {
-        head: b.head,
-        answer,
-    }
+    finish_left(f, c, products, subnormal, v, e.passes, e.edge)
 }
 
 // The record of a target: the sum of a list in the format f, rounded once into the format t. Counted from a unit depth(t) + fall(f) positions lower, the

@@ -22,6 +22,7 @@ use arithmetic::summand::Summand;
 use format::environment::Env;
 use format::layout::Layout;
 use format::shape::Shape;
+use near::near;
 use reduction::allowance::{Allowance, Every};
 use reduction::terms::{Paired, Summed, Terms};
 use reduction::total::{Answer, Wide, finish, special};
@@ -145,6 +146,9 @@ pub fn unstrayed_sum<E: Elements>(f: Layout, c: Env, u: Summand, elements: E) ->
     requires { totals.sum_refusal (layout_of f) (env_of c) (summand_number u) (E.list elements) ≡ 0 }
     ensures { answer_of result ≡ totals.sum_answer (layout_of f) (env_of c) (summand_number u) (E.list elements) }
 {
+    if let Some(a) = near(f, c, u, &elements) {
+        return a;
+    }
     let w = sum_of(
         c,
         u,

@@ -30,6 +30,7 @@ use format::shape::Shape;
 use format::unpacked::Unpacked;
 use limbs::pair;
 use limbs::word::{ones, widening_mul};
+use near::hundredfold as near_hundredfold;
 use reduction::terms::Hundreds;
 use reduction::total::left;
 use reduction::walk::exact;
@@ -190,6 +191,9 @@ fn hundredfold<E: Elements>(f: Layout, elements: E) -> Result<i64, Refusal>
     requires { length (E.list elements) ≤ limit }
     ensures { figure_in result ≡ list_figure (layout_of f) (E.list elements) }
 {
+    if let Some(v) = near_hundredfold(f, &elements) {
+        return whole_pence(f.shape, v);
+    }
     let numbers = Encoded {
         layout: f,
         elements,

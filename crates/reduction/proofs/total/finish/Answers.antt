@@ -1,55 +1,16 @@
--- The record of a chain of passes is that of its rounded sum.
-use mir.Syntax.{w64}
-use mir.Val.{SFits}
-use mir.ValLaws.{to_z-of_z}
-use Rattle.std.proofs.Common.{◌+◌, ap, ◌∙◌, arith}
-use borrow.Author.Rules.{rules}
-use Rattle.totals_spec.specs.Basics.{flag}
-use Rattle.totals_spec.specs.Encode.{encode}
-use Rattle.totals_spec.specs.Format.{digits, grid}
-use Rattle.totals_spec.specs.Round.{Rounded}
+-- The record of what is left of the sum.
+use Rattle.std.proofs.Common.{refl}
 use Rattle.totals_spec.specs.Settled.{settled}
-use Rattle.totals_spec.specs.Totals.{Answer, on_grid, reported}
-use Rattle.format.specs.Shapes.{shape_of}
-use Rattle.format.specs.Environments.{env_of}
-use Rattle.format.proofs.Shapes.{range_bounds}
-use Rattle.reduction.specs.Answered.{wide}
-use Rattle.window.specs.Joined.{outcome_of}
-use Rattle.reduction.specs.Answered.{words_as, written_as, RoundedSum}
-use Rattle.reduction.proofs.Records.{leans, moved}
+use Rattle.window.specs.Joined.{outcome_of, run_of}
 use Rattle.reduction.proofs.total.finish.Goals as goal
 
-pub round_sum-r-requires : goal.round_sum-r-requires
-round_sum-r-requires c = record {
-  decided = digits (shape_of c.args.f);
-  sum = settled (outcome_of c.args.e);
-  left = rw c.digits.ensures at c.left-v.ensures;
-  settings = c.requires.1;
-  enough = omega arith;
-  grid = omega (arith, c.grid.ensures.bound);
-  few = omega (arith, c.rise.ensures.bound);
-}
+pub finish_left-requires : goal.finish_left-requires
+finish_left-requires c = (
+  c.requires.0,
+  c.requires.1,
+  record { sum = settled (outcome_of c.args.e); left = rw c.digits.ensures at c.left-v.ensures },
+  c.requires.2.edge,
+)
 
 pub returns : goal.returns
-unfolding reported
-returns c =
-    let f = shape_of c.args.f in
-    let env = env_of c.args.c in
-    let x = on_grid f c.args.products (settled (outcome_of c.args.e)) in
-    let q = c.recorded-answer.ensures in
-    let r : RoundedSum f env (grid f c.args.products) x c.round_sum-r.result =
-    moved _ c.grid.ensures.value c.rise.ensures.value
-    (c.round_sum-r.ensures (digits f) (settled (outcome_of c.args.e)) (rw c.digits.ensures at c.left-v.ensures)) in
-    let fits : SFits w64 c.place-last_edge.result = search rules in
-    let edge = to_z-of_z w64 _ fits ∙ c.place-last_edge.ensures in
-    λ i. record {
-      result =
-          (ap (λ (a : Answer). words_as (wide f) c.encoded-b.result.head a.result) q ∙ c.encoded-b.ensures
-          ∙ ap (λ (y : Rounded). written_as (wide f) (encode f y.value)) r.equal) i;
-      flags = (ap (λ (a : Answer). a.flags) q ∙ ap (λ (y : Rounded). flag 128 c.args.subnormal + y.flags) r.equal) i;
-      passes = (q i).passes;
-      last_edge = (ap (λ (a : Answer). a.last_edge) q ∙ edge) i;
-      refusal = (q i).refusal;
-      place = (q i).place;
-      side = (ap (λ (a : Answer). a.side) q ∙ leans f env _ x _ (range_bounds c.args.f) c.requires.1 r) i;
-    }
+returns c = c.finish_left.ensures (settled (outcome_of c.args.e)) (run_of c.args.e) (rw c.digits.ensures at c.left-v.ensures) refl refl

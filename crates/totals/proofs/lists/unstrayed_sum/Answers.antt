@@ -21,3 +21,10 @@ returns g c =
     rw (narrow _ (layout_bounds c.args.f)) at c.sum_of-w.ensures
     ∙ sum-is c.args.f _ _ _
     ∙ rw (summand-is c.args.u, c.requires)
+
+pub near-requires : goal.near-requires
+near-requires g c = let a = sum-accepts _ _ _ _ c.requires in (a.settings, a.few)
+
+pub returns-in-Some : goal.returns-in-Some
+unfolding sum_answer
+returns-in-Some g c = c.in-Some.ensures {u = tt} ∙ rw (summand-is c.args.u, c.requires)

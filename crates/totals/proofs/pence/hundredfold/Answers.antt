@@ -1,9 +1,10 @@
--- By what the scan has met, and else by the chain over the values a hundred times each.
+-- By the sum of a list whose fields lie near one another; else by what the scan has met, and by the chain over the values a hundred times each.
 use Rattle.std.proofs.Common.{◌∙◌, arith}
 use Rattle.std.proofs.lemmas.Result.{err_from_is_err_and}
 use Rattle.totals_spec.specs.Settings.{no_settings}
 use Rattle.format.specs.Layouts.{layout_of}
 use Rattle.format.proofs.Layouts.{layout_bounds}
+use Rattle.near.proofs.Told.{figure-hundred}
 use Rattle.reduction.proofs.Loop.{hundred-base}
 use Rattle.totals.proofs.Counted.{met-figure, zero-figure, chain-figure, raised-top, left-countable}
 use Rattle.totals.proofs.Keeping.{scanned, top-room}
@@ -31,10 +32,18 @@ exact-e-requires g c =
     (hundred-base (omega arith) (layout_of c.args.f) (layout_bounds c.args.f).range no_settings _ c.requires (rw t.0 at t.1), t.0)
 
 pub whole_pence-requires : goal.whole_pence-requires
-whole_pence-requires g c = left-countable _ _ c.left.ensures
+whole_pence-requires g c = left-countable _ _ ((c.in-Some.ensures {u = tt}).left 64)
+
+pub returns-in-Some : goal.returns-in-Some
+returns-in-Some g c =
+    let h = c.in-Some.ensures {u = tt} in
+    rw h.numbers (c.whole_pence.ensures _ (h.left 64) ∙ figure-hundred (layout_of c.args.f) _)
+
+pub whole_pence-requires-2 : goal.whole_pence-requires-2
+whole_pence-requires-2 g c = left-countable _ _ c.left.ensures
 
 pub returns : goal.returns
 returns g c =
     let seen = scanned c.args.f no_settings _ _ (rw c.default.ensures at c.scan_list-s.ensures) in
-    c.whole_pence.ensures _ c.left.ensures
+    c.whole_pence-2.ensures _ c.left.ensures
     ∙ chain-figure _ _ seen c.met_special.ensures (c.in_ok-refuse_if.ensures {u = tt}) c.requires _ c.exact-e.ensures
