@@ -44,7 +44,7 @@ const MOST_ELEMENTS: usize = 1 << 28;
 ///
 /// [`Refusal::TooManyElements`] where there are more than 268,435,456 values.
 ///
-/// Proved: `sum-exact`, `sum-entry-order`, and of [`X87`] `extended_exact`, `extended-call-order`, in
+/// Proved: `sum-exact`, `sum-entry-order`, and of [`X87`] `extended-exact`, `extended-call-order`, in
 /// `crates/totals_spec/proofs/Promises.antt`.
 ///
 /// ```
@@ -79,7 +79,7 @@ pub fn sum<T: Float>(values: &[T]) -> Result<Record<T>, Refusal> {
 ///
 /// [`Refusal::TooManyElements`] where there are more than 268,435,456 values.
 ///
-/// Proved: `sum-exact`, `sum-entry-order`, and of [`X87`] `extended_exact`, `extended-call-order`, in
+/// Proved: `sum-exact`, `sum-entry-order`, and of [`X87`] `extended-exact`, `extended-call-order`, in
 /// `crates/totals_spec/proofs/Promises.antt`.
 ///
 /// ```
@@ -96,7 +96,7 @@ pub fn magnitude_sum<T: Float>(values: &[T]) -> Result<Record<T>, Refusal> {
 ///
 /// [`Refusal::TooManyElements`] where there are more than 268,435,456 values.
 ///
-/// Proved: `sum-exact`, `sum-entry-order`, and of [`X87`] `extended_exact`, `extended-call-order`, in
+/// Proved: `sum-exact`, `sum-entry-order`, and of [`X87`] `extended-exact`, `extended-call-order`, in
 /// `crates/totals_spec/proofs/Promises.antt`.
 ///
 /// ```
@@ -126,7 +126,7 @@ pub fn square_sum<T: Float>(values: &[T]) -> Result<Record<T>, Refusal> {
 /// [`Refusal::DifferentLengths`] where the lists have two lengths, else
 /// [`Refusal::TooManyElements`] where there are more than 268,435,456 pairs.
 ///
-/// Proved: `dot-exact`, `dot-entry-order`, and of [`X87`] `extended_exact`, `extended-call-order`, in
+/// Proved: `dot-exact`, `dot-entry-order`, and of [`X87`] `extended-exact`, `extended-call-order`, in
 /// `crates/totals_spec/proofs/Promises.antt`.
 ///
 /// ```

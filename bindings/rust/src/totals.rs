@@ -156,7 +156,7 @@ impl<T: Value> Totals<T> {
     /// # Ok::<(), fermuzhai::Refusal>(())
     /// ```
     ///
-    /// Proved: `sum-exact`, `sum-entry-order`, `sum-mirror`, and of [`X87`](crate::X87) `extended_exact`,
+    /// Proved: `sum-exact`, `sum-entry-order`, `sum-mirror`, and of [`X87`](crate::X87) `extended-exact`,
     /// `extended-call-order`, `extended-mirror`, in `crates/totals_spec/proofs/Promises.antt`.
     pub fn sum(&self, values: &[T]) -> Result<Record<T>, Refusal> {
         self.sum_of(Summand::Value, values)
@@ -168,7 +168,7 @@ impl<T: Value> Totals<T> {
     ///
     /// Those of [`Totals::sum`].
     ///
-    /// Proved: `sum-exact`, `sum-entry-order`, and of [`X87`](crate::X87) `extended_exact`,
+    /// Proved: `sum-exact`, `sum-entry-order`, and of [`X87`](crate::X87) `extended-exact`,
     /// `extended-call-order`, in `crates/totals_spec/proofs/Promises.antt`.
     pub fn magnitude_sum(&self, values: &[T]) -> Result<Record<T>, Refusal> {
         self.sum_of(Summand::Magnitude, values)
@@ -182,7 +182,7 @@ impl<T: Value> Totals<T> {
     ///
     /// Without a NaN it is the dot product of the list with itself, record for record.
     ///
-    /// Proved: `sum-exact`, `sum-entry-order`, `square-dot`, and of [`X87`](crate::X87) `extended_exact`,
+    /// Proved: `sum-exact`, `sum-entry-order`, `square-dot`, and of [`X87`](crate::X87) `extended-exact`,
     /// `extended-call-order`, in `crates/totals_spec/proofs/Promises.antt`.
     pub fn square_sum(&self, values: &[T]) -> Result<Record<T>, Refusal> {
         self.sum_of(Summand::Square, values)
@@ -207,7 +207,7 @@ impl<T: Value> Totals<T> {
     /// # Ok::<(), fermuzhai::Refusal>(())
     /// ```
     ///
-    /// Proved: `dot-exact`, `dot-entry-order`, `dot-mirror`, and of [`X87`](crate::X87) `extended_exact`,
+    /// Proved: `dot-exact`, `dot-entry-order`, `dot-mirror`, and of [`X87`](crate::X87) `extended-exact`,
     /// `extended-call-order`, `extended-mirror`, in `crates/totals_spec/proofs/Promises.antt`.
     pub fn dot(&self, left: &[T], right: &[T]) -> Result<Record<T>, Refusal> {
         self.dot_bytes(&T::bytes(left), &T::bytes(right))
@@ -219,7 +219,7 @@ impl<T: Value> Totals<T> {
     ///
     /// Those of [`Totals::sum`].
     ///
-    /// Proved: `sum-exact`, `sum-entry-order`, and of [`X87`](crate::X87) `extended_exact`,
+    /// Proved: `sum-exact`, `sum-entry-order`, and of [`X87`](crate::X87) `extended-exact`,
     /// `extended-call-order`, in `crates/totals_spec/proofs/Promises.antt`.
     pub fn sum_of(&self, summand: Summand, values: &[T]) -> Result<Record<T>, Refusal> {
         self.sum_bytes(summand, &T::bytes(values))
@@ -233,7 +233,7 @@ impl<T: Value> Totals<T> {
     /// [`Refusal::UnevenLength`], of a length that is not a multiple of 8, or of 10; else those of
     /// [`Totals::sum`].
     ///
-    /// Proved: `sum-exact`, `sum-entry-order`, and of [`X87`](crate::X87) `extended_exact`,
+    /// Proved: `sum-exact`, `sum-entry-order`, and of [`X87`](crate::X87) `extended-exact`,
     /// `extended-call-order`, in `crates/totals_spec/proofs/Promises.antt`.
     ///
     /// ```
@@ -263,7 +263,7 @@ impl<T: Value> Totals<T> {
     /// [`Refusal::UnevenLength`], of a length that is not a multiple of 8, or of 10; else those of
     /// [`Totals::dot`].
     ///
-    /// Proved: `dot-exact`, `dot-entry-order`, and of [`X87`](crate::X87) `extended_exact`,
+    /// Proved: `dot-exact`, `dot-entry-order`, and of [`X87`](crate::X87) `extended-exact`,
     /// `extended-call-order`, in `crates/totals_spec/proofs/Promises.antt`.
     pub fn dot_bytes(&self, left: &[u8], right: &[u8]) -> Result<Record<T>, Refusal> {
         self.answer(|f, c, answer| match self.format.named_bias {

@@ -69,8 +69,8 @@ target-refused = targets.target-refused
 pub target-place : Target-place
 target-place = targets.target-place
 
-pub target_fits : Target-fits
-target_fits = targets.target_fits
+pub target-fits : Target-fits
+target-fits = targets.target-fits
 
 pub target-order : Target-order
 target-order = targets.target-order
@@ -154,8 +154,8 @@ within-in-time = within.within-in-time
 pub within-limit : Within-limit
 within-limit = within.within-limit
 
-pub within_same : Within-same
-within_same = within.within_same
+pub within-same : Within-same
+within-same = within.within-same
 
 pub within-unfinished : Within-unfinished
 within-unfinished = within.within-unfinished

@@ -22,7 +22,7 @@ use Rattle.further_spec.specs.Contribution.{rank_of}
 use Rattle.totals_spec.proofs.Walk.{total-append, keep_append}
 use Rattle.totals_spec.proofs.Signed.{difference-parts, raised-none}
 use Rattle.totals_spec.proofs.Finite.{sum-exact}
-use Rattle.totals_spec.proofs.Zeros.{sum_zeros}
+use Rattle.totals_spec.proofs.Zeros.{sum-zeros}
 use Rattle.totals_spec.proofs.Held.{Held, sum-held}
 use Rattle.totals_spec.proofs.RoundedBack.{held_back}
 use Rattle.further_spec.proofs.Ranks.{extent, rank-extents}
@@ -128,7 +128,7 @@ module _ (f : Format) (b : RangeBounds f) (kind : kind_of f.kind ≡ ieee) (c : 
         where
           back : decode f (sum_answer f c 0 l).result ≡ zero_of (zero_for c (map (item f c value) l))
           back =
-              ap (λ (a : Answer). decode f a.result) (sum_zeros f c 0 l r h (ap length e)) ∙ kept_back (zero_of (zero_for c (map (item f c value) l))) tt
+              ap (λ (a : Answer). decode f a.result) (sum-zeros f c 0 l r h (ap length e)) ∙ kept_back (zero_of (zero_for c (map (item f c value) l))) tt
 
           none : extent f (rounded_sum []) ≡ record { neg = false; mag = 0 }
           none = unfold sum_rounded plus_sum minus_sum difference in refl

@@ -29,7 +29,7 @@ use Rattle.totals_spec.proofs.Exactly.{last, test, exactly, either, different, u
 use Rattle.totals_spec.proofs.ReadBack.{bytes_back, written_back}
 use Rattle.totals_spec.proofs.Refused.{Small}
 use Rattle.further_spec.proofs.Several.{target-accepts}
-use Rattle.further_spec.proofs.Targets.{target-number, target_small, target-refused, target-seven, target_fits, target-order}
+use Rattle.further_spec.proofs.Targets.{target-number, target_small, target-refused, target-seven, target-fits, target-order}
 
 -- ---- by its two tests
 
@@ -104,7 +104,7 @@ target-slot f d l t c = go (eqb (target_refusal f d l t c) 0) (eqb→eq (target_
 
     go : (z : Bool) → (T z → target_refusal f d l t c ≡ 0) → (T (not z) → target_refusal f d l t c ≢ 0) → SlotFits (target_answer f d l t c)
     go true e k =
-        let h = target_fits f d l t c in
+        let h = target-fits f d l t c in
         record {
           number = omega (arith, small.number, small.place);
           result = omega (arith, h.result, pow_mono {i = t.W} {j = 64} (target-accepts f d l t c (e tt)).format.w_le);

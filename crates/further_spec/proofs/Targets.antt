@@ -201,9 +201,9 @@ module _ (f t : Format) (c : Settings) (b : RangeBounds t) (k : SettingsBounds t
           let s = without t c sub false l (zero_of (zero_for c l)) false in
           ((unfold special in encode-fits t b (zero_of (zero_for c l)) tt), s.flags, s.side)
 
-pub target_fits : Target-fits
+pub target-fits : Target-fits
 unfolding target_answer
-target_fits f d l t c = answered-fit t (target_refusal f d l t c) (first_index (stray f) l) (record_of f d l t c) inside
+target-fits f d l t c = answered-fit t (target_refusal f d l t c) (first_index (stray f) l) (record_of f d l t c) inside
   where
     items : List Item
     items = map (item f (reading_with d) value) l

@@ -37,7 +37,7 @@ use Rattle.further_spec.specs.Promises.{Within-narrower, Within-last, Within-ref
 use Rattle.totals_spec.proofs.Accepted.{accepted-has}
 use Rattle.totals_spec.proofs.Accepts.{sum-accepts, dot-accepts}
 use Rattle.totals_spec.proofs.Exactly.{test, exactly, sum-tests, dot-tests}
-use Rattle.totals_spec.proofs.Fits.{sum_fits, dot-fits}
+use Rattle.totals_spec.proofs.Fits.{sum-fits, dot-fits}
 use Rattle.totals_spec.proofs.Good.{AllGood, good-terms, good-pairs, picked-length}
 use Rattle.totals_spec.proofs.Kept.{KeptBoundary}
 use Rattle.totals_spec.proofs.Margin.{terms-max}
@@ -535,9 +535,9 @@ within-limit = (
     some : (f : Format) (ts : List Term) → 1 ≤ most_passes f ts
     some f ts = unfold most_passes in omega arith
 
-pub within_same : Within-same
+pub within-same : Within-same
 unfolding sum_within dot_within
-within_same = (
+within-same = (
   λ f c u l k n k0 h. same f _ _ (sum_answer f c u l) (sum-known f c u l) k n h k0,
   λ f c xs ys k n k0 h. same f _ _ (dot_answer f c xs ys) (dot-known f c xs ys) k n h k0,
 )
@@ -608,6 +608,6 @@ within-order = (
 pub within-fits : Within-fits
 unfolding sum_within dot_within
 within-fits = (
-  λ f c u l k. estimate-fits f _ _ (sum_answer f c u l) k (sum-known f c u l) (sum_fits f c u l),
+  λ f c u l k. estimate-fits f _ _ (sum_answer f c u l) k (sum-known f c u l) (sum-fits f c u l),
   λ f c xs ys k. estimate-fits f _ _ (dot_answer f c xs ys) k (dot-known f c xs ys) (dot-fits f c xs ys),
 )

@@ -28,7 +28,7 @@ use Rattle.further_spec.specs.Promises.{EstimateFits, ReadsEstimate, Within-entr
 use Rattle.further_spec.specs.Promises.{Within-entry-read-back, Within-entry-plain}
 use Rattle.totals_spec.proofs.Accepts.{sum-accepts, dot-accepts}
 use Rattle.totals_spec.proofs.Exactly.{Tests, test, exactly, either, tested, uneven-found, misnamed-found, sum-tests, dot-tests}
-use Rattle.totals_spec.proofs.Fits.{sum_fits, dot-fits}
+use Rattle.totals_spec.proofs.Fits.{sum-fits, dot-fits}
 use Rattle.totals_spec.proofs.ReadBack.{bytes_back}
 use Rattle.totals_spec.proofs.Refused.{small-number, sum_number, dot-number}
 use Rattle.further_spec.proofs.Within.{Windowed, sum-within-number, dot-within-number, sum-within-windowed, dot-within-windowed, no-allowance}
@@ -343,7 +343,7 @@ within-entry-plain = (
   λ k e w named b c u a bytes old z m.
       let f = format_by k e w named b in
       let l = values_in bytes in
-      let fits = sum_fits f c u l in
+      let fits = sum-fits f c u l in
       let p = plain-too (uneven bytes) (misnamed named b) a (sum_within f c u l a) (sum_answer f c u l) old
       (λ r. sum-within-full f c u l a r m) fits.flags fits.side z in
       (p.code, p.bytes),

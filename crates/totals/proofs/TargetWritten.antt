@@ -15,7 +15,7 @@ use Rattle.totals_spec.specs.Table.{filled}
 use Rattle.totals_spec.specs.Words.{misnamed, format_by}
 use Rattle.further_spec.specs.Several.{misnamed_at, format_at, settings_at, answer_at, slot_of, slots, target_entry}
 use Rattle.totals_spec.proofs.Accepted.{cond_has}
-use Rattle.further_spec.proofs.Targets.{target_small, target_fits}
+use Rattle.further_spec.proofs.Targets.{target_small, target-fits}
 use Rattle.values.specs.Laid.{laid}
 use Rattle.page.specs.Paged.{laid_over}
 use Rattle.page.proofs.Laying.{over-next}
@@ -81,7 +81,7 @@ pub slot-fits : (bad : Bool) (f : Format) (d : ℕ) (l ns : List ℕ) (j : ℕ) 
 unfolding answer_at
 slot-fits bad f d l ns j r is old room =
     let small = target_small f d l (format_at ns j) (settings_at ns j) in
-    let fit = target_fits f d l (format_at ns j) (settings_at ns j) in
+    let fit = target-fits f d l (format_at ns j) (settings_at ns j) in
     subst (λ (a : Answer). Fits a old) (sym is)
     (cond_has (λ (a : Answer). Fits a old) (bad || misnamed_at ns j) _ _
     (record { room = omega (arith, room); number = omega arith; place = omega arith; flags = omega arith; side = omega arith })

@@ -22,7 +22,7 @@ use Rattle.totals_spec.specs.Extended.{extended_item, extended_pair}
 use Rattle.totals_spec.specs.Extended.{extended_sum, extended_sum_refusal, extended_sum_answer, extended_dot, extended_dot_refusal, extended_dot_answer}
 use Rattle.totals_spec.specs.Extended.{uneven_tens, extended_written, extended_entered, extended_sum_entry, extended_dot_entry, sum_call, dot_call}
 use Rattle.totals_spec.proofs.Order.{first-zero}
-use Rattle.totals_spec.proofs.Extended.{extended-sum-refusal, extended-dot-refusal, extended_fits}
+use Rattle.totals_spec.proofs.Extended.{extended-sum-refusal, extended-dot-refusal, extended-fits}
 use Rattle.totals_spec.proofs.ExtendedCalls.{sum-extended, dot-extended, other-kinds}
 use Rattle.totals_spec.proofs.ExtendedTerms.{any-both}
 use Rattle.totals_spec.proofs.Halves.{four-words, unsupported-record, supported-record}
@@ -183,7 +183,7 @@ module _ (f : Format) (c : Settings) (u : ℕ) (bytes old : List ℕ) where
 
       pub sum_fits : FitsTens a old
       sum_fits =
-          let t = extended_fits.0 f c u (tens_in bytes) in
+          let t = extended-fits.0 f c u (tens_in bytes) in
           rw sum-is (record { room = (let_in (uneven_tens bytes) (length old) 32 passed).1; flags = t.flags; side = t.side })
 
       pub sum-written : (b : List ℕ) → b ≡ extended_written a old → Enters (extended_sum_entry f c u bytes old) 0 b
@@ -218,7 +218,7 @@ module _ (f : Format) (c : Settings) (left right old : List ℕ) where
 
       pub dot_fits : FitsTens a old
       dot_fits =
-          let t = extended_fits.1 f c (tens_in left) (tens_in right) in
+          let t = extended-fits.1 f c (tens_in left) (tens_in right) in
           let room = (let_in (uneven_tens left || uneven_tens right) (length old) 32 passed).1 in
           rw dot-is (record { room = room; flags = t.flags; side = t.side })
 

@@ -1,4 +1,4 @@
--- A sum with_rounding in a directed mode into an Ieee format, decoded again, is the best bound of it among the format's numbers and infinities.
+-- A sum rounded in a directed mode into an Ieee format, decoded again, is the best bound of it among the format's numbers and infinities.
 -- Magnitudes are counted in the format's least non-zero number; the sum itself is x of them, on the grid g.
 use mathlib.Core.Path.{◌≡◌, refl, sym, ap, ◌∙◌, subst}
 use mathlib.Core.Bool.{Bool, true, false, not, ◌&&◌, cond, true≢false}

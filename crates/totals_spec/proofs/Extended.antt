@@ -205,9 +205,9 @@ extended-refused = (
 
 -- ---- the fields and their places
 
-pub extended_fits : Extended-fits
+pub extended-fits : Extended-fits
 unfolding extended_sum_answer extended_sum extended_dot_answer extended_dot
-extended_fits = (
+extended-fits = (
   λ f c u l.
       answered-fit kind4 (extended_sum_refusal f c u l) 0 _
       (λ _. extended-fit c _ _ l _ (extended-good c (summand_of u) l) (extended-top c (summand_of u) l)),
@@ -265,9 +265,9 @@ extended-dot-finite f c xs ys r h k =
     (extended-finite c true false (both_of (pairs xs ys)) _ (both-any unsupported xs ys e ∙ rw (all-supported xs h, all-supported ys k))
     (extended-plain-pairs c xs ys h k))
 
-pub extended_exact : Extended-exact
+pub extended-exact : Extended-exact
 unfolding finite_total
-extended_exact = (
+extended-exact = (
   λ f c u l r h some. extended-sum-finite f c u l r h ∙ rw (some-term (extended_terms c (summand_of u) l) some),
   λ f c xs ys r h k some. extended-dot-finite f c xs ys r h k ∙ rw (some-term (extended_dot_terms c xs ys) some),
 )

@@ -23,7 +23,7 @@ use Rattle.totals_spec.specs.Extended.{is_extended, sum_call, dot_call}
 use Rattle.totals_spec.specs.Promises.{FieldsFit, ReadsBack32, Other-kinds, Extended-elsewhere, Extended-call-refused-exactly, Call-refused}
 use Rattle.totals_spec.specs.Promises.{Extended-read-back, Tens-values, Extended-call-order}
 use Rattle.totals_spec.proofs.Exactly.{Tests, test, exactly, different, either}
-use Rattle.totals_spec.proofs.Extended.{extended-sum-refusal, extended-dot-refusal, extended-sum-tests, extended-dot-tests, extended_fits}
+use Rattle.totals_spec.proofs.Extended.{extended-sum-refusal, extended-dot-refusal, extended-sum-tests, extended-dot-tests, extended-fits}
 use Rattle.totals_spec.proofs.Extended.{extended-order}
 use Rattle.totals_spec.proofs.ReadBack.{bytes_back, zero-bytes}
 use Rattle.totals_spec.proofs.Values.{wide-length, wide_at}
@@ -181,12 +181,12 @@ extended-read-back = (
       let r = extended_sum_answer f c u (tens_in bytes) in
       rw (sum-extended f h c u bytes old)
       (by-buffer (ReadsBack32 r old) (uneven_tens bytes) (short32 old) r.refusal old (extended_written r old)
-      (written_back r old (extended_fits.0 f c u (tens_in bytes)))),
+      (written_back r old (extended-fits.0 f c u (tens_in bytes)))),
   λ f c left right old h.
       let r = extended_dot_answer f c (tens_in left) (tens_in right) in
       rw (dot-extended f h c left right old)
       (by-buffer (ReadsBack32 r old) (uneven_tens left || uneven_tens right) (short32 old) r.refusal old (extended_written r old)
-      (written_back r old (extended_fits.1 f c (tens_in left) (tens_in right)))),
+      (written_back r old (extended-fits.1 f c (tens_in left) (tens_in right)))),
 )
 
 -- ---- the order

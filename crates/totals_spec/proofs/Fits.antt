@@ -122,9 +122,9 @@ answered-fit f n at a h = go (eqb n 0) (eqb→eq n 0)
     go true e = h (e tt)
     go false e = record { result = omega (arith, pow_pos f.W); flags = omega arith; side = omega arith; passes = omega arith }
 
-pub sum_fits : Sum-fits
+pub sum-fits : Sum-fits
 unfolding sum_answer
-sum_fits f c u l = answered-fit f (sum_refusal f c u l) (first_index (stray f) l) (sum_accepted f c (summand_of u) l) inside
+sum-fits f c u l = answered-fit f (sum_refusal f c u l) (first_index (stray f) l) (sum_accepted f c (summand_of u) l) inside
   where
     inside : sum_refusal f c u l ≡ 0 → FieldsFit f (sum_accepted f c (summand_of u) l)
     inside r = unfold sum_accepted in

@@ -65,10 +65,10 @@ module _ (f : Format) (c : Settings) (sub products : Bool) {l₁ l₂ : List Ite
       )
 
   -- the NaN of the rule is not asked for
-  pub accepted-perm : (refuse_if sig₁ sig₂ : Bool) (v₁ v₂ : Unpacked) → any is_nan_item l₁ ≡ false
-      → accepted f c sub products refuse_if sig₁ v₁ l₁ ≡ accepted f c sub products refuse_if sig₂ v₂ l₂
+  pub accepted-perm : (infinity_first sig₁ sig₂ : Bool) (v₁ v₂ : Unpacked) → any is_nan_item l₁ ≡ false
+      → accepted f c sub products infinity_first sig₁ v₁ l₁ ≡ accepted f c sub products infinity_first sig₂ v₂ l₂
   unfolding accepted
-  accepted-perm refuse_if sig₁ sig₂ v₁ v₂ h =
+  accepted-perm infinity_first sig₁ sig₂ v₁ v₂ h =
       let k : any is_nan_item l₂ ≡ false = sym (any-perm is_nan_item d) ∙ h in
       rw (h, k) without-perm
 

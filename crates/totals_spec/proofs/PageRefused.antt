@@ -30,7 +30,7 @@ use Rattle.totals_spec.proofs.ReadBack.{entry-back, sum_back}
 use Rattle.totals_spec.proofs.Refused.{entry-refused, sum-refusal, sum-refused, sum-place}
 use Rattle.totals_spec.proofs.Table.{kept}
 use Rattle.totals_spec.proofs.Values.{from-length}
-use Rattle.totals_spec.proofs.Zeros.{sum_zeros}
+use Rattle.totals_spec.proofs.Zeros.{sum-zeros}
 
 -- ---- writing, by its number
 
@@ -225,7 +225,7 @@ page-span-refused c u page start end h = (span-whole page start end c u).2 h
 
 pub page-empty : Page-empty
 page-empty c u page at e =
-    same ∙ nothing ∙ sum_zeros binary64 c u [] (sym (sum-refusal binary64 c u []) ∙ ap (λ (a : Answer). a.refusal) (sym (same ∙ nothing)) ∙ e) tt refl
+    same ∙ nothing ∙ sum-zeros binary64 c u [] (sym (sum-refusal binary64 c u []) ∙ ap (λ (a : Answer). a.refusal) (sym (same ∙ nothing)) ∙ e) tt refl
   where
     same : page_answer c u page at at ≡ sum_answer binary64 c u (span_of at at (page_values page))
     same = (span-whole page at at c u).1 e

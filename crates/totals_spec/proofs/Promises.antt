@@ -90,8 +90,8 @@ biases-agree = tests.biases-agree
 pub sum-pence-agree : Sum-pence-agree
 sum-pence-agree = tests.sum-pence-agree
 
-pub tables_agree : Tables-agree
-tables_agree = tests.tables_agree
+pub tables-agree : Tables-agree
+tables-agree = tests.tables-agree
 
 pub examples-agree : Examples-agree
 examples-agree = (tests.refusals-agree, tests.entry-agrees, tests.pence-agree, tests.program-agrees)
@@ -147,8 +147,8 @@ sum-pence-refused-exactly = exactly.sum-pence-refused-exactly
 
 -- ==== promise 1: the answer in its places (Fits, ReadBack)
 
-pub sum_fits : Sum-fits
-sum_fits = fits.sum_fits
+pub sum-fits : Sum-fits
+sum-fits = fits.sum-fits
 
 pub dot-fits : Dot-fits
 dot-fits = fits.dot-fits
@@ -166,8 +166,8 @@ dot-exact = finite.dot-exact
 
 -- ==== promise 2: a list without a term (Zeros)
 
-pub sum_zeros : Sum-zeros
-sum_zeros = zeros.sum_zeros
+pub sum-zeros : Sum-zeros
+sum-zeros = zeros.sum-zeros
 
 pub dot-zeros : Dot-zeros
 dot-zeros = zeros.dot-zeros
@@ -430,8 +430,8 @@ extended-refused = extended.extended-refused
 pub call-refused : Call-refused
 call-refused = calls.call-refused
 
-pub extended_fits : Extended-fits
-extended_fits = extended.extended_fits
+pub extended-fits : Extended-fits
+extended-fits = extended.extended-fits
 
 pub extended-read-back : Extended-read-back
 extended-read-back = calls.extended-read-back
@@ -442,8 +442,8 @@ tens-values = calls.tens-values
 pub extended-unsupported : Extended-unsupported
 extended-unsupported = extended.extended-unsupported
 
-pub extended_exact : Extended-exact
-extended_exact = extended.extended_exact
+pub extended-exact : Extended-exact
+extended-exact = extended.extended-exact
 
 pub extended-zeros : Extended-zeros
 extended-zeros = extended.extended-zeros
@@ -526,8 +526,8 @@ sum-edges f c u l = edges-true _ (good-terms f c (summand_of u) l)
 pub dot-edges : Dot-edges
 dot-edges f c xs ys = edges-true _ (good-pairs f c (pairs xs ys))
 
-pub low_bit_lem : Low-bit
-low_bit_lem m h = (ap (λ (x : ℕ). x % 2 ^ low_bit m) (sym (low-divides m)) ∙ mul-mod_left _ (2 ^ low_bit m), low-set m h)
+pub low-bit : Low-bit
+low-bit m h = (ap (λ (x : ℕ). x % 2 ^ low_bit m) (sym (low-divides m)) ∙ mul-mod_left _ (2 ^ low_bit m), low-set m h)
 
 pub size-is-length : Size-is-length
 size-is-length = ((λ m h. (omega (arith, size-one-less m h), omega (arith, size-lt m))), size_none)

@@ -26,7 +26,7 @@ use Rattle.totals_spec.proofs.Signed.{difference-parts}
 use Rattle.totals_spec.proofs.Best.{Best, decode-fits}
 use Rattle.totals_spec.proofs.Bounding.{one-part, lower-holds, upper-holds, lower-best, upper-best}
 use Rattle.totals_spec.proofs.Figures.{format, is-ieee, mode-4, mode-3, downward, upward, AllFigures, amounts, accepted, rounds}
-use Rattle.totals_spec.proofs.Fits.{sum_fits}
+use Rattle.totals_spec.proofs.Fits.{sum-fits}
 use Rattle.totals_spec.proofs.RangeRefused.{triples-length, triples-at}
 
 -- ---- an entry, its low and its high stand where their three numbers do
@@ -301,7 +301,7 @@ range-zero ts xs ys z = range-has (λ b. b ≢ 2 ^ 63) none ts xs ys z (λ r. (p
 
 total-fits : (m : ℕ) (l : List ℕ) → plus_zero (plain_total binary64 (with_rounding m) l) < 2 ^ 64
 unfolding binary64
-total-fits m l = plus-zero-has (λ b. b < 2 ^ 64) (omega arith) _ (λ h. (sum_fits binary64 (with_rounding m) 0 l).result)
+total-fits m l = plus-zero-has (λ b. b < 2 ^ 64) (omega arith) _ (λ h. (sum-fits binary64 (with_rounding m) 0 l).result)
 
 pub range-fits : Range-fits
 unfolding lower_total upper_total

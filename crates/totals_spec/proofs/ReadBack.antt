@@ -20,7 +20,7 @@ use Rattle.totals_spec.specs.Promises.{FieldsFit, ReadsBack, Entry-read-back, Ta
 use Rattle.totals_spec.proofs.Accepts.{sum-accepts, dot-accepts}
 use Rattle.totals_spec.proofs.Exactly.{tested}
 use Rattle.totals_spec.proofs.Fields.{next-bytes}
-use Rattle.totals_spec.proofs.Fits.{sum_fits, dot-fits}
+use Rattle.totals_spec.proofs.Fits.{sum-fits, dot-fits}
 use Rattle.totals_spec.proofs.Refused.{sum-refusal, dot-refusal}
 use Rattle.totals_spec.proofs.Table.{table_tested, table-number, table-grand}
 
@@ -85,7 +85,7 @@ fits f a old w h s =
 
 pub sum_back : (f : Format) (c : Settings) (u : ℕ) (l old : List ℕ) → short old ≡ false → (sum_answer f c u l).refusal ≡ 0
     → ReadsBack (sum_answer f c u l) old (written (sum_answer f c u l) old)
-sum_back f c u l old s r = fits f (sum_answer f c u l) old (sum-accepts f c u l (sym (sum-refusal f c u l) ∙ r)).format.w_le (sum_fits f c u l) s
+sum_back f c u l old s r = fits f (sum_answer f c u l) old (sum-accepts f c u l (sym (sum-refusal f c u l) ∙ r)).format.w_le (sum-fits f c u l) s
 
 dot-back : (f : Format) (c : Settings) (xs ys old : List ℕ) → short old ≡ false → (dot_answer f c xs ys).refusal ≡ 0
     → ReadsBack (dot_answer f c xs ys) old (written (dot_answer f c xs ys) old)

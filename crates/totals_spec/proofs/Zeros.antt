@@ -44,8 +44,8 @@ unfolding finite_total
 no-term f c sub products minus [] b e = zero-record f sub minus b
 no-term f c sub products minus (t ∷ ts) b e = absurd (suc-ne-zero (length ts) e)
 
-pub sum_zeros : Sum-zeros
-sum_zeros f c u l r h e = sum-finite f c u l r h ∙ no-term f c _ _ _ (sum_terms f c (summand_of u) l) (sum-accepts f c u l r).format.range (omega (arith, e))
+pub sum-zeros : Sum-zeros
+sum-zeros f c u l r h e = sum-finite f c u l r h ∙ no-term f c _ _ _ (sum_terms f c (summand_of u) l) (sum-accepts f c u l r).format.range (omega (arith, e))
 
 pub dot-zeros : Dot-zeros
 dot-zeros f c xs ys r h k e = dot-finite f c xs ys r h k ∙ no-term f c _ _ _ (dot_terms f c xs ys) (dot-accepts f c xs ys r).format.range (omega (arith, e))

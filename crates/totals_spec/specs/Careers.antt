@@ -100,7 +100,7 @@ margins =
     ∷ row 0 0 (0x7e70000000000000 ∷ 0xaad0000000000000 ∷ 1 ∷ []) 0x7e70000000000000 0xd0 2 (negsuc 402) 2
     -- C5 in another order
     ∷ row 0 0 (0x3ff0000000000000 ∷ 0x7e70000000000000 ∷ 0xfe70000000000000 ∷ []) 0x3ff0000000000000 0x00 2 (negsuc 467) 0
-    -- squares of 2^−538 twice and of 2^−600: 2^−1075 + 2^−1200, just above half of the least number; with_rounding to 53 digits first it would be a tie
+    -- squares of 2^−538 twice and of 2^−600: 2^−1075 + 2^−1200, just above half of the least number; rounded to 53 digits first it would be a tie
     ∷ row 0 2 (0x1e50000000000000 ∷ 0x1e50000000000000 ∷ 0x1a70000000000000 ∷ []) 1 0x78 1 (negsuc 1776) 2
     -- −0, 1, −1: a zero in the list has no say where terms cancel
     ∷ row 0 0 (0x8000000000000000 ∷ 0x3ff0000000000000 ∷ 0xbff0000000000000 ∷ []) 0 0x00 1 (negsuc 701) 0
@@ -256,7 +256,7 @@ both_are x n f l = pence_is x n (sum_pence f l) && pence_is x n (chain_pence f l
 
 unfoldable pub sum_pence_examples : Bool
 sum_pence_examples =
-    -- 0.125 and −2^−60, which the sum with_rounding to binary64 does not show; 0.125 alone, which is a tie; both negated
+    -- 0.125 and −2^−60, which the sum rounded to binary64 does not show; 0.125 alone, which is a tie; both negated
     both_are (pos 12) 0 binary64 (0x3fc0000000000000 ∷ 0xbc30000000000000 ∷ [])
     && both_are (pos 13) 0 binary64 (0x3fc0000000000000 ∷ [])
     && both_are (negsuc 11) 0 binary64 (0xbfc0000000000000 ∷ 0x3c30000000000000 ∷ [])
@@ -467,7 +467,7 @@ unfolding
     special sum_rounded reported finite_total without_nan accepted sum_refusal sum_accepted sum_answer
 sum-pence-agree = tt
 
-pub tables_agree : Holds table_examples
+pub tables-agree : Holds table_examples
 unfolding
     table_examples six_cells binary16 with_rounding table_refusal table_answer table_entry written entered
     difference raised valid_format bias lift exponent_range depth origin fall grid rise valid_settings precision_of
@@ -475,7 +475,7 @@ unfolding
     lost_end look_at half wrapped decide sum_of pass run chain size span climb
     dropped rounded_at overflows largest overflow number_of finished tiny_sum round_to round encode leans_of side_of default_nan_of select_all
     special sum_rounded reported finite_total without_nan accepted sum_refusal sum_accepted sum_answer
-tables_agree = tt
+tables-agree = tt
 
 pub biases-agree : Holds biases
 unfolding
