@@ -1,0 +1,5 @@
+use Rattle.further_spec.proofs.Promises.{contribution-entry-refused}
+use Rattle.promises.proofs.contributions.entry_refused.Goals as goal
+
+pub returns : goal.returns
+returns c = contribution-entry-refused

@@ -1,0 +1,5 @@
+use Rattle.further_spec.proofs.Promises.{contribution-entry-refusal}
+use Rattle.promises.proofs.contributions.entry_refused_exactly.Goals as goal
+
+pub returns : goal.returns
+returns c = contribution-entry-refusal

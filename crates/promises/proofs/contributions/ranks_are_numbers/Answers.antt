@@ -1,0 +1,5 @@
+use Rattle.further_spec.proofs.Promises.{rank-number}
+use Rattle.promises.proofs.contributions.ranks_are_numbers.Goals as goal
+
+pub returns : goal.returns
+returns c = rank-number

@@ -1,0 +1,5 @@
+use Rattle.further_spec.proofs.Promises.{rank-order}
+use Rattle.promises.proofs.contributions.ranks_are_ordered.Goals as goal
+
+pub returns : goal.returns
+returns c = rank-order

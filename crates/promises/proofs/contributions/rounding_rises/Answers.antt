@@ -1,0 +1,5 @@
+use Rattle.further_spec.proofs.Promises.{rounding-rises}
+use Rattle.promises.proofs.contributions.rounding_rises.Goals as goal
+
+pub returns : goal.returns
+returns c = rounding-rises

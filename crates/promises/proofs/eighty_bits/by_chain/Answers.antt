@@ -1,0 +1,5 @@
+use Rattle.totals_spec.proofs.Promises.{extended-by-chain}
+use Rattle.promises.proofs.eighty_bits.by_chain.Goals as goal
+
+pub returns : goal.returns
+returns c = extended-by-chain

@@ -1,0 +1,5 @@
+use Rattle.totals_spec.proofs.Promises.{extended-call-order}
+use Rattle.promises.proofs.eighty_bits.call_order.Goals as goal
+
+pub returns : goal.returns
+returns c = extended-call-order

@@ -1,0 +1,5 @@
+use Rattle.totals_spec.proofs.Promises.{extended-call-refused-exactly}
+use Rattle.promises.proofs.eighty_bits.call_refused_exactly.Goals as goal
+
+pub returns : goal.returns
+returns c = extended-call-refused-exactly

@@ -1,0 +1,5 @@
+use Rattle.totals_spec.proofs.Promises.{extended-canonical}
+use Rattle.promises.proofs.eighty_bits.canonical.Goals as goal
+
+pub returns : goal.returns
+returns c = extended-canonical

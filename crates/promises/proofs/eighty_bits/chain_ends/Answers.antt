@@ -1,0 +1,5 @@
+use Rattle.totals_spec.proofs.Promises.{extended-ends}
+use Rattle.promises.proofs.eighty_bits.chain_ends.Goals as goal
+
+pub returns : goal.returns
+returns c = extended-ends

@@ -1,0 +1,5 @@
+use Rattle.totals_spec.proofs.Promises.{extended-back}
+use Rattle.promises.proofs.eighty_bits.encodes_back.Goals as goal
+
+pub returns : goal.returns
+returns c = extended-back

@@ -1,0 +1,5 @@
+use Rattle.totals_spec.proofs.Promises.{extended-exact}
+use Rattle.promises.proofs.eighty_bits.exact.Goals as goal
+
+pub returns : goal.returns
+returns c = extended-exact

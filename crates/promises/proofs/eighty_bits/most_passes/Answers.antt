@@ -1,0 +1,5 @@
+use Rattle.totals_spec.proofs.Promises.{extended-most}
+use Rattle.promises.proofs.eighty_bits.most_passes.Goals as goal
+
+pub returns : goal.returns
+returns c = extended-most

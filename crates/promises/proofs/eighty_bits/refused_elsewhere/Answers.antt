@@ -1,0 +1,5 @@
+use Rattle.totals_spec.proofs.Promises.{extended-elsewhere}
+use Rattle.promises.proofs.eighty_bits.refused_elsewhere.Goals as goal
+
+pub returns : goal.returns
+returns c = extended-elsewhere

@@ -1,0 +1,5 @@
+use Rattle.further_spec.proofs.Promises.{extended-elsewhere}
+use Rattle.promises.proofs.eighty_bits.refused_within.Goals as goal
+
+pub returns : goal.returns
+returns c = extended-elsewhere

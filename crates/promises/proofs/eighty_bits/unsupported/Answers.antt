@@ -1,0 +1,5 @@
+use Rattle.totals_spec.proofs.Promises.{extended-unsupported}
+use Rattle.promises.proofs.eighty_bits.unsupported.Goals as goal
+
+pub returns : goal.returns
+returns c = extended-unsupported

@@ -1,0 +1,5 @@
+use Rattle.totals_spec.proofs.Promises.{tens-values}
+use Rattle.promises.proofs.eighty_bits.values_of_ten_bytes.Goals as goal
+
+pub returns : goal.returns
+returns c = tens-values

@@ -1,0 +1,5 @@
+use Rattle.totals_spec.proofs.Promises.{extended-zeros}
+use Rattle.promises.proofs.eighty_bits.zeros.Goals as goal
+
+pub returns : goal.returns
+returns c = extended-zeros

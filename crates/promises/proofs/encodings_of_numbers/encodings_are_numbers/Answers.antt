@@ -1,0 +1,5 @@
+use Rattle.promises.proofs.Encodings.{encodings-are-numbers}
+use Rattle.promises.proofs.encodings_of_numbers.encodings_are_numbers.Goals as goal
+
+pub returns : goal.returns
+returns c = encodings-are-numbers

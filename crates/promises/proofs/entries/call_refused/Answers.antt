@@ -1,0 +1,5 @@
+use Rattle.totals_spec.proofs.Promises.{call-refused}
+use Rattle.promises.proofs.entries.call_refused.Goals as goal
+
+pub returns : goal.returns
+returns c = call-refused

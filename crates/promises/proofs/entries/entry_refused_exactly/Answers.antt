@@ -1,0 +1,5 @@
+use Rattle.totals_spec.proofs.Promises.{entry-refused-exactly}
+use Rattle.promises.proofs.entries.entry_refused_exactly.Goals as goal
+
+pub returns : goal.returns
+returns c = entry-refused-exactly

@@ -1,0 +1,5 @@
+use Rattle.totals_spec.proofs.Promises.{other-kinds}
+use Rattle.promises.proofs.entries.other_kinds.Goals as goal
+
+pub returns : goal.returns
+returns c = other-kinds

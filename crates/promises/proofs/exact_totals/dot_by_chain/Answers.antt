@@ -1,0 +1,5 @@
+use Rattle.totals_spec.proofs.Promises.{dot-by-chain}
+use Rattle.promises.proofs.exact_totals.dot_by_chain.Goals as goal
+
+pub returns : goal.returns
+returns c = dot-by-chain

@@ -1,0 +1,5 @@
+use Rattle.totals_spec.proofs.Promises.{dot-exact}
+use Rattle.promises.proofs.exact_totals.dot_exact.Goals as goal
+
+pub returns : goal.returns
+returns c = dot-exact

@@ -1,0 +1,5 @@
+use Rattle.further_spec.proofs.Promises.{named-own}
+use Rattle.promises.proofs.exact_totals.naming_the_own_bias_further.Goals as goal
+
+pub returns : goal.returns
+returns c = named-own

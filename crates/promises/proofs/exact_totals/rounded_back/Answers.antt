@@ -1,0 +1,5 @@
+use Rattle.totals_spec.proofs.Promises.{rounded-back}
+use Rattle.promises.proofs.exact_totals.rounded_back.Goals as goal
+
+pub returns : goal.returns
+returns c = rounded-back

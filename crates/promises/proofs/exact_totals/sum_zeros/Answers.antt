@@ -1,0 +1,5 @@
+use Rattle.totals_spec.proofs.Promises.{sum-zeros}
+use Rattle.promises.proofs.exact_totals.sum_zeros.Goals as goal
+
+pub returns : goal.returns
+returns c = sum-zeros

@@ -1,0 +1,5 @@
+use Rattle.totals_spec.proofs.Promises.{biases-agree}
+use Rattle.promises.proofs.examples.biases_agree.Goals as goal
+
+pub returns : goal.returns
+returns c = biases-agree

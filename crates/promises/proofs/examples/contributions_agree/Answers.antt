@@ -1,0 +1,5 @@
+use Rattle.further_spec.proofs.Promises.{contributions-agree}
+use Rattle.promises.proofs.examples.contributions_agree.Goals as goal
+
+pub returns : goal.returns
+returns c = contributions-agree

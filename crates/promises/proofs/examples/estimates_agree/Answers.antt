@@ -1,0 +1,5 @@
+use Rattle.further_spec.proofs.Promises.{estimates-agree}
+use Rattle.promises.proofs.examples.estimates_agree.Goals as goal
+
+pub returns : goal.returns
+returns c = estimates-agree

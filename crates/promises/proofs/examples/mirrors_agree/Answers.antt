@@ -1,0 +1,5 @@
+use Rattle.totals_spec.proofs.Promises.{mirrors-agree}
+use Rattle.promises.proofs.examples.mirrors_agree.Goals as goal
+
+pub returns : goal.returns
+returns c = mirrors-agree

@@ -1,0 +1,5 @@
+use Rattle.totals_spec.proofs.Promises.{ranges-agree}
+use Rattle.promises.proofs.examples.ranges_agree.Goals as goal
+
+pub returns : goal.returns
+returns c = ranges-agree

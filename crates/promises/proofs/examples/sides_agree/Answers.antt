@@ -1,0 +1,5 @@
+use Rattle.totals_spec.proofs.Promises.{sides-agree}
+use Rattle.promises.proofs.examples.sides_agree.Goals as goal
+
+pub returns : goal.returns
+returns c = sides-agree

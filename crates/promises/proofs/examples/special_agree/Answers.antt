@@ -1,0 +1,5 @@
+use Rattle.promises.proofs.SpecialRows.{special-agree}
+use Rattle.promises.proofs.examples.special_agree.Goals as goal
+
+pub returns : goal.returns
+returns c = special-agree

@@ -1,0 +1,5 @@
+use Rattle.promises.proofs.Decodes.{decodes-alike}
+use Rattle.promises.proofs.ieee_model.decodes_alike.Goals as goal
+
+pub returns : goal.returns
+returns c = decodes-alike

@@ -1,0 +1,5 @@
+use Rattle.promises.proofs.Adds.{encodes-alike}
+use Rattle.promises.proofs.ieee_model.encodes_alike.Goals as goal
+
+pub returns : goal.returns
+returns c = encodes-alike

@@ -1,0 +1,5 @@
+use Rattle.promises.proofs.One.{one-alike}
+use Rattle.promises.proofs.ieee_model.one_alike.Goals as goal
+
+pub returns : goal.returns
+returns c = one-alike

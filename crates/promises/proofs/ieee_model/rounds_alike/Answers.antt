@@ -1,0 +1,5 @@
+use Rattle.promises.proofs.Bridge.{rounds-alike}
+use Rattle.promises.proofs.ieee_model.rounds_alike.Goals as goal
+
+pub returns : goal.returns
+returns c = rounds-alike

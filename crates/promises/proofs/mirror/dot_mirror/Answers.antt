@@ -1,0 +1,5 @@
+use Rattle.totals_spec.proofs.Promises.{dot-mirror}
+use Rattle.promises.proofs.mirror.dot_mirror.Goals as goal
+
+pub returns : goal.returns
+returns c = dot-mirror

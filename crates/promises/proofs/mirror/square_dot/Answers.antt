@@ -1,0 +1,5 @@
+use Rattle.totals_spec.proofs.Promises.{square-dot}
+use Rattle.promises.proofs.mirror.square_dot.Goals as goal
+
+pub returns : goal.returns
+returns c = square-dot

@@ -1,0 +1,5 @@
+use Rattle.totals_spec.proofs.Promises.{sum-mirror}
+use Rattle.promises.proofs.mirror.sum_mirror.Goals as goal
+
+pub returns : goal.returns
+returns c = sum-mirror

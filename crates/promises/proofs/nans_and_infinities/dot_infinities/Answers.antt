@@ -1,0 +1,5 @@
+use Rattle.promises.proofs.Special.{dot-infinities}
+use Rattle.promises.proofs.nans_and_infinities.dot_infinities.Goals as goal
+
+pub returns : goal.returns
+returns c = dot-infinities

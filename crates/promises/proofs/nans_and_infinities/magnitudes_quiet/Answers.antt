@@ -1,0 +1,5 @@
+use Rattle.promises.proofs.Special.{magnitudes-quiet}
+use Rattle.promises.proofs.nans_and_infinities.magnitudes_quiet.Goals as goal
+
+pub returns : goal.returns
+returns c = magnitudes-quiet

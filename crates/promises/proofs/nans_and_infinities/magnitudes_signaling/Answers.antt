@@ -1,0 +1,5 @@
+use Rattle.promises.proofs.Special.{magnitudes-signaling}
+use Rattle.promises.proofs.nans_and_infinities.magnitudes_signaling.Goals as goal
+
+pub returns : goal.returns
+returns c = magnitudes-signaling

@@ -1,0 +1,5 @@
+use Rattle.promises.proofs.Selection.{selected-one}
+use Rattle.promises.proofs.nans_and_infinities.selects_one.Goals as goal
+
+pub returns : goal.returns
+returns c = selected-one

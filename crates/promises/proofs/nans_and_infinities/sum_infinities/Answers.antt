@@ -1,0 +1,5 @@
+use Rattle.promises.proofs.Special.{sum-infinities}
+use Rattle.promises.proofs.nans_and_infinities.sum_infinities.Goals as goal
+
+pub returns : goal.returns
+returns c = sum-infinities

@@ -1,0 +1,5 @@
+use Rattle.totals_spec.proofs.Promises.{sum-entry-order}
+use Rattle.promises.proofs.order.sum_entry_order.Goals as goal
+
+pub returns : goal.returns
+returns c = sum-entry-order

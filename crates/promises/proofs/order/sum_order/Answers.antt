@@ -1,0 +1,5 @@
+use Rattle.totals_spec.proofs.Promises.{sum-order}
+use Rattle.promises.proofs.order.sum_order.Goals as goal
+
+pub returns : goal.returns
+returns c = sum-order

@@ -1,0 +1,5 @@
+use Rattle.totals_spec.proofs.Promises.{page-range}
+use Rattle.promises.proofs.pages.counts_in_range.Goals as goal
+
+pub returns : goal.returns
+returns c = page-range

@@ -1,0 +1,5 @@
+use Rattle.totals_spec.proofs.Promises.{page-empty}
+use Rattle.promises.proofs.pages.empty_span.Goals as goal
+
+pub returns : goal.returns
+returns c = page-empty

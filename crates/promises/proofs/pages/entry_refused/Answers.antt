@@ -1,0 +1,5 @@
+use Rattle.totals_spec.proofs.Promises.{page-entry-refused}
+use Rattle.promises.proofs.pages.entry_refused.Goals as goal
+
+pub returns : goal.returns
+returns c = page-entry-refused

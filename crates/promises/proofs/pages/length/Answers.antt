@@ -1,0 +1,5 @@
+use Rattle.totals_spec.proofs.Promises.{page-length}
+use Rattle.promises.proofs.pages.length.Goals as goal
+
+pub returns : goal.returns
+returns c = page-length

@@ -1,0 +1,5 @@
+use Rattle.totals_spec.proofs.Promises.{page-only}
+use Rattle.promises.proofs.pages.opens_only.Goals as goal
+
+pub returns : goal.returns
+returns c = page-only

@@ -1,0 +1,5 @@
+use Rattle.totals_spec.proofs.Promises.{page-summarizes}
+use Rattle.promises.proofs.pages.summarizes.Goals as goal
+
+pub returns : goal.returns
+returns c = page-summarizes

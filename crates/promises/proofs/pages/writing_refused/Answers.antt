@@ -1,0 +1,5 @@
+use Rattle.totals_spec.proofs.Promises.{page-refused}
+use Rattle.promises.proofs.pages.writing_refused.Goals as goal
+
+pub returns : goal.returns
+returns c = page-refused

@@ -1,0 +1,5 @@
+use Rattle.totals_spec.proofs.Promises.{binary64-square-limit}
+use Rattle.promises.proofs.passes.binary64_square_limit.Goals as goal
+
+pub returns : goal.returns
+returns c = binary64-square-limit

@@ -1,0 +1,5 @@
+use Rattle.totals_spec.proofs.Promises.{dot-edges}
+use Rattle.promises.proofs.passes.dot_edges.Goals as goal
+
+pub returns : goal.returns
+returns c = dot-edges

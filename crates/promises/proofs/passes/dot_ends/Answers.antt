@@ -1,0 +1,5 @@
+use Rattle.totals_spec.proofs.Promises.{dot-ends}
+use Rattle.promises.proofs.passes.dot_ends.Goals as goal
+
+pub returns : goal.returns
+returns c = dot-ends

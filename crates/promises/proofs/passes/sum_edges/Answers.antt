@@ -1,0 +1,5 @@
+use Rattle.totals_spec.proofs.Promises.{sum-edges}
+use Rattle.promises.proofs.passes.sum_edges.Goals as goal
+
+pub returns : goal.returns
+returns c = sum-edges

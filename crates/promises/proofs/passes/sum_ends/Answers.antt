@@ -1,0 +1,5 @@
+use Rattle.totals_spec.proofs.Promises.{sum-ends}
+use Rattle.promises.proofs.passes.sum_ends.Goals as goal
+
+pub returns : goal.returns
+returns c = sum-ends

@@ -1,0 +1,5 @@
+use Rattle.totals_spec.proofs.Promises.{sum-limit}
+use Rattle.promises.proofs.passes.sum_limit.Goals as goal
+
+pub returns : goal.returns
+returns c = sum-limit

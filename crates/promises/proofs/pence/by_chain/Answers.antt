@@ -1,0 +1,5 @@
+use Rattle.totals_spec.proofs.Promises.{pence-by-chain}
+use Rattle.promises.proofs.pence.by_chain.Goals as goal
+
+pub returns : goal.returns
+returns c = pence-by-chain

@@ -1,0 +1,5 @@
+use Rattle.totals_spec.proofs.Promises.{pence-entry-refused}
+use Rattle.promises.proofs.pence.entry_refused.Goals as goal
+
+pub returns : goal.returns
+returns c = pence-entry-refused

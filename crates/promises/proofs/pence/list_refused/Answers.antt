@@ -1,0 +1,5 @@
+use Rattle.totals_spec.proofs.Promises.{sum-pence-refused}
+use Rattle.promises.proofs.pence.list_refused.Goals as goal
+
+pub returns : goal.returns
+returns c = sum-pence-refused

@@ -1,0 +1,5 @@
+use Rattle.totals_spec.proofs.Promises.{pence-order}
+use Rattle.promises.proofs.pence.order.Goals as goal
+
+pub returns : goal.returns
+returns c = pence-order

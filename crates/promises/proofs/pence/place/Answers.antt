@@ -1,0 +1,5 @@
+use Rattle.totals_spec.proofs.Promises.{pence-place}
+use Rattle.promises.proofs.pence.place.Goals as goal
+
+pub returns : goal.returns
+returns c = pence-place

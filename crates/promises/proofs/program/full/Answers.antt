@@ -1,0 +1,5 @@
+use Rattle.promises.proofs.Lines.{program-full}
+use Rattle.promises.proofs.program.full.Goals as goal
+
+pub returns : goal.returns
+returns c = program-full

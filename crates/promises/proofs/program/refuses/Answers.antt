@@ -1,0 +1,5 @@
+use Rattle.promises.proofs.Lines.{program-refuses}
+use Rattle.promises.proofs.program.refuses.Goals as goal
+
+pub returns : goal.returns
+returns c = program-refuses

@@ -1,0 +1,5 @@
+use Rattle.totals_spec.proofs.Promises.{range-entry-read-back}
+use Rattle.promises.proofs.ranges.entry_read_back.Goals as goal
+
+pub returns : goal.returns
+returns c = range-entry-read-back

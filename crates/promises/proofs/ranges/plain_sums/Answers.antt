@@ -1,0 +1,5 @@
+use Rattle.totals_spec.proofs.Promises.{range-plain}
+use Rattle.promises.proofs.ranges.plain_sums.Goals as goal
+
+pub returns : goal.returns
+returns c = range-plain

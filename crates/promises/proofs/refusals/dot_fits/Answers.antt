@@ -1,0 +1,5 @@
+use Rattle.totals_spec.proofs.Promises.{dot-fits}
+use Rattle.promises.proofs.refusals.dot_fits.Goals as goal
+
+pub returns : goal.returns
+returns c = dot-fits

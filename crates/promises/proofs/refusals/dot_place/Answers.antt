@@ -1,0 +1,5 @@
+use Rattle.totals_spec.proofs.Promises.{dot-place}
+use Rattle.promises.proofs.refusals.dot_place.Goals as goal
+
+pub returns : goal.returns
+returns c = dot-place

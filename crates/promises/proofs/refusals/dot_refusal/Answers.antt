@@ -1,0 +1,5 @@
+use Rattle.totals_spec.proofs.Promises.{dot-refusal}
+use Rattle.promises.proofs.refusals.dot_refusal.Goals as goal
+
+pub returns : goal.returns
+returns c = dot-refusal

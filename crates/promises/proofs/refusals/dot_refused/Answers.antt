@@ -1,0 +1,5 @@
+use Rattle.totals_spec.proofs.Promises.{dot-refused}
+use Rattle.promises.proofs.refusals.dot_refused.Goals as goal
+
+pub returns : goal.returns
+returns c = dot-refused

@@ -1,0 +1,5 @@
+use Rattle.totals_spec.proofs.Promises.{sum-fits}
+use Rattle.promises.proofs.refusals.sum_fits.Goals as goal
+
+pub returns : goal.returns
+returns c = sum-fits

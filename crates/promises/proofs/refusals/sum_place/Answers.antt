@@ -1,0 +1,5 @@
+use Rattle.totals_spec.proofs.Promises.{sum-place}
+use Rattle.promises.proofs.refusals.sum_place.Goals as goal
+
+pub returns : goal.returns
+returns c = sum-place

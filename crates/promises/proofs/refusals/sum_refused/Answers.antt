@@ -1,0 +1,5 @@
+use Rattle.totals_spec.proofs.Promises.{sum-refused}
+use Rattle.promises.proofs.refusals.sum_refused.Goals as goal
+
+pub returns : goal.returns
+returns c = sum-refused

@@ -1,0 +1,5 @@
+use Rattle.totals_spec.proofs.Promises.{zeros-refused}
+use Rattle.promises.proofs.refusals.zeros_refused.Goals as goal
+
+pub returns : goal.returns
+returns c = zeros-refused

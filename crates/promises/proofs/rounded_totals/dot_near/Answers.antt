@@ -1,0 +1,5 @@
+use Rattle.promises.proofs.Sums.{dot-near}
+use Rattle.promises.proofs.rounded_totals.dot_near.Goals as goal
+
+pub returns : goal.returns
+returns c = dot-near

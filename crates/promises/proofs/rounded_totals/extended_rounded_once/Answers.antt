@@ -1,0 +1,5 @@
+use Rattle.promises.proofs.Sums.{extended-rounded-once}
+use Rattle.promises.proofs.rounded_totals.extended_rounded_once.Goals as goal
+
+pub returns : goal.returns
+returns c = extended-rounded-once

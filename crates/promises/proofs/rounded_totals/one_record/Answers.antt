@@ -1,0 +1,5 @@
+use Rattle.promises.proofs.Sums.{rounded-one}
+use Rattle.promises.proofs.rounded_totals.one_record.Goals as goal
+
+pub returns : goal.returns
+returns c = rounded-one

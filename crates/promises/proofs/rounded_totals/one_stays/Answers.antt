@@ -1,0 +1,5 @@
+use Rattle.promises.proofs.One.{one-stays}
+use Rattle.promises.proofs.rounded_totals.one_stays.Goals as goal
+
+pub returns : goal.returns
+returns c = one-stays

@@ -1,0 +1,5 @@
+use Rattle.promises.proofs.Sums.{sum-cancels}
+use Rattle.promises.proofs.rounded_totals.sum_cancels.Goals as goal
+
+pub returns : goal.returns
+returns c = sum-cancels

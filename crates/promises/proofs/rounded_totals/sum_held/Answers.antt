@@ -1,0 +1,5 @@
+use Rattle.promises.proofs.Sums.{sum-held}
+use Rattle.promises.proofs.rounded_totals.sum_held.Goals as goal
+
+pub returns : goal.returns
+returns c = sum-held

@@ -1,0 +1,5 @@
+use Rattle.promises.proofs.Sums.{sum-rounded-once}
+use Rattle.promises.proofs.rounded_totals.sum_rounded_once.Goals as goal
+
+pub returns : goal.returns
+returns c = sum-rounded-once

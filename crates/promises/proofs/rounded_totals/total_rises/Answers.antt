@@ -1,0 +1,5 @@
+use Rattle.promises.proofs.Raised.{total-rises}
+use Rattle.promises.proofs.rounded_totals.total_rises.Goals as goal
+
+pub returns : goal.returns
+returns c = total-rises

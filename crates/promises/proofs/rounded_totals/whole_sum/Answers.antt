@@ -1,0 +1,5 @@
+use Rattle.promises.proofs.Whole.{whole-sum}
+use Rattle.promises.proofs.rounded_totals.whole_sum.Goals as goal
+
+pub returns : goal.returns
+returns c = whole-sum

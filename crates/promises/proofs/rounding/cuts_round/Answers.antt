@@ -1,0 +1,5 @@
+use Rattle.promises.proofs.Cuts.{cut-rounds}
+use Rattle.promises.proofs.rounding.cuts_round.Goals as goal
+
+pub returns : goal.returns
+returns c = cut-rounds

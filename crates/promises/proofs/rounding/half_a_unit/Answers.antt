@@ -1,0 +1,5 @@
+use Rattle.promises.proofs.Follows.{half-unit}
+use Rattle.promises.proofs.rounding.half_a_unit.Goals as goal
+
+pub returns : goal.returns
+returns c = half-unit

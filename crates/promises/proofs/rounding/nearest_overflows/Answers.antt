@@ -1,0 +1,5 @@
+use Rattle.promises.proofs.Threshold.{nearest-overflows}
+use Rattle.promises.proofs.rounding.nearest_overflows.Goals as goal
+
+pub returns : goal.returns
+returns c = nearest-overflows

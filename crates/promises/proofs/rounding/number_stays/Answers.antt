@@ -1,0 +1,5 @@
+use Rattle.promises.proofs.Follows.{number-stays}
+use Rattle.promises.proofs.rounding.number_stays.Goals as goal
+
+pub returns : goal.returns
+returns c = number-stays

@@ -1,0 +1,5 @@
+use Rattle.promises.proofs.Pins.{once-pins}
+use Rattle.promises.proofs.rounding.one_answer.Goals as goal
+
+pub returns : goal.returns
+returns c = once-pins

@@ -1,0 +1,5 @@
+use Rattle.promises.proofs.Follows.{rises}
+use Rattle.promises.proofs.rounding.rises.Goals as goal
+
+pub returns : goal.returns
+returns c = rises

@@ -1,0 +1,5 @@
+use Rattle.promises.proofs.Rounds.{round-once}
+use Rattle.promises.proofs.rounding.rounds_once.Goals as goal
+
+pub returns : goal.returns
+returns c = round-once

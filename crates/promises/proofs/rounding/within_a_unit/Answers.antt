@@ -1,0 +1,5 @@
+use Rattle.promises.proofs.Follows.{within-unit}
+use Rattle.promises.proofs.rounding.within_a_unit.Goals as goal
+
+pub returns : goal.returns
+returns c = within-unit

@@ -1,0 +1,5 @@
+use Rattle.promises.proofs.Sums.{zero-only}
+use Rattle.promises.proofs.rounding.zero_only.Goals as goal
+
+pub returns : goal.returns
+returns c = zero-only

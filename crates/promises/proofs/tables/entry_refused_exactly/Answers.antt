@@ -1,0 +1,5 @@
+use Rattle.totals_spec.proofs.Promises.{table-entry-refused-exactly}
+use Rattle.promises.proofs.tables.entry_refused_exactly.Goals as goal
+
+pub returns : goal.returns
+returns c = table-entry-refused-exactly

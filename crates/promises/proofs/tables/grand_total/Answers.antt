@@ -1,0 +1,5 @@
+use Rattle.totals_spec.proofs.Promises.{table-grand}
+use Rattle.promises.proofs.tables.grand_total.Goals as goal
+
+pub returns : goal.returns
+returns c = table-grand

@@ -1,0 +1,5 @@
+use Rattle.further_spec.proofs.Promises.{target-by-chain}
+use Rattle.promises.proofs.targets.by_chain.Goals as goal
+
+pub returns : goal.returns
+returns c = target-by-chain

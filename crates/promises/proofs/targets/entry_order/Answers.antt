@@ -1,0 +1,5 @@
+use Rattle.further_spec.proofs.Promises.{target-entry-order}
+use Rattle.promises.proofs.targets.entry_order.Goals as goal
+
+pub returns : goal.returns
+returns c = target-entry-order

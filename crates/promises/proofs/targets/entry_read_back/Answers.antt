@@ -1,0 +1,5 @@
+use Rattle.further_spec.proofs.Promises.{target-entry-read-back}
+use Rattle.promises.proofs.targets.entry_read_back.Goals as goal
+
+pub returns : goal.returns
+returns c = target-entry-read-back

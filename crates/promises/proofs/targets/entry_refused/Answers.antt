@@ -1,0 +1,5 @@
+use Rattle.further_spec.proofs.Promises.{target-entry-refused}
+use Rattle.promises.proofs.targets.entry_refused.Goals as goal
+
+pub returns : goal.returns
+returns c = target-entry-refused

@@ -1,0 +1,5 @@
+use Rattle.further_spec.proofs.Promises.{target-passes}
+use Rattle.promises.proofs.targets.one_run.Goals as goal
+
+pub returns : goal.returns
+returns c = target-passes

@@ -1,0 +1,5 @@
+use Rattle.further_spec.proofs.Promises.{target-reading}
+use Rattle.promises.proofs.targets.reading_is_the_lists.Goals as goal
+
+pub returns : goal.returns
+returns c = target-reading

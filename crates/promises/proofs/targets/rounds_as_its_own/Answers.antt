@@ -1,0 +1,5 @@
+use Rattle.further_spec.proofs.Promises.{target-means}
+use Rattle.promises.proofs.targets.rounds_as_its_own.Goals as goal
+
+pub returns : goal.returns
+returns c = target-means

@@ -1,0 +1,5 @@
+use Rattle.further_spec.proofs.Promises.{target-rounds}
+use Rattle.promises.proofs.targets.rounds_once.Goals as goal
+
+pub returns : goal.returns
+returns c = target-rounds

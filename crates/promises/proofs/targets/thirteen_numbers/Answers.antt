@@ -1,0 +1,5 @@
+use Rattle.promises.proofs.TargetNumbers.{target-numbers}
+use Rattle.promises.proofs.targets.thirteen_numbers.Goals as goal
+
+pub returns : goal.returns
+returns c = target-numbers

@@ -1,0 +1,5 @@
+use Rattle.further_spec.proofs.Promises.{within-entry-read-back}
+use Rattle.promises.proofs.within.entry_read_back.Goals as goal
+
+pub returns : goal.returns
+returns c = within-entry-read-back

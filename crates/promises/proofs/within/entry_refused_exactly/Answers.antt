@@ -1,0 +1,5 @@
+use Rattle.further_spec.proofs.Promises.{within-entry-refusal}
+use Rattle.promises.proofs.within.entry_refused_exactly.Goals as goal
+
+pub returns : goal.returns
+returns c = within-entry-refusal

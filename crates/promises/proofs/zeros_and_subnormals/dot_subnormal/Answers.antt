@@ -1,0 +1,5 @@
+use Rattle.promises.proofs.Subnormals.{dot-subnormal}
+use Rattle.promises.proofs.zeros_and_subnormals.dot_subnormal.Goals as goal
+
+pub returns : goal.returns
+returns c = dot-subnormal

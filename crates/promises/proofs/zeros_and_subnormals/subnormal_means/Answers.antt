@@ -1,0 +1,5 @@
+use Rattle.promises.proofs.Subnormals.{subnormal-means}
+use Rattle.promises.proofs.zeros_and_subnormals.subnormal_means.Goals as goal
+
+pub returns : goal.returns
+returns c = subnormal-means

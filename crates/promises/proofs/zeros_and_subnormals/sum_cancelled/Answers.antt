@@ -1,0 +1,5 @@
+use Rattle.promises.proofs.OnlyZeros.{sum-cancelled}
+use Rattle.promises.proofs.zeros_and_subnormals.sum_cancelled.Goals as goal
+
+pub returns : goal.returns
+returns c = sum-cancelled

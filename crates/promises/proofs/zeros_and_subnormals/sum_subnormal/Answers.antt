@@ -1,0 +1,5 @@
+use Rattle.promises.proofs.Subnormals.{sum-subnormal}
+use Rattle.promises.proofs.zeros_and_subnormals.sum_subnormal.Goals as goal
+
+pub returns : goal.returns
+returns c = sum-subnormal

@@ -1,0 +1,5 @@
+use Rattle.promises.proofs.OnlyZeros.{zero-bits}
+use Rattle.promises.proofs.zeros_and_subnormals.zero_bits.Goals as goal
+
+pub returns : goal.returns
+returns c = zero-bits
