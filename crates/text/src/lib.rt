@@ -1,6 +1,7 @@
 // What the program `total` writes for what it reads (document 01), both as bytes.
 #![tactic(auto)]
 
+pub mod decided;
 mod read;
 pub mod write;
 
