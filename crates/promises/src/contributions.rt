@@ -2,8 +2,8 @@
 
 ghost use Rattle.further_spec.specs.Promises as law;
 
-/// Of two sums the larger rounds to what is as large, in every mode, at every precision and past
-/// the largest number.
+/// In an Ieee format without flush-to-zero the larger of two sums rounds to what is as large, in
+/// every mode, at every precision and past the largest number.
 pub fn rounding_rises()
     ensures { law.Rounding-rises }
 {}

@@ -17,12 +17,12 @@ pub fn encodes_alike()
     ensures { law.Encodes-alike }
 {}
 
-/// The total of two numbers is what `+` of an `f32` or an `f64` gives, bit for bit.
+/// The total of two finite numbers is what `+` of an `f32` or an `f64` gives, bit for bit.
 pub fn adds_alike()
     ensures { law.Adds-alike }
 {}
 
-/// The total of one number is that number, bit for bit.
+/// The total of one finite number is that number, bit for bit.
 pub fn one_alike()
     ensures { law.One-alike }
 {}

@@ -2,8 +2,8 @@
 
 ghost use Rattle.totals_spec.specs.Promises as law;
 
-/// A page that is written with room opens, holds the values that were written, and stands in front
-/// of the destination, at the length that is answered.
+/// With room, and at most 268,435,456 values, writing answers the page's length and leaves the page
+/// in front of the destination; it opens, and holds what was written.
 pub fn written_opens()
     ensures { law.Page-opens }
 {}

@@ -41,7 +41,7 @@ pub fn sum_place()
 {}
 
 /// The place in the record of a dot is 0 but at number 7, and there it is the index of the first
-/// stray bit, looked for in the left list first.
+/// element that has a stray bit, of the right list only where the left has none.
 pub fn dot_place()
     ensures { law.Dot-place }
 {}

@@ -29,24 +29,25 @@ pub fn one_record()
     ensures { law.Rounded-one }
 {}
 
-/// A sum is the exact sum itself, where that is a number of the format.
+/// A sum is the exact sum itself, where that is a number of the format and is not flushed to zero.
 pub fn sum_held()
     ensures { law.Sum-held }
 {}
 
-/// A dot is the exact sum of its products itself, where that is a number of the format.
+/// A dot is the exact sum of its products itself, where that is a number of the format and is not
+/// flushed to zero.
 pub fn dot_held()
     ensures { law.Dot-held }
 {}
 
-/// A sum within the format's range is off by less than a unit in the last place, to nearest by at
-/// most half of one.
+/// A sum within the format's range that is not flushed is off by less than a unit in the last
+/// place, to nearest by at most half of one.
 pub fn sum_near()
     ensures { law.Sum-near }
 {}
 
-/// A dot within the format's range is off by less than a unit in the last place, to nearest by at
-/// most half of one.
+/// A dot within the format's range that is not flushed is off by less than a unit in the last
+/// place, to nearest by at most half of one.
 pub fn dot_near()
     ensures { law.Dot-near }
 {}
@@ -56,18 +57,20 @@ pub fn sum_cancels()
     ensures { law.Sum-cancels }
 {}
 
-/// The total of one element is that element.
+/// At full precision, without flush-to-zero and denormals-are-zero, the total of one element is
+/// that element, bit for bit.
 pub fn one_stays()
     ensures { amount.One-stays }
 {}
 
-/// Raising an amount never lowers the total.
+/// In an Ieee format without flush-to-zero and denormals-are-zero raising an amount never lowers
+/// the total.
 pub fn total_rises()
     ensures { amount.Total-rises }
 {}
 
-/// Whole numbers of pence in doubles have their sum as their total, to the last digit, with no
-/// flag, in every mode.
+/// Whole numbers in doubles whose sum stays below 2^53, as pence do, have it as their total, to the
+/// last digit, with no flag, in every mode.
 pub fn whole_sum()
     ensures { whole.Whole-sum }
 {}

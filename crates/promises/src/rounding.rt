@@ -51,12 +51,13 @@ pub fn rises()
     ensures { law.Rises }
 {}
 
-/// A sum that the format holds comes as it is.
+/// A sum that the format holds comes as it is, unless it is flushed to zero.
 pub fn held_exactly()
     ensures { law.Held-exactly }
 {}
 
-/// A total that does not overflow is off by less than a unit, to nearest by at most half of one.
+/// A rounding that neither overflows nor is flushed is off by less than a unit in the last place,
+/// to nearest by at most half of one.
 pub fn near()
     ensures { law.Once-near }
 {}

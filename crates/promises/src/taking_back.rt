@@ -106,7 +106,7 @@ pub fn bytes_in_either_order()
     ensures { taken.Taken-bytes-order }
 {}
 
-/// A value anywhere in the list is taken back, and what is left finishes as its plain sum.
+/// Values anywhere in the list are taken back, and what is left finishes as its plain sum.
 pub fn sum_of_what_is_left()
     ensures { taken.Taken-sum }
 {}
@@ -122,8 +122,8 @@ pub fn extended_total_of_what_is_left()
     ensures { taken.Taken-extended }
 {}
 
-/// A value that is taken back and another that is fed leave what a list with the one in the place
-/// of the other leaves.
+/// Where values are taken back and others are fed, the buffer keeps what is left with the new ones
+/// behind it.
 pub fn replaced()
     ensures { taken.Replaced }
 {}
