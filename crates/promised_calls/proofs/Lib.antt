@@ -1,0 +1,10 @@
+-- What follows for a call, once its record is that of the definition.
+mod Calls
+mod Entered
+mod Exacts
+mod Figures
+mod Allowed
+mod Reached
+mod Enclosed
+mod Aimed
+mod Tabled

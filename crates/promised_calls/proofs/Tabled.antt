@@ -1,0 +1,38 @@
+-- The totals of a table that are those of the definition.
+use Rattle.std.proofs.Common.{◌≡◌, ℕ, List, sym, ap, ◌∙◌, subst}
+use Rattle.totals_spec.specs.Format.{Format}
+use Rattle.totals_spec.specs.Settings.{Settings}
+use Rattle.totals_spec.specs.Conditions.{table_conditions}
+use Rattle.totals_spec.specs.Places.{StrayAt}
+use Rattle.totals_spec.specs.Table.{table_answer, table_refusal}
+use Rattle.totals_spec.specs.Totals.{Answer, refused}
+use Rattle.totals_spec.proofs.Promises.{table-refused-exactly, table-refused, table-place}
+use Rattle.totals_spec.proofs.Table.{table-number}
+use Rattle.totals.specs.Tables.{Tables}
+use Rattle.promised_calls.specs.Refusals.{RefusesExactly, TellsNothingElse, PlacedAt, WritesNothing}
+
+module _ (f : Format) (c : Settings) (rows columns : ℕ) (cells old other : List ℕ) (a : Answer) (new new' : List ℕ)
+    (is : Tables (table_answer f c rows columns cells old other) a new new') where
+  number : a.refusal ≡ table_refusal f c rows columns cells old other
+  number = ap (λ (x : Answer). x.refusal) is.grand-is ∙ table-number f c rows columns cells old other
+
+  pub exactly : RefusesExactly (table_conditions f c rows columns cells old other) a.refusal
+  exactly =
+      subst (λ (x : Answer). RefusesExactly (table_conditions f c rows columns cells old other) x.refusal) (sym is.grand-is)
+      (table-refused-exactly f c rows columns cells old other)
+
+  pub nothing-else : TellsNothingElse a
+  nothing-else h =
+      is.grand-is
+      ∙ ((table-refused f c rows columns cells old other (λ e. h (number ∙ e))).0
+      ∙ (λ i. refused (sym number i) (sym (ap (λ (x : Answer). x.place) is.grand-is) i)))
+
+  pub placed : PlacedAt (StrayAt f cells) a.refusal a.place
+  placed =
+      subst (λ (x : Answer). PlacedAt (StrayAt f cells) x.refusal x.place) (sym is.grand-is) (table-place f c rows columns cells old other)
+
+  pub rows-kept : WritesNothing a.refusal old new
+  rows-kept h = is.rows_are ∙ (table-refused f c rows columns cells old other (λ e. h (number ∙ e))).1
+
+  pub columns-kept : WritesNothing a.refusal other new'
+  columns-kept h = is.columns-are ∙ (table-refused f c rows columns cells old other (λ e. h (number ∙ e))).2

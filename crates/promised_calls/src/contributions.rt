@@ -1,0 +1,90 @@
+// The contribution that reaches a wanted total: when it is refused, and that the order of the list
+// does not matter.
+ghost use Rattle.std.specs.Prelude.{◌≡◌, ◌≢◌, [], ◌∷◌, ◌++◌, ◌%◌};
+ghost use Rattle.totals_spec.specs.Places.{StrayAt};
+ghost use Rattle.totals_spec.specs.Words.{format_by};
+ghost use Rattle.further_spec.specs.Conditions.{contribution_conditions};
+ghost use Rattle.further_spec.specs.Conditions.{contribution_entry_conditions};
+ghost use Rattle.further_spec.specs.Contribution as spec;
+ghost use Rattle.format.specs.Joined.{format_of, settings_of};
+ghost use Rattle.totals.specs.Contributions.{contribution_of};
+ghost use Rattle.totals.specs.Entered.{Enters};
+ghost use Rattle.promised_calls.specs.Order.{Rearranged};
+ghost use Rattle.promised_calls.specs.Refusals.{RefusesExactly, PlacedAt, WritesNothing};
+
+use format::Format;
+use format::env::Settings;
+use totals::contribution::{Contribution, contribution_to};
+use totals::entry_contribution::totals_contribution;
+
+/// The contribution that reaches a wanted total, or its refusal. The wanted total stands behind the
+/// list, where a stray bit has its place.
+pub fn contribution_or_refusal(f: Format, c: Settings, values: &[u64], wanted: u64) -> Contribution
+    ensures is { contribution_of result ≡ spec.contribution (format_of f) (settings_of c) values.now wanted }
+    ensures exactly { RefusesExactly (contribution_conditions (format_of f) (settings_of c) values.now wanted)
+        result.refusal }
+    ensures nothing_else { result.refusal ≢ 0 → result.number ≡ 0 }
+    ensures place { PlacedAt (StrayAt (format_of f) (values.now ++ (wanted ∷ []))) result.refusal result.place }
+{
+    contribution_to(f, c, values, wanted)
+}
+
+/// The exported contribution, or its refusal: 2 and a misnamed bias before the others.
+pub fn contribution_entry_or_refusal(
+    kind: u64,
+    exponent_bits: u64,
+    width: u64,
+    bias_named: u64,
+    bias: i64,
+    c: Settings,
+    wanted: u64,
+    values: &[u64],
+    answer: &mut [u8],
+) -> u64
+    ensures is { Enters
+        (spec.contribution_entry kind exponent_bits width bias_named bias (settings_of c) wanted
+        values.now answer.old) result answer.new }
+    ensures exactly { RefusesExactly
+        (contribution_entry_conditions bias_named bias answer.old
+        (contribution_conditions (format_by kind exponent_bits width bias_named bias)
+        (settings_of c) values.now wanted)) (result % 256) }
+    ensures nothing_written { WritesNothing result answer.old answer.new }
+{
+    totals_contribution(
+        kind,
+        exponent_bits,
+        width,
+        bias_named,
+        bias,
+        c.rounding,
+        c.tininess,
+        c.nan_propagation,
+        c.default_nan_negative,
+        c.flush_to_zero,
+        c.denormals_are_zero,
+        c.saturate,
+        c.precision,
+        wanted,
+        values,
+        answer,
+    )
+}
+
+/// The contributions to a list and to a rearrangement of it are one record; only the place of a
+/// stray bit can be another.
+pub fn contributions_to_both(
+    f: Format,
+    c: Settings,
+    one: &[u64],
+    other: &[u64],
+    wanted: u64,
+) -> (Contribution, Contribution)
+    ensures first { contribution_of result.0 ≡ spec.contribution (format_of f) (settings_of c) one.now wanted }
+    ensures second { contribution_of result.1 ≡ spec.contribution (format_of f) (settings_of c) other.now wanted }
+    ensures alike { Rearranged one.now other.now
+        → (result.0.refusal ≡ result.1.refusal) × (result.0.refusal ≢ 7 → result.0 ≡ result.1) }
+{
+    let first = contribution_to(f, c, one, wanted);
+    let second = contribution_to(f, c, other, wanted);
+    (first, second)
+}

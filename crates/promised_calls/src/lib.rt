@@ -1,0 +1,16 @@
+// The three promises on calls: each function here calls the library, and its contract says of the
+// call, or of two calls, what is promised of every one.
+#![tactic(auto)]
+
+pub mod contributions;
+pub mod entries;
+pub mod order;
+pub mod pages;
+pub mod passes;
+pub mod pence;
+pub mod ranges;
+pub mod refusals;
+pub mod rounded;
+pub mod tables;
+pub mod targets;
+pub mod within;

@@ -1,0 +1,68 @@
+// The pence of an encoding and of a list: when they are refused, and that the order does not
+// matter.
+ghost use Rattle.std.specs.Prelude.{◌≡◌, ◌≢◌, [], ◌∷◌, ◌%◌, pos};
+ghost use Rattle.totals_spec.specs.Conditions as when;
+ghost use Rattle.totals_spec.specs.Pence as spec;
+ghost use Rattle.totals_spec.specs.Places.{StrayAt};
+ghost use Rattle.totals_spec.specs.Words.{format_by, pence_entry};
+ghost use Rattle.format.specs.Joined.{format_of};
+ghost use Rattle.totals.specs.Entered.{EntersFigure};
+ghost use Rattle.totals.specs.PenceRecord.{pence_record};
+ghost use Rattle.promised_calls.specs.Order.{Rearranged};
+ghost use Rattle.promised_calls.specs.Refusals.{RefusesExactly, PlacedAt, WritesNothing};
+
+use format::Format;
+use totals::entry::totals_pence;
+use totals::pence::{Pence, pence_of, pence_of_sum};
+
+/// The pence of the exact sum of a list, or their refusal, with a figure of 0.
+pub fn pence_or_refusal(f: Format, values: &[u64]) -> Pence
+    ensures is { pence_record result ≡ spec.sum_pence (format_of f) values.now }
+    ensures exactly { RefusesExactly (when.sum_pence_conditions (format_of f) values.now) result.refusal }
+    ensures nothing_else { result.refusal ≢ 0 → result.figure ≡ pos 0 }
+    ensures place { PlacedAt (StrayAt (format_of f) values.now) result.refusal result.place }
+{
+    pence_of_sum(f, values)
+}
+
+/// The pence of one encoding, or their refusal.
+pub fn one_pence_or_refusal(f: Format, b: u64) -> Pence
+    ensures is { pence_record result ≡ spec.pence_answer (format_of f) b }
+    ensures exactly { RefusesExactly (when.pence_conditions (format_of f) b) result.refusal }
+    ensures nothing_else { result.refusal ≢ 0 → result.figure ≡ pos 0 }
+    ensures place { PlacedAt (StrayAt (format_of f) (b ∷ [])) result.refusal result.place }
+{
+    pence_of(f, b)
+}
+
+/// The exported pence of a list, or their refusal: a bias that is misnamed comes first.
+pub fn pence_entry_or_refusal(
+    kind: u64,
+    exponent_bits: u64,
+    width: u64,
+    bias_named: u64,
+    bias: i64,
+    values: &[u64],
+    figure: &mut i64,
+) -> u64
+    ensures is { EntersFigure (pence_entry kind exponent_bits width bias_named bias values.now figure.old)
+        result figure.new }
+    ensures exactly { RefusesExactly
+        (when.pence_entry_conditions bias_named bias
+        (format_by kind exponent_bits width bias_named bias) values.now) (result % 256) }
+    ensures nothing_written { WritesNothing result figure.old figure.new }
+{
+    totals_pence(kind, exponent_bits, width, bias_named, bias, values, figure)
+}
+
+/// The pence of a list and of a rearrangement of it are one record; only the place of a stray bit
+/// can be another.
+pub fn pence_of_both(f: Format, one: &[u64], other: &[u64]) -> (Pence, Pence)
+    ensures first { pence_record result.0 ≡ spec.sum_pence (format_of f) one.now }
+    ensures second { pence_record result.1 ≡ spec.sum_pence (format_of f) other.now }
+    ensures alike { Rearranged one.now other.now → result.0.refusal ≢ 7 → result.0 ≡ result.1 }
+{
+    let first = pence_of_sum(f, one);
+    let second = pence_of_sum(f, other);
+    (first, second)
+}
