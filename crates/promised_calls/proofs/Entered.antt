@@ -9,12 +9,14 @@ use borrow.Author.Tests.{eq-eqb, eqb-true, eqb-false, ltb-false, le-ltb}
 use Rattle.totals_spec.specs.Format.{Format}
 use Rattle.totals_spec.specs.Settings.{Settings}
 use Rattle.totals_spec.specs.Places.{StrayAt, DotStrayAt}
-use Rattle.totals_spec.specs.Totals.{Answer, sum_answer, dot_answer}
+use Rattle.totals_spec.specs.Totals.{Answer, sum_refusal, sum_answer, dot_refusal, dot_answer}
 use Rattle.totals_spec.specs.Bytes.{Entry, values_in, uneven, short, written, entered, sum_entry, dot_entry}
 use Rattle.totals_spec.specs.Extended.{is_extended, tens_in, extended_written, extended_entered, uneven_tens, short32}
 use Rattle.totals_spec.specs.Extended.{extended_sum_entry, extended_dot_entry, extended_sum_answer, extended_dot_answer, sum_call, dot_call}
 use Rattle.totals_spec.proofs.Refused.{by_tests, sum-small, dot-small}
 use Rattle.totals_spec.proofs.Promises.{sum-refusal, dot-refusal, sum-order, dot-order, sum-place, dot-place}
+use Rattle.totals_spec.specs.Extended.{extended_sum_refusal, extended_dot_refusal}
+use Rattle.totals_spec.proofs.ExtendedCalls.{sum-extended, dot-extended}
 use Rattle.totals_spec.proofs.Extended.{extended-sum-refusal, extended-dot-refusal, extended-order}
 use Rattle.totals_spec.proofs.Promises.{other-kinds, call-refused, entry-refused-exactly, extended-call-refused-exactly}
 use Rattle.totals_spec.specs.Conditions.{Uneven, UnevenTens, sum_conditions, dot_conditions, entry_conditions}
@@ -22,7 +24,7 @@ use Rattle.totals_spec.specs.Conditions.{extended_sum_conditions, extended_dot_c
 use Rattle.totals.specs.Entered.{Enters}
 use Rattle.promised_calls.specs.Order.{Rearranged, PairsRearranged}
 use Rattle.promised_calls.specs.Entries.{values_by, value_size, answer_size, nan_by, pair_nan_by}
-use Rattle.promised_calls.specs.Entries.{values_of, Whole, HasRoom, WithoutNan, PairsWithoutNan, SameAnswer, Keeps}
+use Rattle.promised_calls.specs.Entries.{values_of, Whole, HasRoom, NoNanDecides, NoNanDecidesPairs, SameAnswer, Keeps}
 use Rattle.promised_calls.specs.Refusals.{RefusesExactly, PlacedAt, WritesNothing}
 
 -- ---- an entry by its two tests and the record's: what is written where all three pass
@@ -36,6 +38,14 @@ two P false true d a' b' d' n n' old old' new new' z ea eb h e = absurd (suc-ne-
 two P false false false a' b' d' n n' old old' new new' (inl z) ea eb h e = absurd (z e)
 two P false false false a' b' d' n n' old old' new new' (inr z) ea eb h e = absurd (true≢false (sym z))
 two P false false true a' b' d' n n' old old' new new' z ea eb h e = let g = h refl refl refl in rw (ea, eb, g.0) (refl, g.1)
+
+-- an entry that returns 0 has passed all three tests
+all-passed : (a b d : Bool) (n : ℕ) (old new : List ℕ) → n ≢ 0 ⊎ d ≡ true → (by_tests a b d n old new).code ≡ 0 → d ≡ true
+all-passed true b d n old new z e = absurd (suc-ne-zero 0 e)
+all-passed false true d n old new z e = absurd (suc-ne-zero 1 e)
+all-passed false false true n old new z e = refl
+all-passed false false false n old new (inl z) e = absurd (z e)
+all-passed false false false n old new (inr z) e = z
 
 -- what holds of the buffer as it was, and of what is written into one with room, holds afterwards
 after : (P : List ℕ → Type 0) (a b d : Bool) (n : ℕ) (old new : List ℕ) → P old → (b ≡ false → P new) → P (by_tests a b d n old new).buffer
@@ -206,7 +216,7 @@ module _ (f : Format) (c : Settings) where
 
 module _ (f : Format) (c : Settings) (u : ℕ) (bytes old : List ℕ) (number : ℕ) (new : List ℕ) (is : Enters (sum_call f c u bytes old) number new) where
   pub sum-alike : (other again : List ℕ) (number' : ℕ) (new' : List ℕ) → Enters (sum_call f c u other again) number' new'
-      → Rearranged (values_of f bytes) (values_of f other) → WithoutNan f (values_of f bytes) → Whole f other → HasRoom f again
+      → Rearranged (values_of f bytes) (values_of f other) → NoNanDecides f (values_of f bytes) → Whole f other → HasRoom f again
       → number ≡ 0 → (number' ≡ 0) × SameAnswer f new new'
   unfolding sum_call
   sum-alike other again number' new' is' h k w z e =
@@ -230,9 +240,27 @@ module _ (f : Format) (c : Settings) (u : ℕ) (bytes old : List ℕ) (number : 
   pub sum-writes-nothing : WritesNothing number old new
   sum-writes-nothing h = is.buffer-is ∙ call-refused.0 f c u bytes old (λ e. h (is.code_is ∙ e))
 
+  pub sum-zero : f.kind ≢ 4 → number ≡ 0 → sum_refusal f c u (values_in bytes) ≡ 0
+  unfolding sum_entry entered
+  sum-zero h e =
+      let r = sum_answer f c u (values_in bytes) in
+      sym (sum-refusal f c u (values_in bytes))
+      ∙ eqb-true r.refusal 0
+      (all-passed (uneven bytes) (short old) (eqb r.refusal 0) (r.refusal + 256 * r.place) old (written r old) (told r)
+      (sym (is.code_is ∙ ap (λ (x : Entry). x.code) ((other-kinds f c h).0 u bytes old)) ∙ e))
+
+  pub sum-zero-tens : f.kind ≡ 4 → number ≡ 0 → extended_sum_refusal f c u (tens_in bytes) ≡ 0
+  unfolding extended_sum_entry extended_entered
+  sum-zero-tens h e =
+      let r = extended_sum_answer f c u (tens_in bytes) in
+      sym (extended-sum-refusal f c u (tens_in bytes))
+      ∙ eqb-true r.refusal 0
+      (all-passed (uneven_tens bytes) (short32 old) (eqb r.refusal 0) r.refusal old (extended_written r old) (extended-told r.refusal)
+      (sym (is.code_is ∙ ap (λ (x : Entry). x.code) (sum-extended f h c u bytes old)) ∙ e))
+
 module _ (f : Format) (c : Settings) (l r old : List ℕ) (number : ℕ) (new : List ℕ) (is : Enters (dot_call f c l r old) number new) where
   pub dot-alike : (l' r' again : List ℕ) (number' : ℕ) (new' : List ℕ) → Enters (dot_call f c l' r' again) number' new'
-      → PairsRearranged (values_of f l) (values_of f r) (values_of f l') (values_of f r') → PairsWithoutNan f (values_of f l) (values_of f r)
+      → PairsRearranged (values_of f l) (values_of f r) (values_of f l') (values_of f r') → NoNanDecidesPairs f (values_of f l) (values_of f r)
       → Whole f l' → Whole f r' → HasRoom f again → number ≡ 0 → (number' ≡ 0) × SameAnswer f new new'
   unfolding dot_call
   dot-alike l' r' again number' new' is' h k w w' z e =
@@ -256,3 +284,21 @@ module _ (f : Format) (c : Settings) (l r old : List ℕ) (number : ℕ) (new : 
 
   pub dot-writes-nothing : WritesNothing number old new
   dot-writes-nothing h = is.buffer-is ∙ call-refused.1 f c l r old (λ e. h (is.code_is ∙ e))
+
+  pub dot-zero : f.kind ≢ 4 → number ≡ 0 → dot_refusal f c (values_in l) (values_in r) ≡ 0
+  unfolding dot_entry entered
+  dot-zero h e =
+      let a = dot_answer f c (values_in l) (values_in r) in
+      sym (dot-refusal f c (values_in l) (values_in r))
+      ∙ eqb-true a.refusal 0
+      (all-passed (uneven l || uneven r) (short old) (eqb a.refusal 0) (a.refusal + 256 * a.place) old (written a old) (told a)
+      (sym (is.code_is ∙ ap (λ (x : Entry). x.code) ((other-kinds f c h).1 l r old)) ∙ e))
+
+  pub dot-zero-tens : f.kind ≡ 4 → number ≡ 0 → extended_dot_refusal f c (tens_in l) (tens_in r) ≡ 0
+  unfolding extended_dot_entry extended_entered
+  dot-zero-tens h e =
+      let a = extended_dot_answer f c (tens_in l) (tens_in r) in
+      sym (extended-dot-refusal f c (tens_in l) (tens_in r))
+      ∙ eqb-true a.refusal 0
+      (all-passed (uneven_tens l || uneven_tens r) (short32 old) (eqb a.refusal 0) a.refusal old (extended_written a old)
+      (extended-told a.refusal) (sym (is.code_is ∙ ap (λ (x : Entry). x.code) (dot-extended f h c l r old)) ∙ e))

@@ -29,6 +29,19 @@ exact-is square f c l = ap (on_grid f true) (sym (exact-sum-means.2 f c l))
 exact-dot-is : (f : Format) (c : Settings) (xs ys : List ℕ) → exact_dot f c xs ys ≡ on_grid f true (exact_sum (dot_terms f c xs ys))
 exact-dot-is f c xs ys = ap (on_grid f true) (sym (exact-sum-means.3 f c xs ys))
 
+pub sum-rounded : (f : Format) (c : Settings) (u : ℕ) (l : List ℕ) → spec.sum_refusal f c u l ≡ 0 → AllFinite f l → 0 < (exact f c u l).mag
+    → RoundedOnce f c (grid_for f u) (some_subnormal f l) (exact f c u l) (sum_answer f c u l)
+sum-rounded f c u l r h =
+    subst (λ (y : Signed). 0 < y.mag → RoundedOnce f c (grid_for f u) (some_subnormal f l) y (sum_answer f c u l))
+    (sym (exact-is (summand_of u) f c l)) (sum-rounded-once f c u l r h)
+
+pub dot-rounded : (f : Format) (c : Settings) (xs ys : List ℕ) → spec.dot_refusal f c xs ys ≡ 0 → AllFinite f xs → AllFinite f ys
+    → 0 < (exact_dot f c xs ys).mag
+    → RoundedOnce f c (grid f true) (some_subnormal f xs || some_subnormal f ys) (exact_dot f c xs ys) (dot_answer f c xs ys)
+dot-rounded f c xs ys r h k =
+    subst (λ (y : Signed). 0 < y.mag → RoundedOnce f c (grid f true) (some_subnormal f xs || some_subnormal f ys) y (dot_answer f c xs ys))
+    (sym (exact-dot-is f c xs ys)) (dot-rounded-once f c xs ys r h k)
+
 module _ (f : Format) (c : Settings) (u : ℕ) (l : List ℕ) (a : Answer) (is : answer_of a ≡ sum_answer f c u l) (r : a.refusal ≡ 0)
     (h : AllFinite f l) where
   abbrev total : Signed
@@ -41,9 +54,8 @@ module _ (f : Format) (c : Settings) (u : ℕ) (l : List ℕ) (a : Answer) (is :
   sum-accepted = sym (sum_number f c u l a is) ∙ r
 
   pub sum-once : 0 < (exact f c u l).mag → RoundedOnce f c (grid_for f u) (some_subnormal f l) (exact f c u l) (answer_of a)
-  sum-once =
-      subst (λ (y : Signed). 0 < y.mag → RoundedOnce f c (grid_for f u) (some_subnormal f l) y (answer_of a)) (sym same-sum)
-      (λ n. sum-has f c u l a is (RoundedOnce f c (grid_for f u) (some_subnormal f l) total) (sum-rounded-once f c u l sum-accepted h n))
+  sum-once n =
+      sum-has f c u l a is (RoundedOnce f c (grid_for f u) (some_subnormal f l) (exact f c u l)) (sum-rounded f c u l sum-accepted h n)
 
   pub sum-cancels : 0 < length (sum_terms f c (summand_of u) l) → (exact f c u l).mag ≡ 0 → Cancelled f c (some_subnormal f l) (answer_of a)
   sum-cancels n e =
@@ -75,9 +87,7 @@ module _ (f : Format) (c : Settings) (xs ys : List ℕ) (a : Answer) (is : answe
 
   pub dot-once : 0 < (exact_dot f c xs ys).mag
       → RoundedOnce f c (grid f true) (some_subnormal f xs || some_subnormal f ys) (exact_dot f c xs ys) (answer_of a)
-  dot-once =
-      subst (λ (y : Signed). 0 < y.mag → RoundedOnce f c (grid f true) sub y (answer_of a)) (sym same-dot)
-      (λ n. dot-has f c xs ys a is (RoundedOnce f c (grid f true) sub products) (dot-rounded-once f c xs ys dot-accepted h k n))
+  dot-once n = dot-has f c xs ys a is (RoundedOnce f c (grid f true) sub (exact_dot f c xs ys)) (dot-rounded f c xs ys dot-accepted h k n)
 
   pub dot-cancels : 0 < length (dot_terms f c xs ys) → (exact_dot f c xs ys).mag ≡ 0
       → Cancelled f c (some_subnormal f xs || some_subnormal f ys) (answer_of a)

@@ -2,6 +2,7 @@
 mod Calls
 mod Entered
 mod Exacts
+mod Written
 mod Figures
 mod Allowed
 mod Reached

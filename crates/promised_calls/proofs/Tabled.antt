@@ -6,9 +6,10 @@ use Rattle.totals_spec.specs.Conditions.{table_conditions}
 use Rattle.totals_spec.specs.Places.{StrayAt}
 use Rattle.totals_spec.specs.Table.{table_answer, table_refusal}
 use Rattle.totals_spec.specs.Totals.{Answer, refused}
-use Rattle.totals_spec.proofs.Promises.{table-refused-exactly, table-refused, table-place}
+use Rattle.totals_spec.proofs.Promises.{table-refused-exactly, table-refused, table-place, table-grand, sum-order}
 use Rattle.totals_spec.proofs.Table.{table-number}
 use Rattle.totals.specs.Tables.{Tables}
+use Rattle.promised_calls.specs.Order.{Rearranged, WithoutNan}
 use Rattle.promised_calls.specs.Refusals.{RefusesExactly, TellsNothingElse, PlacedAt, WritesNothing}
 
 module _ (f : Format) (c : Settings) (rows columns : ℕ) (cells old other : List ℕ) (a : Answer) (new new' : List ℕ)
@@ -36,3 +37,12 @@ module _ (f : Format) (c : Settings) (rows columns : ℕ) (cells old other : Lis
 
   pub columns-kept : WritesNothing a.refusal other new'
   columns-kept h = is.columns-are ∙ (table-refused f c rows columns cells old other (λ e. h (number ∙ e))).2
+
+  pub alike : (rows' columns' : ℕ) (cells' old' other' : List ℕ) (b : Answer) (rows-after columns-after : List ℕ)
+      → Tables (table_answer f c rows' columns' cells' old' other') b rows-after columns-after → Rearranged cells cells'
+      → a.refusal ≡ 0 → b.refusal ≡ 0 → WithoutNan f cells → a ≡ b
+  alike rows' columns' cells' old' other' b rows-after columns-after is' h r r' n =
+      let g = table-grand f c rows columns cells old other (sym number ∙ r) in
+      let number' = ap (λ (x : Answer). x.refusal) is'.grand-is ∙ table-number f c rows' columns' cells' old' other' in
+      let g' = table-grand f c rows' columns' cells' old' other' (sym number' ∙ r') in
+      is.grand-is ∙ (g.1 ∙ ((sum-order f c 0 cells cells' h g.0 n).1 ∙ (sym g'.1 ∙ sym is'.grand-is)))

@@ -1,8 +1,8 @@
 -- What the byte entries of a total read and write, of every kind: of kind 4 a value has ten bytes and an answer 32, of the others eight and 24.
 use Rattle.std.specs.Prelude.{◌≡◌, Bool, true, false, ◌||◌, List, ℕ, ◌%◌, ◌≤◌, length, take, drop}
+use Rattle.totals_spec.specs.Bytes.{from_bytes, values_in}
 use Rattle.totals_spec.specs.Format.{Format}
 use Rattle.totals_spec.specs.Totals.{pairs}
-use Rattle.totals_spec.specs.Bytes.{values_in}
 use Rattle.totals_spec.specs.Rearranged.{holds_nan, nan_looked_at}
 use Rattle.totals_spec.specs.Extended.{is_extended, tens_in, both_of}
 
@@ -38,12 +38,12 @@ Whole f bytes = length bytes % value_size (is_extended f) ≡ 0
 abbrev pub HasRoom : Format → List ℕ → Type 0
 HasRoom f old = answer_size (is_extended f) ≤ length old
 
--- no NaN is among the values (of kind 4: or an unsupported encoding decides before it)
-abbrev pub WithoutNan : Format → List ℕ → Type 0
-WithoutNan f l = nan_by (is_extended f) f l ≡ false
+-- no NaN decides: there is none, or, of kind 4, an unsupported encoding comes before it
+abbrev pub NoNanDecides : Format → List ℕ → Type 0
+NoNanDecides f l = nan_by (is_extended f) f l ≡ false
 
-abbrev pub PairsWithoutNan : Format → (left right : List ℕ) → Type 0
-PairsWithoutNan f left right = pair_nan_by (is_extended f) f left right ≡ false
+abbrev pub NoNanDecidesPairs : Format → (left right : List ℕ) → Type 0
+NoNanDecidesPairs f left right = pair_nan_by (is_extended f) f left right ≡ false
 
 -- two buffers begin with the same answer
 abbrev pub SameAnswer : Format → (one other : List ℕ) → Type 0
@@ -52,3 +52,10 @@ SameAnswer f one other = take (answer_size (is_extended f)) one ≡ take (answer
 -- behind the answer's bytes a buffer is as it was
 abbrev pub Keeps : Format → (old new : List ℕ) → Type 0
 Keeps f old new = (drop (answer_size (is_extended f)) new ≡ drop (answer_size (is_extended f)) old) × (length new ≡ length old)
+
+-- the passes in an answer of 24 bytes, and in one of 32
+abbrev pub passes_in : List ℕ → ℕ
+passes_in answer = from_bytes (take 8 (drop 16 answer))
+
+abbrev pub passes_in_tens : List ℕ → ℕ
+passes_in_tens answer = from_bytes (take 8 (drop 24 answer))

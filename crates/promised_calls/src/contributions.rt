@@ -20,11 +20,14 @@ use totals::entry_contribution::totals_contribution;
 /// The contribution that reaches a wanted total, or its refusal. The wanted total stands behind the
 /// list, where a stray bit has its place.
 pub fn contribution_or_refusal(f: Format, c: Settings, values: &[u64], wanted: u64) -> Contribution
-    ensures is { contribution_of result ≡ spec.contribution (format_of f) (settings_of c) values.now wanted }
-    ensures exactly { RefusesExactly (contribution_conditions (format_of f) (settings_of c) values.now wanted)
+    ensures is { contribution_of result ≡ spec.contribution (format_of f)
+        (settings_of c) values.now wanted }
+    ensures exactly { RefusesExactly (contribution_conditions (format_of f)
+        (settings_of c) values.now wanted)
         result.refusal }
     ensures nothing_else { result.refusal ≢ 0 → result.number ≡ 0 }
-    ensures place { PlacedAt (StrayAt (format_of f) (values.now ++ (wanted ∷ []))) result.refusal result.place }
+    ensures place { PlacedAt (StrayAt (format_of f) (values.now ++
+        (wanted ∷ []))) result.refusal result.place }
 {
     contribution_to(f, c, values, wanted)
 }
@@ -79,8 +82,10 @@ pub fn contributions_to_both(
     other: &[u64],
     wanted: u64,
 ) -> (Contribution, Contribution)
-    ensures first { contribution_of result.0 ≡ spec.contribution (format_of f) (settings_of c) one.now wanted }
-    ensures second { contribution_of result.1 ≡ spec.contribution (format_of f) (settings_of c) other.now wanted }
+    ensures first { contribution_of result.0
+        ≡ spec.contribution (format_of f) (settings_of c) one.now wanted }
+    ensures second { contribution_of result.1
+        ≡ spec.contribution (format_of f) (settings_of c) other.now wanted }
     ensures alike { Rearranged one.now other.now
         → (result.0.refusal ≡ result.1.refusal) × (result.0.refusal ≢ 7 → result.0 ≡ result.1) }
 {

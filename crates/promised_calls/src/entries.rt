@@ -5,7 +5,7 @@ ghost use Rattle.format.specs.Joined.{format_of, settings_of};
 ghost use Rattle.totals.specs.Entered.{Enters};
 ghost use Rattle.promised_calls.specs.Order.{Rearranged, PairsRearranged};
 ghost use Rattle.promised_calls.specs.Entries.{values_of, Whole};
-ghost use Rattle.promised_calls.specs.Entries.{HasRoom, WithoutNan, PairsWithoutNan};
+ghost use Rattle.promised_calls.specs.Entries.{HasRoom, NoNanDecides, NoNanDecidesPairs};
 ghost use Rattle.promised_calls.specs.Entries.{SameAnswer, Keeps};
 
 use format::Format;
@@ -14,7 +14,8 @@ use totals::entry::{totals_dot, totals_dot_biased, totals_sum, totals_sum_biased
 
 /// The exported sum, by the entry that names a bias where the format does.
 pub fn enter_sum(f: Format, c: Settings, u: u64, values: &[u8], answer: &mut [u8]) -> u64
-    ensures { Enters (sum_call (format_of f) (settings_of c) u values.now answer.old) result answer.new }
+    ensures { Enters (sum_call (format_of f) (settings_of c) u values.now answer.old)
+        result answer.new }
 {
     match f.named {
         Some(bias) => totals_sum_biased(
@@ -55,8 +56,8 @@ pub fn enter_sum(f: Format, c: Settings, u: u64, values: &[u8], answer: &mut [u8
 
 /// The exported dot product, likewise.
 pub fn enter_dot(f: Format, c: Settings, left: &[u8], right: &[u8], answer: &mut [u8]) -> u64
-    ensures { Enters (dot_call (format_of f) (settings_of c) left.now right.now answer.old) result
-        answer.new }
+    ensures { Enters (dot_call (format_of f) (settings_of c) left.now right.now answer.old)
+        result answer.new }
 {
     match f.named {
         Some(bias) => totals_dot_biased(
@@ -107,14 +108,17 @@ pub fn sums_entered(
     answer: &mut [u8],
     again: &mut [u8],
 ) -> (u64, u64)
-    ensures first { Enters (sum_call (format_of f) (settings_of c) u one.now answer.old) result.0 answer.new }
-    ensures second { Enters (sum_call (format_of f) (settings_of c) u other.now again.old) result.1 again.new }
+    ensures first { Enters (sum_call (format_of f) (settings_of c) u one.now answer.old)
+        result.0 answer.new }
+    ensures second { Enters (sum_call (format_of f) (settings_of c) u other.now again.old)
+        result.1 again.new }
     ensures alike { let f = format_of f in
         Rearranged (values_of f one.now) (values_of f other.now)
-        → WithoutNan f (values_of f one.now)
+        → NoNanDecides f (values_of f one.now)
         → Whole f other.now → HasRoom f again.old
         → result.0 ≡ 0 → (result.1 ≡ 0) × SameAnswer f answer.new again.new }
-    ensures rest { Keeps (format_of f) answer.old answer.new × Keeps (format_of f) again.old again.new }
+    ensures rest { Keeps (format_of f) answer.old answer.new
+        × Keeps (format_of f) again.old again.new }
 {
     let first = enter_sum(f, c, u, one, answer);
     let second = enter_sum(f, c, u, other, again);
@@ -132,17 +136,19 @@ pub fn dots_entered(
     answer: &mut [u8],
     again: &mut [u8],
 ) -> (u64, u64)
-    ensures first { Enters (dot_call (format_of f) (settings_of c) left.now right.now answer.old) result.0
-        answer.new }
-    ensures second { Enters (dot_call (format_of f) (settings_of c) moved_left.now moved_right.now again.old)
+    ensures first { Enters (dot_call (format_of f) (settings_of c) left.now right.now answer.old)
+        result.0 answer.new }
+    ensures second { Enters
+        (dot_call (format_of f) (settings_of c) moved_left.now moved_right.now again.old)
         result.1 again.new }
     ensures alike { let f = format_of f in
         PairsRearranged (values_of f left.now) (values_of f right.now)
         (values_of f moved_left.now) (values_of f moved_right.now)
-        → PairsWithoutNan f (values_of f left.now) (values_of f right.now)
+        → NoNanDecidesPairs f (values_of f left.now) (values_of f right.now)
         → Whole f moved_left.now → Whole f moved_right.now → HasRoom f again.old
         → result.0 ≡ 0 → (result.1 ≡ 0) × SameAnswer f answer.new again.new }
-    ensures rest { Keeps (format_of f) answer.old answer.new × Keeps (format_of f) again.old again.new }
+    ensures rest { Keeps (format_of f) answer.old answer.new
+        × Keeps (format_of f) again.old again.new }
 {
     let first = enter_dot(f, c, left, right, answer);
     let second = enter_dot(f, c, moved_left, moved_right, again);

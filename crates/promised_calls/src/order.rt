@@ -14,8 +14,10 @@ use totals::{dot, sum};
 /// and its list has no NaN, they are one record.
 pub fn sums_of(f: Format, c: Settings, u: u64, one: &[u64], other: &[u64]) -> (Answer, Answer)
     ensures first { answer_of result.0 ≡ spec.sum_answer (format_of f) (settings_of c) u one.now }
-    ensures second { answer_of result.1 ≡ spec.sum_answer (format_of f) (settings_of c) u other.now }
-    ensures alike { Rearranged one.now other.now → result.0.refusal ≡ 0 → WithoutNan (format_of f) one.now
+    ensures second { answer_of result.1 ≡ spec.sum_answer (format_of f)
+        (settings_of c) u other.now }
+    ensures alike { Rearranged one.now other.now → result.0.refusal ≡ 0
+        → WithoutNan (format_of f) one.now
         → result.0 ≡ result.1 }
 {
     let first = sum(f, c, u, one);
@@ -32,10 +34,12 @@ pub fn dots_of(
     moved_left: &[u64],
     moved_right: &[u64],
 ) -> (Answer, Answer)
-    ensures first { answer_of result.0 ≡ spec.dot_answer (format_of f) (settings_of c) left.now right.now }
+    ensures first { answer_of result.0 ≡ spec.dot_answer (format_of f)
+        (settings_of c) left.now right.now }
     ensures second { answer_of result.1
         ≡ spec.dot_answer (format_of f) (settings_of c) moved_left.now moved_right.now }
-    ensures alike { PairsRearranged left.now right.now moved_left.now moved_right.now → result.0.refusal ≡ 0
+    ensures alike { PairsRearranged left.now right.now moved_left.now moved_right.now
+        → result.0.refusal ≡ 0
         → WithoutNan (format_of f) left.now → WithoutNan (format_of f) right.now
         → result.0 ≡ result.1 }
 {

@@ -16,7 +16,8 @@ use totals::pages::page_sum;
 /// The total of a span of a page, or its refusal, which has no place.
 pub fn span_or_refusal(c: Settings, u: u64, page: &[u8], start: usize, end: usize) -> Answer
     ensures is { answer_of result ≡ spec.page_answer (settings_of c) u page.now start end }
-    ensures exactly { RefusesExactly (when.page_conditions (settings_of c) u page.now start end) result.refusal }
+    ensures exactly { RefusesExactly (when.page_conditions
+        (settings_of c) u page.now start end) result.refusal }
     ensures nothing_else { result.refusal ≢ 0 → answer_of result ≡ refused result.refusal 0 }
 {
     page_sum(c, u, page, start, end)
@@ -31,7 +32,8 @@ pub fn span_entry_or_refusal(
     end: usize,
     answer: &mut [u8],
 ) -> u64
-    ensures is { Enters (spec.page_entry (settings_of c) u page.now start end answer.old) result answer.new }
+    ensures is { Enters (spec.page_entry
+        (settings_of c) u page.now start end answer.old) result answer.new }
     ensures exactly { RefusesExactly
         (when.page_entry_conditions (settings_of c) u page.now start end answer.old) result }
     ensures nothing_written { WritesNothing result answer.old answer.new }

@@ -18,7 +18,8 @@ use totals::pence::{Pence, pence_of, pence_of_sum};
 /// The pence of the exact sum of a list, or their refusal, with a figure of 0.
 pub fn pence_or_refusal(f: Format, values: &[u64]) -> Pence
     ensures is { pence_record result ≡ spec.sum_pence (format_of f) values.now }
-    ensures exactly { RefusesExactly (when.sum_pence_conditions (format_of f) values.now) result.refusal }
+    ensures exactly { RefusesExactly (when.sum_pence_conditions
+        (format_of f) values.now) result.refusal }
     ensures nothing_else { result.refusal ≢ 0 → result.figure ≡ pos 0 }
     ensures place { PlacedAt (StrayAt (format_of f) values.now) result.refusal result.place }
 {
@@ -45,7 +46,8 @@ pub fn pence_entry_or_refusal(
     values: &[u64],
     figure: &mut i64,
 ) -> u64
-    ensures is { EntersFigure (pence_entry kind exponent_bits width bias_named bias values.now figure.old)
+    ensures is { EntersFigure (pence_entry kind exponent_bits width bias_named bias values.now
+        figure.old)
         result figure.new }
     ensures exactly { RefusesExactly
         (when.pence_entry_conditions bias_named bias

@@ -22,7 +22,8 @@ pub fn range_or_refusal(
     ensures is { Totalled tags.now firsts.old seconds.old ceiling result firsts.new seconds.new }
     ensures exactly { RefusesExactly (when.range_conditions tags.now firsts.old seconds.old ceiling)
         result.refusal }
-    ensures nothing_else { result.refusal ≢ 0 → range_record result ≡ spec.refused_range result.refusal }
+    ensures nothing_else { result.refusal ≢ 0 → range_record result
+        ≡ spec.refused_range result.refusal }
     ensures firsts_kept { WritesNothing result.refusal firsts.old firsts.new }
     ensures seconds_kept { WritesNothing result.refusal seconds.old seconds.new }
 {
@@ -37,7 +38,8 @@ pub fn range_entry_or_refusal(
     ceiling: u64,
     pair: &mut [u64],
 ) -> u64
-    ensures is { EntersRange (range_entry tags.now firsts.old seconds.old ceiling pair.old) result firsts.new
+    ensures is { EntersRange (range_entry tags.now firsts.old seconds.old ceiling pair.old) result
+        firsts.new
         seconds.new pair.new }
     ensures exactly { RefusesExactly
         (when.range_entry_conditions tags.now firsts.old seconds.old ceiling pair.old) result }
@@ -58,10 +60,13 @@ pub fn ranges_of_both(
     moved_seconds: &mut [u64],
     ceiling: u64,
 ) -> (Range, Range)
-    ensures first { Totalled tags.now firsts.old seconds.old ceiling result.0 firsts.new seconds.new }
-    ensures second { Totalled moved_tags.now moved_firsts.old moved_seconds.old ceiling result.1 moved_firsts.new
+    ensures first { Totalled tags.now firsts.old seconds.old ceiling result.0 firsts.new
+        seconds.new }
+    ensures second { Totalled moved_tags.now moved_firsts.old moved_seconds.old ceiling result.1
+        moved_firsts.new
         moved_seconds.new }
-    ensures alike { TriplesRearranged tags.now firsts.old seconds.old moved_tags.now moved_firsts.old
+    ensures alike { TriplesRearranged tags.now firsts.old seconds.old moved_tags.now
+        moved_firsts.old
         moved_seconds.old
         → result.0.refusal ≡ 0 → range_record result.0 ≡ range_record result.1 }
 {

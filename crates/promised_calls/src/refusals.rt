@@ -21,7 +21,8 @@ use totals::{dot, sum};
 /// The sum of a list, or its refusal.
 pub fn sum_or_refusal(f: Format, c: Settings, u: u64, values: &[u64]) -> Answer
     ensures is { answer_of result ≡ spec.sum_answer (format_of f) (settings_of c) u values.now }
-    ensures exactly { RefusesExactly (when.sum_conditions (format_of f) (settings_of c) u values.now)
+    ensures exactly { RefusesExactly (when.sum_conditions (format_of f)
+        (settings_of c) u values.now)
         result.refusal }
     ensures nothing_else { TellsNothingElse (answer_of result) }
     ensures place { PlacedAt (StrayAt (format_of f) values.now) result.refusal result.place }
@@ -31,11 +32,14 @@ pub fn sum_or_refusal(f: Format, c: Settings, u: u64, values: &[u64]) -> Answer
 
 /// The dot product of two lists, or its refusal.
 pub fn dot_or_refusal(f: Format, c: Settings, left: &[u64], right: &[u64]) -> Answer
-    ensures is { answer_of result ≡ spec.dot_answer (format_of f) (settings_of c) left.now right.now }
-    ensures exactly { RefusesExactly (when.dot_conditions (format_of f) (settings_of c) left.now right.now)
+    ensures is { answer_of result ≡ spec.dot_answer (format_of f)
+        (settings_of c) left.now right.now }
+    ensures exactly { RefusesExactly (when.dot_conditions (format_of f)
+        (settings_of c) left.now right.now)
         result.refusal }
     ensures nothing_else { TellsNothingElse (answer_of result) }
-    ensures place { PlacedAt (DotStrayAt (format_of f) left.now right.now) result.refusal result.place }
+    ensures place { PlacedAt (DotStrayAt
+        (format_of f) left.now right.now) result.refusal result.place }
 {
     dot(f, c, left, right)
 }
@@ -43,13 +47,16 @@ pub fn dot_or_refusal(f: Format, c: Settings, left: &[u64], right: &[u64]) -> An
 /// The exported sum of the values in some bytes, or its refusal: 1 and 2 before those of the sum.
 /// Of kind 4 the number has no place.
 pub fn sum_entry_or_refusal(f: Format, c: Settings, u: u64, values: &[u8], answer: &mut [u8]) -> u64
-    ensures is { Enters (sum_call (format_of f) (settings_of c) u values.now answer.old) result answer.new }
+    ensures is { Enters (sum_call (format_of f) (settings_of c) u values.now answer.old)
+        result answer.new }
     ensures exactly { f.kind ≢ 4
         → RefusesExactly (when.entry_conditions (when.Uneven values.now) answer.old
-        (when.sum_conditions (format_of f) (settings_of c) u (values_in values.now))) (result % 256) }
+        (when.sum_conditions (format_of f) (settings_of c) u (values_in values.now)))
+        (result % 256) }
     ensures exactly_tens { f.kind ≡ 4
         → RefusesExactly (when.extended_entry_conditions (when.UnevenTens values.now) answer.old
-        (when.extended_sum_conditions (format_of f) (settings_of c) u (tens_in values.now))) result }
+        (when.extended_sum_conditions (format_of f) (settings_of c) u
+        (tens_in values.now))) result }
     ensures place { f.kind ≢ 4
         → PlacedAt (StrayAt (format_of f) (values_in values.now)) (result % 256) (result / 256) }
     ensures nothing_written { WritesNothing result answer.old answer.new }
@@ -65,8 +72,8 @@ pub fn dot_entry_or_refusal(
     right: &[u8],
     answer: &mut [u8],
 ) -> u64
-    ensures is { Enters (dot_call (format_of f) (settings_of c) left.now right.now answer.old) result
-        answer.new }
+    ensures is { Enters (dot_call (format_of f) (settings_of c) left.now right.now answer.old)
+        result answer.new }
     ensures exactly { f.kind ≢ 4
         → RefusesExactly
         (when.entry_conditions (when.Uneven left.now ⊎ when.Uneven right.now) answer.old

@@ -1,18 +1,24 @@
 // The exact sum, rounded once.
-ghost use Rattle.std.specs.Prelude.{◌≡◌, ◌<◌, true, ◌||◌, map, length};
+ghost use Rattle.std.specs.Prelude.{◌≡◌, ◌≢◌, ◌<◌, true, ◌||◌, map, length};
+ghost use Rattle.totals_spec.specs.Basics.{any};
+ghost use Rattle.totals_spec.specs.Bytes.{values_in};
 ghost use Rattle.totals_spec.specs.Decode.{decode};
+ghost use Rattle.totals_spec.specs.Extended as ten;
 ghost use Rattle.totals_spec.specs.Format.{grid};
-ghost use Rattle.totals_spec.specs.Promises.{AllFinite, zero_answer, zero_for};
+ghost use Rattle.totals_spec.specs.Promises.{AllFinite, AllNumbers, zero_answer, zero_for};
 ghost use Rattle.totals_spec.specs.Settings.{summand_of};
 ghost use Rattle.totals_spec.specs.Side.{side_of};
-ghost use Rattle.totals_spec.specs.Terms.{item, pair_item};
+ghost use Rattle.totals_spec.specs.Terms.{item, pair_item, exact_sum};
 ghost use Rattle.totals_spec.specs.Totals as spec;
 ghost use Rattle.format.specs.Joined.{format_of, settings_of};
 ghost use Rattle.promises.specs.Special.{Cancelled, some_subnormal};
 ghost use Rattle.promises.specs.Statements.{RoundedOnce};
 ghost use Rattle.reduction.specs.Answered.{answer_of};
-ghost use Rattle.promised_calls.specs.Rounded.{exact, exact_dot, grid_for};
+ghost use Rattle.totals.specs.Entered.{Enters};
+ghost use Rattle.promised_calls.specs.Rounded.{exact, exact_dot};
+ghost use Rattle.promised_calls.specs.Rounded.{grid_for, HoldsOnce, HoldsTensOnce};
 
+use crate::entries::{enter_dot, enter_sum};
 use format::Format;
 use format::env::Settings;
 use reduction::total::Answer;
@@ -51,7 +57,8 @@ pub fn sum_rounded_once(f: Format, c: Settings, u: u64, values: &[u64]) -> Answe
 
 /// The dot product of finite values is the exact sum of the products, rounded once, likewise.
 pub fn dot_rounded_once(f: Format, c: Settings, left: &[u64], right: &[u64]) -> Answer
-    ensures is { answer_of result ≡ spec.dot_answer (format_of f) (settings_of c) left.now right.now }
+    ensures is { answer_of result ≡ spec.dot_answer (format_of f)
+        (settings_of c) left.now right.now }
     ensures once { let f = format_of f in
         let c = settings_of c in
         let x = exact_dot f c left.now right.now in
@@ -63,7 +70,8 @@ pub fn dot_rounded_once(f: Format, c: Settings, left: &[u64], right: &[u64]) -> 
         result.refusal ≡ 0 → AllFinite f left.now → AllFinite f right.now
         → 0 < length (spec.dot_terms f c left.now right.now)
         → (exact_dot f c left.now right.now).mag ≡ 0
-        → Cancelled f c (some_subnormal f left.now || some_subnormal f right.now) (answer_of result) }
+        → Cancelled f c (some_subnormal f left.now || some_subnormal f right.now)
+        (answer_of result) }
     ensures zeros { let f = format_of f in
         let c = settings_of c in
         result.refusal ≡ 0 → AllFinite f left.now → AllFinite f right.now
@@ -77,4 +85,62 @@ pub fn dot_rounded_once(f: Format, c: Settings, left: &[u64], right: &[u64]) -> 
         → result.side ≡ side_of (grid f true) (decode f result.result) x }
 {
     dot(f, c, left, right)
+}
+
+/// What the exported sum writes for finite values with a sum that is not zero is the exact sum,
+/// rounded once; of values of ten bytes too.
+pub fn sum_entry_rounded_once(
+    f: Format,
+    c: Settings,
+    u: u64,
+    values: &[u8],
+    answer: &mut [u8],
+) -> u64
+    ensures is { Enters (ten.sum_call (format_of f) (settings_of c) u values.now answer.old)
+        result answer.new }
+    ensures once { let f = format_of f in
+        let c = settings_of c in
+        let l = values_in values.now in
+        let x = exact f c u l in
+        f.kind ≢ 4 → result ≡ 0 → AllFinite f l → 0 < x.mag
+        → HoldsOnce f c (grid_for f u) (some_subnormal f l) x answer.old answer.new }
+    ensures tens_once { let c = settings_of c in
+        let l = ten.tens_in values.now in
+        let square = spec.is_square (summand_of u) in
+        let ts = ten.extended_terms c (summand_of u) l in
+        let x = spec.on_grid ten.extended square (exact_sum ts) in
+        f.kind ≡ 4 → result ≡ 0 → AllNumbers l → 0 < x.mag
+        → HoldsTensOnce c (grid ten.extended square) (any ten.subnormal_extended l) x answer.old
+        answer.new }
+{
+    enter_sum(f, c, u, values, answer)
+}
+
+/// And what the exported dot product writes is the exact sum of the products, rounded once.
+pub fn dot_entry_rounded_once(
+    f: Format,
+    c: Settings,
+    left: &[u8],
+    right: &[u8],
+    answer: &mut [u8],
+) -> u64
+    ensures is { Enters (ten.dot_call (format_of f) (settings_of c) left.now right.now answer.old)
+        result answer.new }
+    ensures once { let f = format_of f in
+        let c = settings_of c in
+        let xs = values_in left.now in
+        let ys = values_in right.now in
+        let x = exact_dot f c xs ys in
+        f.kind ≢ 4 → result ≡ 0 → AllFinite f xs → AllFinite f ys → 0 < x.mag
+        → HoldsOnce f c (grid f true) (some_subnormal f xs || some_subnormal f ys) x answer.old
+        answer.new }
+    ensures tens_once { let c = settings_of c in
+        let xs = ten.tens_in left.now in
+        let ys = ten.tens_in right.now in
+        let x = spec.on_grid ten.extended true (exact_sum (ten.extended_dot_terms c xs ys)) in
+        f.kind ≡ 4 → result ≡ 0 → AllNumbers xs → AllNumbers ys → 0 < x.mag
+        → HoldsTensOnce c (grid ten.extended true)
+        (any ten.subnormal_extended xs || any ten.subnormal_extended ys) x answer.old answer.new }
+{
+    enter_dot(f, c, left, right, answer)
 }

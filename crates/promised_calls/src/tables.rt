@@ -1,4 +1,5 @@
-// The totals of a table: when they are refused.
+// The totals of a table: when they are refused, and that the order of the cells does not matter to
+// the total of all.
 ghost use Rattle.std.specs.Prelude.{◌≡◌, ◌≢◌, ◌%◌};
 ghost use Rattle.totals_spec.specs.Conditions as when;
 ghost use Rattle.totals_spec.specs.Places.{StrayAt};
@@ -8,6 +9,7 @@ ghost use Rattle.format.specs.Joined.{format_of, settings_of};
 ghost use Rattle.reduction.specs.Answered.{answer_of};
 ghost use Rattle.totals.specs.Entered.{EntersTable};
 ghost use Rattle.totals.specs.Tables.{Tables};
+ghost use Rattle.promised_calls.specs.Order.{Rearranged, WithoutNan};
 ghost use Rattle.promised_calls.specs.Refusals.{RefusesExactly, TellsNothingElse, PlacedAt};
 ghost use Rattle.promised_calls.specs.Refusals.{WritesNothing};
 
@@ -89,4 +91,43 @@ pub fn table_entry_or_refusal(
         column_totals,
         answer,
     )
+}
+
+/// Two tables of the same cells, in another order or of another shape, that are both accepted and
+/// have no NaN: the totals of all cells are one record.
+pub fn totals_of_all_cells(
+    f: Format,
+    c: Settings,
+    rows: usize,
+    columns: usize,
+    cells: &[u64],
+    row_totals: &mut [u64],
+    column_totals: &mut [u64],
+    moved_rows: usize,
+    moved_columns: usize,
+    moved_cells: &[u64],
+    moved_row_totals: &mut [u64],
+    moved_column_totals: &mut [u64],
+) -> (Answer, Answer)
+    ensures first { Tables
+        (spec.table_answer (format_of f) (settings_of c) rows columns cells.now row_totals.old
+        column_totals.old) (answer_of result.0) row_totals.new column_totals.new }
+    ensures second { Tables
+        (spec.table_answer (format_of f) (settings_of c) moved_rows moved_columns moved_cells.now
+        moved_row_totals.old moved_column_totals.old)
+        (answer_of result.1) moved_row_totals.new moved_column_totals.new }
+    ensures alike { Rearranged cells.now moved_cells.now → WithoutNan (format_of f) cells.now
+        → result.0.refusal ≡ 0 → result.1.refusal ≡ 0 → result.0 ≡ result.1 }
+{
+    let first = table(f, c, rows, columns, cells, row_totals, column_totals);
+    let second = table(
+        f,
+        c,
+        moved_rows,
+        moved_columns,
+        moved_cells,
+        moved_row_totals,
+        moved_column_totals,
+    );
+    (first, second)
 }

@@ -23,7 +23,8 @@ pub fn targets_or_refusals(
     c: Target,
 ) -> Printed
     ensures is { Prints (format_of f) denormals_are_zero (values_in values.now) a b c result }
-    ensures refusals { PrintsOrRefuses (format_of f) denormals_are_zero (values_in values.now) a b c result }
+    ensures refusals { PrintsOrRefuses (format_of f) denormals_are_zero
+        (values_in values.now) a b c result }
 {
     in_three(f, denormals_are_zero, values, a, b, c)
 }
@@ -43,7 +44,8 @@ pub fn target_entry_or_refusal(
     ensures is { Enters
         (target_entry kind exponent_bits width bias_named bias denormals_are_zero targets.now
         values.now answer.old) result answer.new }
-    ensures exactly { RefusesExactly (target_entry_conditions targets.now values.now answer.old) result }
+    ensures exactly { RefusesExactly (target_entry_conditions targets.now values.now answer.old)
+        result }
     ensures nothing_written { WritesNothing result answer.old answer.new }
 {
     totals_sum_into(
@@ -72,7 +74,8 @@ pub fn targets_of_both(
 ) -> (Printed, Printed)
     ensures first { Prints (format_of f) denormals_are_zero (values_in one.now) a b c result.0 }
     ensures second { Prints (format_of f) denormals_are_zero (values_in other.now) a b c result.1 }
-    ensures alike { Rearranged (values_in one.now) (values_in other.now) → AllAlike result.0 result.1 }
+    ensures alike { Rearranged (values_in one.now) (values_in other.now)
+        → AllAlike result.0 result.1 }
 {
     let first = in_three(f, denormals_are_zero, one, a, b, c);
     let second = in_three(f, denormals_are_zero, other, a, b, c);

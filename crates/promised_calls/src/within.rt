@@ -27,7 +27,8 @@ pub fn sum_within_or_refusal(
     values: &[u64],
     allowance: u64,
 ) -> Estimate
-    ensures is { estimate_of result ≡ spec.sum_within (format_of f) (settings_of c) u values.now allowance }
+    ensures is { estimate_of result ≡ spec.sum_within (format_of f)
+        (settings_of c) u values.now allowance }
     ensures exactly { RefusesExactly
         (within_conditions allowance
         (when.sum_conditions (format_of f) (settings_of c) u values.now))
@@ -158,8 +159,10 @@ pub fn sums_within(
     other: &[u64],
     allowance: u64,
 ) -> (Estimate, Estimate)
-    ensures first { estimate_of result.0 ≡ spec.sum_within (format_of f) (settings_of c) u one.now allowance }
-    ensures second { estimate_of result.1 ≡ spec.sum_within (format_of f) (settings_of c) u other.now allowance }
+    ensures first { estimate_of result.0 ≡ spec.sum_within (format_of f)
+        (settings_of c) u one.now allowance }
+    ensures second { estimate_of result.1
+        ≡ spec.sum_within (format_of f) (settings_of c) u other.now allowance }
     ensures alike { Rearranged one.now other.now
         → totals.sum_refusal (format_of f) (settings_of c) u one.now ≡ 0
         → WithoutNan (format_of f) one.now → estimate_of result.0 ≡ estimate_of result.1 }
