@@ -1,0 +1,5 @@
+use Rattle.promises.proofs.HeldText.{decimal-reads}
+use Rattle.promises.proofs.held_text.decimal_reads.Goals as goal
+
+pub returns : goal.returns
+returns c = decimal-reads

@@ -1,0 +1,5 @@
+use Rattle.promises.proofs.HeldText.{figure-reads}
+use Rattle.promises.proofs.held_text.figure_reads.Goals as goal
+
+pub returns : goal.returns
+returns c = figure-reads

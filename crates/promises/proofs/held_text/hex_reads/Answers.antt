@@ -1,0 +1,5 @@
+use Rattle.promises.proofs.HeldText.{hex-reads}
+use Rattle.promises.proofs.held_text.hex_reads.Goals as goal
+
+pub returns : goal.returns
+returns c = hex-reads

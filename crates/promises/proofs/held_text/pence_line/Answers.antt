@@ -1,0 +1,5 @@
+use Rattle.promises.proofs.HeldText.{pence-line}
+use Rattle.promises.proofs.held_text.pence_line.Goals as goal
+
+pub returns : goal.returns
+returns c = pence-line
