@@ -1,0 +1,5 @@
+use Rattle.promises.proofs.HeldRunning.{finish-writes}
+use Rattle.promises.proofs.held_running.finish_writes.Goals as goal
+
+pub returns : goal.returns
+returns c = finish-writes

@@ -1,0 +1,5 @@
+use Rattle.promises.proofs.HeldRunning.{pence-writes}
+use Rattle.promises.proofs.held_running.pence_writes.Goals as goal
+
+pub returns : goal.returns
+returns c = pence-writes
