@@ -1,0 +1,5 @@
+use Rattle.promises.proofs.HeldRunningRows.{into-agree}
+use Rattle.promises.proofs.held_running.into_agree.Goals as goal
+
+pub returns : goal.returns
+returns c = into-agree
