@@ -2688,7 +2688,7 @@ static void targets_refused(void)
 {
     static const totals_target good = TO(TOTALS_BINARY16);
     const totals_format f = {TOTALS_BINARY16, TOTALS_OWN_BIAS};
-    const totals_format no_lists[5] = {{4, 5, 16, 0, 0}, {0, 29, 64, 0, 0}, {0, 5, 65, 0, 0}, {0, 5, 16, 0, 15}, {0, 5, 16, 2, 15}};
+    const totals_format no_lists[5] = {{9, 5, 16, 0, 0}, {0, 29, 64, 0, 0}, {0, 5, 65, 0, 0}, {0, 5, 16, 0, 15}, {0, 5, 16, 2, 15}};
     const uint64_t fine[3] = {0x3c00, 0x3c00, 0x4000}, stray[3] = {0x3c00, 0x7c00, 0x10000};
     const uint64_t infinite[3] = {0x3c00, 0xfc00, 0x3c00}, nan[3] = {0x7e00, 0x3c00, 0x3c00};
     totals_target bad[18];
@@ -3155,13 +3155,14 @@ static void within_refused(void)
         totals_settings c = TOTALS_SETTINGS_INIT;
         const uint64_t *list = BAD(7) ? stray : good;
         const uint64_t allowance = BAD(2) ? 0 : 1, summand = BAD(6) ? 3 : 2;
-        const size_t size = BAD(0) ? 15 : 16, room = BAD(1) ? 143 : 144, right = BAD(8) ? 8 : size;
+        const int has_tens = BAD(3) && BAD(4);
+        const size_t size = (has_tens ? 10 : 16) - BAD(0), room = BAD(1) ? 143 : 144, right = BAD(8) ? (has_tens ? 0 : 8) : size;
         const uint64_t first = BAD(0) ? 1 : BAD(1) ? 2 : BAD(2) ? 16 : BAD(3) || BAD(4) ? 3 : 0;
         const uint64_t of_sum = first != 0 ? first : BAD(5) || BAD(6) ? 4 : BAD(7) ? 7 + 256 : 0;
         const uint64_t of_dot = first != 0 ? first : BAD(5) ? 4 : BAD(8) ? 5 : BAD(7) ? 7 + 256 : 0;
 
         if (BAD(3)) {
-            f.kind = at % 2 == 0 ? 9 : TOTALS_X87;
+            f.kind = has_tens ? TOTALS_X87 : 9;
         }
         if (BAD(4)) {
             f.bias = 1; /* and none is named */
@@ -3177,6 +3178,39 @@ static void within_refused(void)
             CHECK(totals_dot_within_words(f, list, 2, list, right / 8, allowance, &c).refusal == TOTALS_REFUSAL(of_dot));
         }
 #undef BAD
+    }
+}
+
+/* A list of kind 4 is counted by tens: where it is whole it has 3, of targets each, and else the call has 1. */
+static void x87_by_tens(void)
+{
+    const totals_format formats[3] = {{TOTALS_EXTENDED, TOTALS_OWN_BIAS}, {TOTALS_EXTENDED, TOTALS_BIAS(16383)}, {TOTALS_X87, 11, 64, TOTALS_OWN_BIAS}};
+    const uint64_t zeros[8] = {0};
+    const totals_settings c = TOTALS_SETTINGS_INIT;
+    const totals_target good = TO(TOTALS_BINARY16);
+    size_t i, size, k;
+
+    for (i = 0; i < 3; i++) {
+        const totals_format f = formats[i];
+        for (size = 0; size <= 64; size++) {
+            const int is_whole = size % 10 == 0;
+            const uint64_t refused = is_whole ? TOTALS_NO_SUCH_FORMAT : TOTALS_UNEVEN_LENGTH;
+            CHECK(sum_within(f, &c, 0, 1, zeros, size, 144) == refused && nothing_within());
+            CHECK(dot_within(f, &c, 1, zeros, size, zeros, 20, 144) == refused && nothing_within());
+            CHECK(dot_within(f, &c, 1, zeros, 20, zeros, size, 144) == refused && nothing_within());
+            CHECK(sum_within(f, &c, 0, 0, zeros, size, 144) == (is_whole ? (uint64_t)TOTALS_NO_PASS_ALLOWED : refused) && nothing_within());
+            CHECK(sum_within(f, &c, 0, 0, zeros, size, 143) == (is_whole ? (uint64_t)TOTALS_SHORT_BUFFER : refused) && nothing_within());
+            for (k = 0; k < 3; k++) {
+                lay_out_target(into_targets + 1 + 104 * k, &good);
+            }
+            memset(into_answer, UNTOUCHED, sizeof into_answer);
+            CHECK(totals_sum_into(f.kind, f.exponent_bits, f.width, f.bias_named, f.bias, 0, into_targets + 1, TOTALS_TARGETS_BYTES,
+                                  (const uint8_t *)zeros, size, into_answer + 1, INTO_ROOM)
+                  == (is_whole ? (uint64_t)TOTALS_ACCEPTED : refused));
+            for (k = 0; k < 3; k++) {
+                CHECK(is_whole ? slot_is_refused(k, TOTALS_NO_SUCH_FORMAT) : are_untouched(into_answer, 0, sizeof into_answer));
+            }
+        }
     }
 }
 
@@ -3650,6 +3684,7 @@ int main(void)
     totals_in_time();
     floats_within();
     within_refused();
+    x87_by_tens();
     within_of_no_list();
     contributions();
     contributions_of_four_bits();

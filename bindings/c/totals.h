@@ -464,7 +464,7 @@ uint64_t totals_page_write(const uint64_t *values, size_t count,
  *   denormals_are_zero   0 or 1: how the list is read. That of a target has no effect
  *   targets              312 bytes, little end first: of each target the kind, the exponent bits, the width, 1 where it names its bias or
  *                        else 0, the bias in two's complement, and the eight settings, eight bytes each
- *   values               eight bytes a value, as in totals_sum
+ *   values               eight bytes a value, of TOTALS_X87 ten, as in totals_sum
  *   answer               at least 96 bytes, apart from the targets and from the values
  *
  * Lengths count bytes. No pointer may be NULL, not even with length 0.
@@ -472,7 +472,7 @@ uint64_t totals_page_write(const uint64_t *values, size_t count,
  * Returns 0 and writes 32 bytes for each target: its refusal, plus 256 times a place for TOTALS_STRAY_BIT, in 0..7, and behind it, in 8..31,
  * what totals_sum writes, or zeros where it is refused. Later bytes stay as they were. A target's refusal is the first of these that holds:
  *
- *   TOTALS_NO_SUCH_FORMAT         of the list or of the target; also where a bias is named neither by 1 nor by 0 beside 0
+ *   TOTALS_NO_SUCH_FORMAT         of the list or of the target; of TOTALS_X87 too, and where a bias is named neither by 1 nor by 0 beside 0
  *   TOTALS_SETTING_OUT_OF_RANGE   denormals_are_zero, or a setting of the target
  *   TOTALS_TOO_MANY_ELEMENTS
  *   TOTALS_STRAY_BIT              of the list
@@ -496,7 +496,7 @@ uint64_t totals_sum_into(uint64_t kind, uint64_t exponent_bits, uint64_t width, 
  *   rounding to precision   the eight settings, as in totals_sum; they act on a whole answer alone
  *   summand                 as in totals_sum
  *   allowance               the most passes, at least 1
- *   values                  eight bytes a value, as in totals_sum
+ *   values                  eight bytes a value, of TOTALS_X87 ten, as in totals_sum
  *   answer                  at least 144 bytes, apart from the values
  *
  * Lengths count bytes. No pointer may be NULL, not even with length 0.
@@ -831,15 +831,25 @@ static inline int totals_is_missing_(totals_list_ list)
     return list.values == NULL && list.count != 0;
 }
 
+/*
+ * The bytes of an encoding that are lent to an entry which refuses ten bytes a value: no list of words has such a value, so none is lent, and
+ * the refusal is that of an empty list.
+ */
+static inline size_t totals_lent_(totals_format f)
+{
+    return f.kind == TOTALS_X87 ? 0 : 8;
+}
+
 static inline uint64_t totals_call_within_(totals_format f, const totals_settings *c, uint64_t summand, int pairs, uint64_t allowance,
                                            const uint8_t *left, size_t left_count, const uint8_t *right, size_t right_count,
                                            uint8_t *answer)
 {
+    const size_t size = totals_lent_(f);
     if (pairs) {
-        return totals_dot_within(TOTALS_NUMBERS_(f), TOTALS_CHOICES_(c), allowance, left, 8 * left_count, right, 8 * right_count, answer,
+        return totals_dot_within(TOTALS_NUMBERS_(f), TOTALS_CHOICES_(c), allowance, left, size * left_count, right, size * right_count, answer,
                                  TOTALS_WITHIN_ANSWER_BYTES);
     }
-    return totals_sum_within(TOTALS_NUMBERS_(f), TOTALS_CHOICES_(c), summand, allowance, left, 8 * left_count, answer,
+    return totals_sum_within(TOTALS_NUMBERS_(f), TOTALS_CHOICES_(c), summand, allowance, left, size * left_count, answer,
                              TOTALS_WITHIN_ANSWER_BYTES);
 }
 
@@ -1369,7 +1379,7 @@ static inline unsigned totals_take_into_(totals_format f, uint64_t denormals_are
     for (i = 0; records != NULL && i < target_count; i++) {
         k = i % 3;
         if (targets != NULL && values != NULL && k == 0) {
-            totals_enter_three_(f, denormals_are_zero, targets + i, target_count - i, values, 8 * lent.count, codes, answer);
+            totals_enter_three_(f, denormals_are_zero, targets + i, target_count - i, values, totals_lent_(f) * lent.count, codes, answer);
         }
         if (targets == NULL) {
             codes[k] = TOTALS_NO_LIST;

@@ -3428,6 +3428,13 @@ def cover_tens(every):
            lambda t: ((t.f[1] != 15) + 2 * (t.f[2] != 80) + 4 * (t.f[3] is not None),), (1, 2, 4))
 
 
+# ---- lists of kind 4 of which nothing is added, each as so many words and bytes more: whole values of ten bytes, of eight, of both and of neither
+
+KIND_4_LISTS = ((0, 0), (1, 0), (1, 1), (1, 2), (1, 3), (2, 0), (2, 3), (2, 4), (2, 5), (3, 0), (3, 6), (4, 0), (5, 0), (5, 1), (6, 2), (7, 4), (8, 0), (8, 6), (10, 0),
+                (11, 2))
+KIND_4_FORMATS = ((4, 15, 80), (4, 15, 80, 16383), (4, 11, 64), (4, 0, 0), (4, 15, 80, 0, 1))
+
+
 # ---- one total, several formats
 
 INTO_ROW, INTO_NUMBERS, INTO_LIST, INTO_BUFFER, INTO_NOTE = 1371, 39, 13, 104, 24
@@ -3478,9 +3485,7 @@ class Several:
         self.size, self.more, self.room, self.first = size, more, room, first
         self.targets = targets
         self.aims = [Aim(self.numbers, daz, values, target) for target in targets]
-        self.holds = {1} if size != 312 or more else set()
-        if room < 96:
-            self.holds.add(2)
+        self.holds = entry_conditions(self.numbers[0], values, more, size, room)
         self.returned = min(self.holds, default=0)
 
     def before(self):
@@ -3811,7 +3816,8 @@ def into_refusals():
     put = lambda places, bad: [bad if j in places else target for j, target in enumerate(good)]
     for i, bad in enumerate(BAD_FORMATS):
         # the list's: for all three; a target's: for itself
-        made.append(Several("3, the list's format", bad, [0x3c00, 0x10000] if i % 2 else [1], put([i % 3], (HALFWIDTH, {'rounding': 8})), daz=2 * (i % 3 == 0)))
+        made.append(Several("3, the list's format", bad, [0x3c00, 0x10000] if i % 2 else [1], put([i % 3], (HALFWIDTH, {'rounding': 8})),
+                            daz=2 * (i % 3 == 0), more=2 * (bad[0] == 4)))
         made.append(Several("3, a target's format", HALFWIDTH, values, put([i % 3], (bad, {'precision': 65 * (i % 2)}))))
     for i, bad in enumerate(FARTHER):
         made.append(Several("3, a target's format", HALFWIDTH, values, put([i % 3, (i + 1) % 3], (bad, {}))))
@@ -3848,6 +3854,10 @@ def into_refusals():
         made.append(Several('1, the targets', HALFWIDTH, values, good, size=size, room=(96, 95)[size % 3 == 0], first=size % 256))
     for more in (1, 3, 4, 7):
         made.append(Several('1, the values', (HALFWIDTH, (0, 1, 16))[more % 2], values, good, more=more, room=(96, 0)[more % 3 == 0]))
+    # a list of kind 4 is counted by tens, and has 3 for each target where it is whole
+    for i, (n, more) in enumerate(KIND_4_LISTS):
+        f = KIND_4_FORMATS[i % len(KIND_4_FORMATS)]
+        made.append(Several('kind 4, by tens', f, [0x3c00] * n, good, daz=i % 3, more=more, room=(96, 100, 104, 95)[i % 4], first=11 * i % 256))
     for room in (0, 24, 32, 64, 95, 97, 103, 104):
         made.append(Several('room', HALFWIDTH, values, put([room % 3], (SINGLE, {})), room=room, first=3 * room))
     made += [Several('2 before 3', (0, 1, 16), values, good, room=95), Several('2 before 4', HALFWIDTH, values, good, daz=2, room=95),
@@ -4326,13 +4336,17 @@ def within_refusals():
         add('lists', HALF, {}, [ONE] * (n % 3), None, more=(n, 0))
         add('lists', HALF, {}, [ONE], [ONE], more=(n, 0) if n % 2 else (0, n))
     for f in (HALF, (9, 5, 16), (4, 15, 80), (0, 1, 16), (0, 5, 16, 0, 7), (0, 5, 16, 2, 0), (0, 5, 16, 2 ** 28 + 1)):
-        add('allowance 0', f, {}, [ONE], allowance=0)
-        add('allowance 0', f, {'rounding': 8}, [ONE], [ONE, 1 << 40], allowance=0)
+        add('allowance 0', f, {}, [ONE], allowance=0, more=(2 * (f[0] == 4), 0))
+        add('allowance 0', f, {'rounding': 8}, [ONE], [ONE, 1 << 40], allowance=0, more=(2, 4) if f[0] == 4 else (0, 0))
     for i, f in enumerate(((4, 15, 80), (4, 11, 64), (4, 5, 16), (9, 5, 16), (15, 11, 64), (0, 1, 16), (1, 29, 64), (2, 11, 12), (3, 5, 65), (0, 28, 29))):
-        add('formats', f, {}, [1, 2], [3, 4] if i % 2 else None)
-    # ten bytes and twenty: the entry reads every kind by eights
-    add('kind 4, ten bytes', (4, 15, 80), {}, [1], more=(2, 0))
-    add('kind 4, forty bytes', (4, 15, 80), {}, [1] * 5)
+        add('formats', f, {}, [1, 2], [3, 4] if i % 2 else None, more=(4, 4 * (i % 2)) if f[0] == 4 else (0, 0))
+    # a list of kind 4 is counted by tens, and refused with 3 where it is whole
+    for i, (n, more) in enumerate(KIND_4_LISTS):
+        f = KIND_4_FORMATS[i % len(KIND_4_FORMATS)]
+        add('kind 4, by tens', f, {'rounding': i % 9}, [ONE] * n, None, i % 4, more=(more, 0), room=(144, 152, 148, 143)[i % 4])
+        add('kind 4, by tens', f, {}, [ONE] * n, [1] * n, more=(more, more), allowance=(1, 0, 2 ** 64 - 1)[i % 3])
+        add('kind 4, by tens', f, {}, [ONE] * n, [1], more=(more, 2))
+        add('kind 4, by tens', f, {}, [], [1] * n, more=(0, more))
     for i, (named, bias) in enumerate(((0, 1), (0, -1), (0, 15), (0, 2 ** 63 - 1), (2, 0), (2, 15), (15, -1), (1, 2 ** 28 + 1), (1, -2 ** 28 - 1), (1, 2 ** 63 - 1))):
         add('biases', (0, 5, 16, named, bias), {}, [ONE], [ONE] if i % 2 else None)
     for i, (name, most) in enumerate(zip(SETTINGS, RANGES)):

@@ -436,6 +436,11 @@ def stray(w, values):
     return [i for i, v in enumerate(values) if v >> w]
 
 
+def value_size(kind):
+    """The bytes of a value: ten of kind 4, of which a list has to hold whole ones also where it is refused with 3, and eight of every other kind."""
+    return 10 if kind == 4 else 8
+
+
 def conditions(kind, e, w, bias, c, summand, left, right, more, room, size=8, least=24):
     """The numbers of the table whose conditions hold. A right list makes it a
     dot; more is the number of bytes behind the values of either list, and
@@ -465,7 +470,8 @@ def ten_conditions(f, c, summand, left, right, room):
     """The same of a call with lists of bytes, by a format (kind, E, W, bias): kind 4 alone takes them by tens, and has 32 bytes of answer. Of the other
     kinds the numbers above 5 are left out."""
     kind, e, w, bias = f
-    size, least, digits = (10, 32, 64) if kind == 4 else (8, 24, max(w - e, 0))
+    size = value_size(kind)
+    least, digits = (32, 64) if kind == 4 else (24, max(w - e, 0))
     holds = {1} if len(left) % size or len(right or b'') % size else set()
     if room < least:
         holds.add(2)
@@ -703,6 +709,14 @@ def page_written(values, room):
 
 # ---- one total, several formats
 
+def entry_conditions(kind, values, more, size, room):
+    """The numbers whose conditions hold for the call itself: the list's kind, its words and some bytes more, the bytes of the targets and of the answer."""
+    holds = {1} if size != 312 or (8 * len(values) + more) % value_size(kind) else set()
+    if room < 96:
+        holds.add(2)
+    return holds
+
+
 # the numbers of a target's refusals, in the order in which they are given
 TARGET_ORDER = (3, 4, 6, 7, 17)
 
@@ -755,9 +769,9 @@ WITHIN_ORDER = (1, 2, 16, 3, 4, 5, 6, 7)
 
 
 def within_conditions(kind, e, w, named, bias, c, summand, left, right, more, room, allowance):
-    """The numbers whose conditions hold, by the five numbers of a format. The answer has 144 bytes; a value has eight, of kind 4 too, which gets 3."""
+    """The numbers whose conditions hold, by the five numbers of a format. The answer has 144 bytes."""
     bias, whole = named_bias(named, bias)
-    holds = conditions(kind, e, w, bias, c, summand, left, right, more, room, least=144)
+    holds = conditions(kind, e, w, bias, c, summand, left, right, more, room, value_size(kind), 144)
     if not whole:
         holds.add(3)
     if allowance == 0:

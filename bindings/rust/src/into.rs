@@ -139,7 +139,7 @@ impl<T: Word> Totals<T> {
     /// ```
     #[must_use]
     pub fn sum_into(&self, values: &[T], targets: &[Target]) -> Vec<Result<Record<u64>, Refusal>> {
-        let values = T::bytes(values);
+        let values = self.lent(values);
         let mut records = Vec::with_capacity(targets.len());
         for group in targets.chunks(3) {
             let entered = self.enter(&values, group);

@@ -637,8 +637,8 @@ pub fn page_write(values: &[u64], page: &mut [u8]) -> Result<usize, u64> {
 /// target is above 1, or is 0 beside a bias that is not; and 4 that `denormals_are_zero` is above 1, or
 /// a setting of the target is out of its range.
 ///
-/// Or returns 1, where the targets are not 312 bytes or the values no multiple of 8, or 2, where the
-/// answer has fewer than 96, and writes nothing.
+/// Or returns 1, where the targets are not 312 bytes or the values no multiple of 8, of kind 4 of 10, or
+/// 2, where the answer has fewer than 96, and writes nothing.
 ///
 /// Proved: the contract of `totals_sum_into` in `crates/totals/src/entry.rt`; `target-rounds`,
 /// `target-entry-refusal`, `target-entry-refused`, `target-entry-order`, `target-entry-read-back` in
@@ -704,8 +704,9 @@ pub fn sum_into(
 /// and side are 0, the passes are the allowance, and S counts units of 2^(last edge). What it says is
 /// told at [`Unfinished`](crate::Unfinished).
 ///
-/// Or returns a refusal's code and writes nothing: 1, 2 under 144 bytes of answer, 16 of an allowance
-/// of 0, and then those of [`sum`], the first that holds in this order. 3 is also kind 4.
+/// Or returns a refusal's code and writes nothing: 1, of kind 4 too of a length that is no multiple of
+/// ten, 2 under 144 bytes of answer, 16 of an allowance of 0, and then those of [`sum`], the first that
+/// holds in this order. 3 is also kind 4.
 ///
 /// Proved: the contract of `totals_sum_within` in `crates/totals/src/entry_within.rt`;
 /// `within-in-time`, `within-unfinished`, `within-near`, `within-entry-refusal`,

@@ -1,3 +1,4 @@
+use alloc::borrow::Cow;
 use alloc::vec;
 use core::marker::PhantomData;
 use core::ops::RangeBounds;
@@ -329,6 +330,16 @@ impl<T: Value> Totals<T> {
 
 /// Pence and tables are taken of words.
 impl<T: Word> Totals<T> {
+    /// A list as an entry that refuses ten bytes a value takes it: no list of words has such a value, so
+    /// none is lent, and the refusal is that of an empty list.
+    pub(crate) fn lent<'a>(&self, values: &'a [T]) -> Cow<'a, [u8]> {
+        if self.format.kind == Kind::X87 {
+            Cow::Borrowed(&[])
+        } else {
+            T::bytes(values)
+        }
+    }
+
     /// The pence of the list: a hundred times the exact sum of its values, to the nearest whole
     /// number, a half away from zero.
     ///

@@ -513,7 +513,7 @@ impl<T: Word> Totals<T> {
         values: &[T],
         allowance: u64,
     ) -> Result<Estimate<T>, Refusal> {
-        self.sum_bytes_within(summand, &T::bytes(values), allowance)
+        self.sum_bytes_within(summand, &self.lent(values), allowance)
     }
 
     /// The dot product within an allowance.
@@ -530,15 +530,15 @@ impl<T: Word> Totals<T> {
         right: &[T],
         allowance: u64,
     ) -> Result<Estimate<T>, Refusal> {
-        self.dot_bytes_within(&T::bytes(left), &T::bytes(right), allowance)
+        self.dot_bytes_within(&self.lent(left), &self.lent(right), allowance)
     }
 
     /// [`Totals::sum_of_within`] of values in bytes, eight a value, the least byte first.
     ///
     /// # Errors
     ///
-    /// [`Refusal::UnevenLength`], of a length that is not a multiple of 8; else those of
-    /// [`Totals::sum_within`].
+    /// [`Refusal::UnevenLength`], of a length that is not a multiple of 8, or of 10 in
+    /// [`Format::EXTENDED`](crate::Format::EXTENDED); else those of [`Totals::sum_within`].
     ///
     /// Proved: as of [`Totals::sum_within`].
     pub fn sum_bytes_within(
@@ -558,8 +558,8 @@ impl<T: Word> Totals<T> {
     ///
     /// # Errors
     ///
-    /// [`Refusal::UnevenLength`], of a length that is not a multiple of 8; else those of
-    /// [`Totals::dot_within`].
+    /// [`Refusal::UnevenLength`], of a length that is not a multiple of 8, or of 10 in
+    /// [`Format::EXTENDED`](crate::Format::EXTENDED); else those of [`Totals::dot_within`].
     ///
     /// Proved: as of [`Totals::dot_within`].
     pub fn dot_bytes_within(

@@ -592,8 +592,9 @@ const CONDITIONS: [Condition; 33] = [
 /// none holds has its record.
 #[test]
 fn refusals_of_each_target() {
-    let (half, values) = (Numbers::from(plain(Format::BINARY16)), [0x3c00; 4]);
-    let four = accepted(0x4400, 0, 1, EQUAL);
+    // forty bytes are whole values of eight and of ten
+    let (half, values) = (Numbers::from(plain(Format::BINARY16)), [0x3c00; 5]);
+    let five = accepted(0x4500, 0, 1, EQUAL);
     for (i, first) in CONDITIONS.iter().enumerate() {
         for second in &CONDITIONS[i..] {
             // which targets the first holds of, and which the second
@@ -605,7 +606,7 @@ fn refusals_of_each_target() {
                     values: values.to_vec(),
                 };
                 let mut targets = [half; 3];
-                let mut slots = [four; 3];
+                let mut slots = [five; 3];
                 for (condition, held) in [(second, held >> 3), (first, held & 7)] {
                     for at in 0..3 {
                         if condition.is_own && held >> at & 1 == 0 {
@@ -694,9 +695,9 @@ fn lengths_in_bytes() {
     // a stray bit, and a NaN
     let values = raw::bytes(&[0x3c00, 0x1_0000, 0x7e00]);
     for length in [0, 1, 8, 104, 208, 311, 312, 313, 320] {
-        for size in [0, 1, 7, 8, 9, 15, 16, 23, 24] {
+        for size in [0, 1, 7, 8, 9, 10, 15, 16, 20, 23, 24] {
             for room in [0, 1, 24, 32, 64, 95, 96, 97, 120] {
-                for f in [BINARY16, [4, 5, 16]] {
+                for f in [BINARY16, [4, 5, 16], [4, 15, 80]] {
                     let mut answer = [UNTOUCHED; 120];
                     let code = raw::sum_into(
                         f,
@@ -706,14 +707,15 @@ fn lengths_in_bytes() {
                         &values[..size],
                         &mut answer[..room],
                     );
-                    let wanted = if length != 312 || size % 8 != 0 {
+                    let value = if f[0] == 4 { 10 } else { 8 };
+                    let wanted = if length != 312 || size % value != 0 {
                         1
                     } else if room < 96 {
                         2
                     } else {
                         0
                     };
-                    assert_eq!(code, wanted, "{length} {size} {room}");
+                    assert_eq!(code, wanted, "{f:?} {length} {size} {room}");
                     let written = if wanted == 0 { 96 } else { 0 };
                     assert!(answer[written..].iter().all(|&byte| byte == UNTOUCHED));
                     if wanted != 0 {
@@ -739,7 +741,7 @@ fn no_eighty_bits() {
     let records = Totals::of(Format::BINARY64).sum_into(&[power(0)], &[extended, pool()[0]]);
     assert_eq!(records[0], Err(Refusal::NoSuchFormat));
     assert_eq!(slot(records[1]), accepted(0x3c00, 0, 1, EQUAL));
-    for values in [&[][..], &[1, 2, 3, 4, 5]] {
+    for values in [&[][..], &[1], &[1, 2, 3, 4], &[1, 2, 3, 4, 5]] {
         let records = Totals::of(Format::EXTENDED).sum_into(values, &pool());
         assert_eq!(records, vec![Err(Refusal::NoSuchFormat); pool().len()]);
     }

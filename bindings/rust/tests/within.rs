@@ -670,10 +670,12 @@ fn refusals_in_their_order() {
             summand = 3;
         }
         let values = if is_bad(7) { stray } else { good };
-        let list = &values.as_flattened()[..16 - usize::from(is_bad(0))];
+        // of kind 4 a value has ten bytes
+        let (whole, one) = if is_bad(3) { (10, 0) } else { (16, 8) };
+        let list = &values.as_flattened()[..whole - usize::from(is_bad(0))];
         let room = if is_bad(1) { 143 } else { 144 };
         let allowance = if is_bad(2) { 0 } else { 1 };
-        let right = if is_bad(8) { &list[..8] } else { list };
+        let right = if is_bad(8) { &list[..one] } else { list };
 
         let wanted = |of_format: bool, of_setting: bool, of_lengths: bool| match () {
             () if is_bad(0) => 1,
@@ -731,6 +733,7 @@ fn refusals_in_their_order() {
         [0, 5, 65],
         [4, 15, 80],
     ] {
+        let list = if format[0] == 4 { &list[..10] } else { list };
         for allowance in [0, 1, u64::MAX] {
             let wanted = if allowance == 0 { 16 } else { 3 };
             let code = raw::sum_within(format, None, [8; 8], 3, allowance, list, &mut answer);
@@ -740,6 +743,48 @@ fn refusals_in_their_order() {
         }
     }
     assert_eq!(answer, [UNTOUCHED; 144]);
+}
+
+/// A list of kind 4 is counted by tens: where it is whole it has 3, and else 1, before a short buffer and no allowance; a list of words has no such value.
+#[test]
+fn eighty_bits_by_tens() {
+    let zeros = [0; 100];
+    let mut answer = [UNTOUCHED; 144];
+    for (format, bias) in [
+        ([4, 15, 80], None),
+        ([4, 15, 80], Some(16383)),
+        ([4, 11, 64], None),
+    ] {
+        for size in 0..=zeros.len() {
+            let list = &zeros[..size];
+            let is_whole = size % 10 == 0;
+            for (allowance, room, whole) in
+                [(1, 144, 3), (u64::MAX, 144, 3), (0, 144, 16), (0, 143, 2)]
+            {
+                let wanted = if is_whole { whole } else { 1 };
+                let room = &mut answer[..room];
+                let given = raw::sum_within(format, bias, [0; 8], 0, allowance, list, room);
+                assert_eq!(given, wanted, "{size}");
+                let given = raw::dot_within(format, bias, [0; 8], allowance, list, &[0; 20], room);
+                assert_eq!(given, wanted, "{size}");
+                let given = raw::dot_within(format, bias, [0; 8], allowance, &[0; 20], list, room);
+                assert_eq!(given, wanted, "{size}");
+            }
+        }
+    }
+    assert_eq!(answer, [UNTOUCHED; 144]);
+
+    let extended = Totals::of(Format::EXTENDED);
+    for values in [&[][..], &[1], &[1, 2, 3, 4], &[1, 2, 3, 4, 5]] {
+        for (allowance, wanted) in [(0, Refusal::NoPassAllowed), (1, Refusal::NoSuchFormat)] {
+            assert_eq!(extended.sum_within(values, allowance), Err(wanted));
+            assert_eq!(extended.dot_within(values, &[1], allowance), Err(wanted));
+            assert_eq!(extended.dot_within(&[1], values, allowance), Err(wanted));
+        }
+    }
+    let bytes = |size| extended.sum_bytes_within(Summand::Value, &zeros[..size], 1);
+    assert_eq!(bytes(10), Err(Refusal::NoSuchFormat));
+    assert_eq!(bytes(8), Err(Refusal::UnevenLength { list: None }));
 }
 
 /// A refusal says which setting and which list.

@@ -15,6 +15,8 @@ pub mod ContributionRecord
 pub mod Standing
 pub mod Within
 pub mod WithinEntry
+-- How many bytes a value has in the entries.
+pub mod Lengths
 -- A named bias, and kind 4.
 pub mod Own
 pub mod Elsewhere

@@ -16,18 +16,20 @@ use Rattle.totals_spec.specs.Rearranged.{AsOften}
 use Rattle.totals_spec.specs.Format.{Format}
 use Rattle.totals_spec.specs.Settings.{Settings}
 use Rattle.totals_spec.specs.Totals.{Answer, refused, stray, refuse_if}
-use Rattle.totals_spec.specs.Bytes.{Entry, from_bytes, values_in, written, uneven}
+use Rattle.totals_spec.specs.Bytes.{Entry, from_bytes, values_in, written}
 use Rattle.totals_spec.specs.Table.{filled}
 use Rattle.totals_spec.specs.Words.{misnamed, format_by}
 use Rattle.further_spec.specs.Several.{target_refusal, target_answer, misnamed_at, format_at, settings_at, answer_at, slot_of, slots, not_three, short96}
 use Rattle.further_spec.specs.Several.{target_entry}
+use Rattle.further_spec.specs.Lengths.{cut_short}
 use Rattle.further_spec.specs.Conditions.{Short96}
 use Rattle.totals_spec.specs.Promises.{ReadsBack}
 use Rattle.further_spec.specs.Promises.{ReadsTargets, Target-entry-refusal, Target-entry-refused, Target-entry-order, Target-entry-read-back}
 use Rattle.totals_spec.proofs.Accepted.{cond_has}
-use Rattle.totals_spec.proofs.Exactly.{last, test, exactly, either, different, uneven-found}
+use Rattle.totals_spec.proofs.Exactly.{last, test, exactly, either, different}
 use Rattle.totals_spec.proofs.ReadBack.{bytes_back, written_back}
 use Rattle.totals_spec.proofs.Refused.{Small}
+use Rattle.further_spec.proofs.Lengths.{cut-found}
 use Rattle.further_spec.proofs.Several.{target-accepts}
 use Rattle.further_spec.proofs.Targets.{target-number, target_small, target-refused, target-seven, target-fits, target-order}
 
@@ -57,13 +59,13 @@ short-found old = ((λ t. omega (arith, ltb→lt (length old) 96 t)), λ h. lt�
 pub target-entry-refusal : Target-entry-refusal
 unfolding target_entry
 target-entry-refusal k e w named b d targets bytes old n =
-    rw (two-number (not_three targets || uneven bytes) (short96 old) old _)
-    (exactly (test (not_three targets || uneven bytes) (either (not_three targets) (uneven bytes) (different (length targets) 312) (uneven-found bytes))
+    rw (two-number (not_three targets || cut_short k bytes) (short96 old) old _)
+    (exactly (test (not_three targets || cut_short k bytes) (either (not_three targets) (cut_short k bytes) (different (length targets) 312) (cut-found k bytes))
     (test (short96 old) (short-found old) last)) n)
 
 pub target-entry-refused : Target-entry-refused
 unfolding target_entry
-target-entry-refused k e w named b d targets bytes old h = two-refused (not_three targets || uneven bytes) (short96 old) old _ h
+target-entry-refused k e w named b d targets bytes old h = two-refused (not_three targets || cut_short k bytes) (short96 old) old _ h
 
 -- ---- the order of the values
 
@@ -166,7 +168,7 @@ module _ (r : ℕ → Answer) (fits : (i : ℕ) → SlotFits (r i)) (old : List 
 pub target-entry-read-back : Target-entry-read-back
 unfolding target_entry slots
 target-entry-read-back k e w named b d targets bytes old =
-    two_back (ReadsTargets answers old) (not_three targets || uneven bytes) (short96 old) old _
+    two_back (ReadsTargets answers old) (not_three targets || cut_short k bytes) (short96 old) old _
     (λ s. three_back answers (λ i. at_slot (misnamed named b) (format_by k e w named b) d (values_in bytes) (values_in targets) (13 * i)) old
     (ltb-false (length old) 96 s))
   where

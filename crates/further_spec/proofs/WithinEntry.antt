@@ -2,7 +2,7 @@
 -- buffer.
 use mathlib.Core.Path.{◌≡◌, refl, sym, ap, ◌∙◌, subst}
 use mathlib.Core.Logic.{◌≢◌, ◌↔◌}
-use mathlib.Core.Bool.{Bool, true, false, ◌||◌, cond}
+use mathlib.Core.Bool.{Bool, true, false, not, ◌||◌, cond}
 use mathlib.Core.List.{List, ◌++◌}
 use Prim.Native.Nat.{ℕ, zero, suc, ◌+◌, ◌-◌, ◌*◌, ◌/◌, ◌%◌, ◌^◌, ◌≤◌, ◌<◌}
 use native.Mathlib.Nat.{suc-ne-zero, lt_of_lt_of_le}
@@ -17,9 +17,10 @@ use Rattle.totals_spec.specs.Basics.{Signed}
 use Rattle.totals_spec.specs.Format.{Format}
 use Rattle.totals_spec.specs.Chain.{half, signed_from}
 use Rattle.totals_spec.specs.Totals.{Answer, refused, refuse_if, sum_refusal, sum_answer, dot_refusal, dot_answer}
-use Rattle.totals_spec.specs.Bytes.{from_bytes, to_bytes, values_in, Entry, written, entered, uneven, short, sum_entry, dot_entry}
+use Rattle.totals_spec.specs.Bytes.{from_bytes, to_bytes, values_in, Entry, written, entered, short, sum_entry, dot_entry}
 use Rattle.totals_spec.specs.Words.{misnamed, format_by}
 use Rattle.further_spec.specs.Several.{signed_word}
+use Rattle.further_spec.specs.Lengths.{cut_short}
 use Rattle.further_spec.specs.Conditions.{Short144, within_entry_conditions}
 use Rattle.totals_spec.specs.Conditions.{Condition}
 use Rattle.further_spec.specs.Estimate.{Estimate, full, allowed, sum_within, dot_within, word_of, window_of, estimate_written, estimate_entered, short144}
@@ -27,10 +28,11 @@ use Rattle.further_spec.specs.Estimate.{estimate_tested, sum_within_entry, dot_w
 use Rattle.further_spec.specs.Promises.{EstimateFits, ReadsEstimate, Within-entry-refusal, Within-entry-refused, Within-entry-order}
 use Rattle.further_spec.specs.Promises.{Within-entry-read-back, Within-entry-plain}
 use Rattle.totals_spec.proofs.Accepts.{sum-accepts, dot-accepts}
-use Rattle.totals_spec.proofs.Exactly.{Tests, test, exactly, either, tested, uneven-found, misnamed-found, sum-tests, dot-tests}
+use Rattle.totals_spec.proofs.Exactly.{Tests, test, exactly, either, tested, misnamed-found, sum-tests, dot-tests}
 use Rattle.totals_spec.proofs.Fits.{sum-fits, dot-fits}
 use Rattle.totals_spec.proofs.ReadBack.{bytes_back}
 use Rattle.totals_spec.proofs.Refused.{small-number, sum_number, dot-number}
+use Rattle.further_spec.proofs.Lengths.{cut-found, offered-size}
 use Rattle.further_spec.proofs.Within.{Windowed, sum-within-number, dot-within-number, sum-within-windowed, dot-within-windowed, no-allowance}
 use Rattle.further_spec.proofs.Within.{sum-within-full, dot-within-full, within-order, within-fits}
 
@@ -231,24 +233,24 @@ within-entry-refusal = (
   λ k e w named b c u a bytes old n.
       let f = format_by k e w named b in
       let l = values_in bytes in
-      rw (tested-number (uneven bytes) (short144 old) (misnamed named b) a (sum_within f c u l a) old (sum_refusal f c u l)
+      rw (tested-number (cut_short k bytes) (short144 old) (misnamed named b) a (sum_within f c u l a) old (sum_refusal f c u l)
       (sum-within-number f c u l a) (sum_number f c u l))
-      (exactly (entry-tests (uneven bytes) old a named b (uneven-found bytes) (sum-tests f c u l)) n),
+      (exactly (entry-tests (cut_short k bytes) old a named b (cut-found k bytes) (sum-tests f c u l)) n),
   λ k e w named b c a left right old n.
       let f = format_by k e w named b in
       let xs = values_in left in
       let ys = values_in right in
-      rw (tested-number (uneven left || uneven right) (short144 old) (misnamed named b) a (dot_within f c xs ys a) old (dot_refusal f c xs ys)
+      rw (tested-number (cut_short k left || cut_short k right) (short144 old) (misnamed named b) a (dot_within f c xs ys a) old (dot_refusal f c xs ys)
       (dot-within-number f c xs ys a) (dot-number f c xs ys))
-      (exactly (entry-tests (uneven left || uneven right) old a named b
-      (either (uneven left) (uneven right) (uneven-found left) (uneven-found right)) (dot-tests f c xs ys)) n),
+      (exactly (entry-tests (cut_short k left || cut_short k right) old a named b
+      (either (cut_short k left) (cut_short k right) (cut-found k left) (cut-found k right)) (dot-tests f c xs ys)) n),
 )
 
 pub within-entry-refused : Within-entry-refused
 unfolding sum_within_entry dot_within_entry
 within-entry-refused = (
-  λ k e w named b c u a bytes old. tested-refused (uneven bytes) (short144 old) (misnamed named b) a _ old,
-  λ k e w named b c a left right old. tested-refused (uneven left || uneven right) (short144 old) (misnamed named b) a _ old,
+  λ k e w named b c u a bytes old. tested-refused (cut_short k bytes) (short144 old) (misnamed named b) a _ old,
+  λ k e w named b c a left right old. tested-refused (cut_short k left || cut_short k right) (short144 old) (misnamed named b) a _ old,
 )
 
 pub within-entry-order : Within-entry-order
@@ -272,7 +274,7 @@ within-entry-read-back = (
       let l = values_in bytes in
       let x = sum_within f c u l a in
       let h = within-fits.0 f c u l a in
-      tested-back (uneven bytes) (short144 old) (misnamed named b) a x old (λ y. ReadsEstimate y old)
+      tested-back (cut_short k bytes) (short144 old) (misnamed named b) a x old (λ y. ReadsEstimate y old)
       (λ s r. estimate-back x old
       (narrow f (sum-accepts f c u l (total-zero (eqb a 0) _ _ (sum-within-number f c u l a) r)).format.w_le h.fields.result)
       f h (sum-within-windowed f c u l a) (ltb-false (length old) 144 s)),
@@ -282,7 +284,7 @@ within-entry-read-back = (
       let ys = values_in right in
       let x = dot_within f c xs ys a in
       let h = within-fits.1 f c xs ys a in
-      tested-back (uneven left || uneven right) (short144 old) (misnamed named b) a x old (λ y. ReadsEstimate y old)
+      tested-back (cut_short k left || cut_short k right) (short144 old) (misnamed named b) a x old (λ y. ReadsEstimate y old)
       (λ s r. estimate-back x old
       (narrow f (dot-accepts f c xs ys (total-zero (eqb a 0) _ _ (dot-within-number f c xs ys a) r)).format.w_le h.fields.result)
       f h (dot-within-windowed f c xs ys a) (ltb-false (length old) 144 s)),
@@ -344,15 +346,28 @@ within-entry-plain = (
       let f = format_by k e w named b in
       let l = values_in bytes in
       let fits = sum-fits f c u l in
-      let p = plain-too (uneven bytes) (misnamed named b) a (sum_within f c u l a) (sum_answer f c u l) old
+      let p = plain-too (cut_short k bytes) (misnamed named b) a (sum_within f c u l a) (sum_answer f c u l) old
       (λ r. sum-within-full f c u l a r m) fits.flags fits.side z in
-      (p.code, p.bytes),
+      let accepted = accepted-short (cut_short k bytes) (short144 old) (misnamed named b) a (sum_within f c u l a) old z in
+      let format = (sum-accepts f c u l (total-zero (eqb a 0) _ _ (sum-within-number f c u l a) accepted.1)).format in
+      let plain =
+      subst (λ (n : ℕ). PlainToo (tested (not (eqb (length bytes % n) 0)) (short old) (sum_answer f c u l) old)
+      (sum_within_entry k e w named b c u a bytes old).buffer)
+      (offered-size k format.kind-le) p in
+      (plain.code, plain.bytes),
   λ k e w named b c a left right old z m.
       let f = format_by k e w named b in
       let xs = values_in left in
       let ys = values_in right in
       let fits = dot-fits f c xs ys in
-      let p = plain-too (uneven left || uneven right) (misnamed named b) a (dot_within f c xs ys a) (dot_answer f c xs ys) old
+      let odd = cut_short k left || cut_short k right in
+      let p = plain-too odd (misnamed named b) a (dot_within f c xs ys a) (dot_answer f c xs ys) old
       (λ r. dot-within-full f c xs ys a r m) fits.flags fits.side z in
-      (p.code, p.bytes),
+      let accepted = accepted-short odd (short144 old) (misnamed named b) a (dot_within f c xs ys a) old z in
+      let format = (dot-accepts f c xs ys (total-zero (eqb a 0) _ _ (dot-within-number f c xs ys a) accepted.1)).format in
+      let plain =
+      subst (λ (n : ℕ). PlainToo (tested (not (eqb (length left % n) 0) || not (eqb (length right % n) 0)) (short old) (dot_answer f c xs ys) old)
+      (dot_within_entry k e w named b c a left right old).buffer)
+      (offered-size k format.kind-le) p in
+      (plain.code, plain.bytes),
 )

@@ -1,12 +1,18 @@
 -- The conditions of the refusals of targets, contributions and answers within an allowance (document 02, A.12 to A.14), as statements about numbers. The
 -- definitions of the answers work with tests, which find just these (`Promises.antt`); `First` of `totals_spec` is the first that holds.
-use Rattle.std.specs.Prelude.{◌≡◌, ◌≢◌, ◌⊎◌, List, [], ◌∷◌, ◌++◌, ℕ, ◌^◌, ◌≤◌, ◌<◌, length, ℤ, T}
+use Rattle.std.specs.Prelude.{◌≡◌, ◌≢◌, ◌⊎◌, List, [], ◌∷◌, ◌++◌, ℕ, ◌%◌, ◌^◌, ◌≤◌, ◌<◌, length, ℤ, T}
 use Rattle.totals_spec.specs.Format.{Format, digits}
 use Rattle.totals_spec.specs.Settings.{Settings}
 use Rattle.totals_spec.specs.Decode.{decode, is_number}
 use Rattle.totals_spec.specs.Totals.{limit, sum_answer}
 use Rattle.totals_spec.specs.Allowed.{Ordered}
-use Rattle.totals_spec.specs.Conditions.{Uneven, Misnamed, BadFormat, BadSettings, TooMany, Stray, SomeNoNumber, Condition}
+use Rattle.totals_spec.specs.Conditions.{Misnamed, BadFormat, BadSettings, TooMany, Stray, SomeNoNumber, Condition}
+use Rattle.further_spec.specs.Lengths.{value_size}
+
+-- ---- of the byte entries: 1, a length in bytes that is no multiple of the value's, which is ten of kind 4, and eight of every other kind
+
+abbrev pub CutShort : (kind : ℕ) → List ℕ → Type 0
+CutShort k bytes = length bytes % value_size k ≢ 0
 
 -- ---- of a target: 4, the list's denormals-are-zero outside its range; 17, more digits than the list's format has
 -- of the entry: 1, targets of another length than 312 bytes; 2, an answer buffer under 96
@@ -73,9 +79,9 @@ target_conditions f d l t c =
     ∷ (17, MoreDigits f t ⊎ SomeNoNumber f l)
     ∷ []
 
-abbrev pub target_entry_conditions : (targets bytes old : List ℕ) → List Condition
-target_entry_conditions targets bytes old =
-    (1, NotThree targets ⊎ Uneven bytes)
+abbrev pub target_entry_conditions : (kind : ℕ) → (targets bytes old : List ℕ) → List Condition
+target_entry_conditions k targets bytes old =
+    (1, NotThree targets ⊎ CutShort k bytes)
     ∷ (2, Short96 old)
     ∷ []
 
@@ -97,8 +103,8 @@ abbrev pub within_conditions : ℕ → List Condition → List Condition
 within_conditions k total = (16, NoAllowance k) ∷ total
 
 abbrev pub within_entry_conditions : Type 0 → List ℕ → (allowance named : ℕ) → ℤ → List Condition → List Condition
-within_entry_conditions uneven old k named b total =
-    (1, uneven)
+within_entry_conditions cut old k named b total =
+    (1, cut)
     ∷ (2, Short144 old)
     ∷ (16, NoAllowance k)
     ∷ (3, Misnamed named b)

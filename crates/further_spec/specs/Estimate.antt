@@ -8,8 +8,9 @@ use Rattle.totals_spec.specs.Settings.{Settings, summand_of}
 use Rattle.totals_spec.specs.Terms.{Term, top_of}
 use Rattle.totals_spec.specs.Chain.{Look, look_at, half, Boundary, no_boundary, boundary, Step, done, next, sum_of, pass}
 use Rattle.totals_spec.specs.Totals.{Answer, refused, is_square, sum_terms, sum_answer, dot_terms, dot_answer}
-use Rattle.totals_spec.specs.Bytes.{to_bytes, values_in, Entry, uneven}
+use Rattle.totals_spec.specs.Bytes.{to_bytes, values_in, Entry}
 use Rattle.totals_spec.specs.Words.{misnamed, format_by}
+use Rattle.further_spec.specs.Lengths.{cut_short}
 
 -- ---- where a pass of a chain stands: the boundary that it is compared against, and its edge. A pass that sets a boundary is not compared against it
 
@@ -127,8 +128,7 @@ estimate_entered e old =
 abbrev pub short144 : List ℕ → Bool
 short144 old = ltb (length old) 144
 
--- by the entry's own tests: 1, 2, then 16, then a bias that is not named as a whole, and then the answer's own. A value is eight bytes for every kind, as
--- kind 4 gets 3 here
+-- by the entry's own tests: 1, 2, then 16, then a bias that is not named as a whole, and then the answer's own, which of kind 4 is 3
 abbrev pub estimate_tested : (odd short bad : Bool) → ℕ → Estimate → List ℕ → Entry
 estimate_tested odd short bad k x old =
     cond odd (record { code = 1; buffer = old })
@@ -138,12 +138,12 @@ estimate_tested odd short bad k x old =
 -- THE ENTRY of a sum within an allowance
 unfoldable pub sum_within_entry : (kind exponent_bits width named : ℕ) (bias : ℤ) → Settings → (summand allowance : ℕ) → (bytes old : List ℕ) → Entry
 sum_within_entry k e w named b c u n bytes old =
-    estimate_tested (uneven bytes) (short144 old) (misnamed named b) n (sum_within (format_by k e w named b) c u (values_in bytes) n) old
+    estimate_tested (cut_short k bytes) (short144 old) (misnamed named b) n (sum_within (format_by k e w named b) c u (values_in bytes) n) old
 
 -- THE ENTRY of a dot within an allowance
 unfoldable pub dot_within_entry : (kind exponent_bits width named : ℕ) (bias : ℤ) → Settings → (allowance : ℕ) → (left right old : List ℕ) → Entry
 dot_within_entry k e w named b c n left right old =
-    estimate_tested (uneven left || uneven right) (short144 old) (misnamed named b) n
+    estimate_tested (cut_short k left || cut_short k right) (short144 old) (misnamed named b) n
     (dot_within (format_by k e w named b) c (values_in left) (values_in right) n) old
 
 -- ---- what the promises speak of

@@ -172,15 +172,22 @@ estimate_entry_examples =
     (replicate 9 0 ++ (1 ∷ replicate 6 0 ++ (2 ∷ replicate 7 0 ++ (0xb8 ∷ 0xf2 ∷ replicate 6 0xff ++ (0x20 ∷ replicate 7 0
     ++ (0x2d ∷ 0xf8 ∷ replicate 6 0xff ++ replicate 96 0))))))
     (sum_within_entry 0 13 18 1 (pos 9000) (with_rounding 0) 2 2 (value_bytes (0x1f410 ∷ 0x5f0 ∷ [])) (replicate 144 7))
-    -- refused: 1 before 2, 2 before 16, 16 before a bias beside none, this before 4; 7 with its place; 5 of a dot; kind 4 with ten bytes, and with sixteen
+    -- refused: 1 before 2, 2 before 16, 16 before a bias beside none, this before 4; 7 with its place; 5 of a dot
     && entered_as 1 (replicate 143 7) (sum_within_entry 0 11 64 0 (pos 0) (with_rounding 0) 0 0 (replicate 7 0) (replicate 143 7))
     && entered_as 2 (replicate 143 7) (entry64 0 l (replicate 143 7))
     && entered_as 16 (replicate 144 7) (sum_within_entry 0 11 64 0 (pos 1) (with_rounding 0) 0 0 [] (replicate 144 7))
     && entered_as 3 (replicate 144 7) (sum_within_entry 0 11 64 0 (pos 1) (with_rounding 8) 0 1 [] (replicate 144 7))
     && entered_as (7 + 256) (replicate 144 7) (sum_within_entry 0 5 16 0 (pos 0) (with_rounding 0) 0 1 (value_bytes (0 ∷ 0x10000 ∷ [])) (replicate 144 7))
     && entered_as 5 (replicate 144 7) (dot_within_entry 0 11 64 0 (pos 0) (with_rounding 0) 1 [] (replicate 8 0) (replicate 144 7))
-    && entered_as 1 (replicate 144 7) (sum_within_entry 4 15 80 0 (pos 0) (with_rounding 0) 0 1 (replicate 10 0) (replicate 144 7))
-    && entered_as 3 (replicate 144 7) (sum_within_entry 4 15 80 0 (pos 0) (with_rounding 0) 0 1 (replicate 16 0) (replicate 144 7))
+    -- of kind 4 a value has ten bytes: one, four and none get 3, with a bias too, and sixteen bytes 1, of either list; 2, 16 and then 3
+    && entered_as 3 (replicate 144 7) (sum_within_entry 4 15 80 0 (pos 0) (with_rounding 0) 0 1 (replicate 10 0) (replicate 144 7))
+    && entered_as 3 (replicate 144 7) (sum_within_entry 4 15 80 1 (pos 16383) (with_rounding 0) 0 1 (replicate 40 0) (replicate 144 7))
+    && entered_as 3 (replicate 144 7) (sum_within_entry 4 11 64 0 (pos 0) (with_rounding 0) 0 1 [] (replicate 144 7))
+    && entered_as 1 (replicate 144 7) (sum_within_entry 4 15 80 0 (pos 0) (with_rounding 0) 0 1 (replicate 16 0) (replicate 144 7))
+    && entered_as 2 (replicate 143 7) (sum_within_entry 4 15 80 0 (pos 0) (with_rounding 0) 0 0 (replicate 10 0) (replicate 143 7))
+    && entered_as 16 (replicate 144 7) (sum_within_entry 4 15 80 0 (pos 0) (with_rounding 0) 0 0 (replicate 10 0) (replicate 144 7))
+    && entered_as 3 (replicate 144 7) (dot_within_entry 4 15 80 0 (pos 0) (with_rounding 0) 1 (replicate 10 0) (replicate 20 0) (replicate 144 7))
+    && entered_as 1 (replicate 144 7) (dot_within_entry 4 15 80 0 (pos 0) (with_rounding 0) 1 (replicate 10 0) (replicate 8 0) (replicate 144 7))
 
 -- ==== THE THEOREMS: the tests compute to true
 

@@ -11,21 +11,23 @@ use Rattle.totals_spec.specs.Chain.{half, signed_from, chain}
 use Rattle.totals_spec.specs.Totals.{limit, stray, Answer, refused, sum_rounded, on_grid, towards_negative, is_square, pairs, sum_refusal}
 use Rattle.totals_spec.specs.Totals.{sum_terms, sum_answer}
 use Rattle.totals_spec.specs.Totals.{dot_refusal, dot_terms, dot_answer}
-use Rattle.totals_spec.specs.Bytes.{from_bytes, values_in, uneven, sum_entry, dot_entry}
+use Rattle.totals_spec.specs.Bytes.{from_bytes, values_in, sum_entry, dot_entry}
 use Rattle.totals_spec.specs.Rearranged.{AsOften, same_pair, holds_nan}
 use Rattle.totals_spec.specs.Limit.{most_passes}
 use Rattle.totals_spec.specs.Side.{side_of}
-use Rattle.totals_spec.specs.Conditions.{Uneven, First, sum_conditions, dot_conditions}
-use Rattle.further_spec.specs.Conditions.{target_conditions, target_entry_conditions, FiniteIn, Reaches, contribution_conditions, contribution_entry_conditions}
+use Rattle.totals_spec.specs.Conditions.{First, sum_conditions, dot_conditions}
+use Rattle.further_spec.specs.Lengths.{cut_short}
+use Rattle.further_spec.specs.Conditions.{CutShort, target_conditions, target_entry_conditions, FiniteIn, Reaches, contribution_conditions, contribution_entry_conditions}
 use Rattle.further_spec.specs.Conditions.{within_conditions, within_entry_conditions}
 use Rattle.totals_spec.specs.Places.{StrayAt, DotStrayAt}
 use Rattle.totals_spec.specs.Ranges.{at_most}
 use Rattle.totals_spec.specs.Allowed.{Ordered}
 use Rattle.further_spec.specs.Contribution.{rank_of, number_at, first_rank, last_rank, refused_contribution, contribution_refusal, contribution}
 use Rattle.further_spec.specs.Contribution.{contribution_entry}
+use Rattle.totals_spec.specs.Table.{filled}
 use Rattle.totals_spec.specs.Words.{misnamed, format_by}
 use Rattle.further_spec.specs.Several.{reading_with, with_reading, unrounded_total, exact_total, target_grid, on_target, rounded_into, printed, target_refusal}
-use Rattle.further_spec.specs.Several.{signed_word, target_answer, answer_at, target_entry}
+use Rattle.further_spec.specs.Several.{signed_word, target_answer, answer_at, slot_of, target_entry}
 use Rattle.further_spec.specs.Estimate.{Estimate, full, pass_of, position_of, sum_within, dot_within, sum_within_entry, dot_within_entry, apart, shown, widest}
 use Rattle.further_spec.specs.SeveralExamples.{target_examples, target_entry_examples}
 use Rattle.further_spec.specs.ContributionExamples.{contribution_examples, wide_contributions, refused_contributions, contribution_entries}
@@ -145,7 +147,7 @@ Target-limit = (f : Format) (d : ℕ) (l : List ℕ) (t : Format) (c : Settings)
 -- the entry of three targets: it returns the number of the first condition that holds, 1 or 2, and 0 exactly where neither does
 abbrev pub Target-entry-refusal : Type 0
 Target-entry-refusal = (k e w named : ℕ) (b : ℤ) (d : ℕ) (targets bytes old : List ℕ) (n : ℕ)
-    → (target_entry k e w named b d targets bytes old).code ≡ n ↔ First (target_entry_conditions targets bytes old) n
+    → (target_entry k e w named b d targets bytes old).code ≡ n ↔ First (target_entry_conditions k targets bytes old) n
 
 -- a refused entry writes nothing
 abbrev pub Target-entry-refused : Type 0
@@ -154,7 +156,7 @@ Target-entry-refused = (k e w named : ℕ) (b : ℤ) (d : ℕ) (targets bytes ol
 
 -- a rearrangement of the values in its bytes, none of which has a stray bit: the number returned and the buffer are alike
 abbrev pub Target-entry-order : Type 0
-Target-entry-order = (k e w named : ℕ) (b : ℤ) (d : ℕ) (targets b₁ b₂ old : List ℕ) → uneven b₁ ≡ false → uneven b₂ ≡ false
+Target-entry-order = (k e w named : ℕ) (b : ℤ) (d : ℕ) (targets b₁ b₂ old : List ℕ) → cut_short k b₁ ≡ false → cut_short k b₂ ≡ false
     → AsOften eqb (values_in b₁) (values_in b₂) → any (stray (format_by k e w named b)) (values_in b₁) ≡ false
     → target_entry k e w named b d targets b₁ old ≡ target_entry k e w named b d targets b₂ old
 
@@ -384,10 +386,10 @@ abbrev pub Within-entry-refusal : Type 0
 Within-entry-refusal =
     ((k e w named : ℕ) (b : ℤ) (c : Settings) (u a : ℕ) (bytes old : List ℕ) (n : ℕ)
     → (sum_within_entry k e w named b c u a bytes old).code % 256 ≡ n
-    ↔ First (within_entry_conditions (Uneven bytes) old a named b (sum_conditions (format_by k e w named b) c u (values_in bytes))) n)
+    ↔ First (within_entry_conditions (CutShort k bytes) old a named b (sum_conditions (format_by k e w named b) c u (values_in bytes))) n)
     × ((k e w named : ℕ) (b : ℤ) (c : Settings) (a : ℕ) (left right old : List ℕ) (n : ℕ)
     → (dot_within_entry k e w named b c a left right old).code % 256 ≡ n
-    ↔ First (within_entry_conditions (Uneven left ⊎ Uneven right) old a named b
+    ↔ First (within_entry_conditions (CutShort k left ⊎ CutShort k right) old a named b
     (dot_conditions (format_by k e w named b) c (values_in left) (values_in right))) n)
 
 -- a refused entry writes nothing
@@ -402,11 +404,11 @@ Within-entry-refused =
 abbrev pub Within-entry-order : Type 0
 Within-entry-order =
     ((k e w named : ℕ) (b : ℤ) (c : Settings) (u a : ℕ) (b₁ b₂ old : List ℕ) → let f = format_by k e w named b in
-    uneven b₁ ≡ false → uneven b₂ ≡ false
+    cut_short k b₁ ≡ false → cut_short k b₂ ≡ false
     → AsOften eqb (values_in b₁) (values_in b₂) → sum_refusal f c u (values_in b₁) ≡ 0 → holds_nan f (values_in b₁) ≡ false
     → sum_within_entry k e w named b c u a b₁ old ≡ sum_within_entry k e w named b c u a b₂ old)
     × ((k e w named : ℕ) (b : ℤ) (c : Settings) (a : ℕ) (x y x' y' old : List ℕ) → let f = format_by k e w named b in
-    (uneven x || uneven y) ≡ false → (uneven x' || uneven y') ≡ false
+    (cut_short k x || cut_short k y) ≡ false → (cut_short k x' || cut_short k y') ≡ false
     → length (values_in x') ≡ length (values_in y') → AsOften same_pair (pairs (values_in x) (values_in y)) (pairs (values_in x') (values_in y'))
     → dot_refusal f c (values_in x) (values_in y) ≡ 0 → holds_nan f (values_in x) ≡ false → holds_nan f (values_in y) ≡ false
     → dot_within_entry k e w named b c a x y old ≡ dot_within_entry k e w named b c a x' y' old)
@@ -464,8 +466,16 @@ Named-own = (f : Format) → AnswerAlike (naming_own f) (naming_none f)
 
 -- ==== eighty-bit archives (document 02, A.10)
 
--- an answer within an allowance gets 3 in kind 4
+-- an answer within an allowance gets 3 in kind 4; so do whole values of ten bytes through its entries, and each target of a list of them
 abbrev pub Extended-elsewhere : Type 0
-Extended-elsewhere = (f : Format) → f.kind ≡ 4
+Extended-elsewhere =
+    ((f : Format) → f.kind ≡ 4
     → ((c : Settings) (u : ℕ) (l : List ℕ) (k : ℕ) → 0 < k → sum_within f c u l k ≡ full (refused 3 0))
-    × ((c : Settings) (xs ys : List ℕ) (k : ℕ) → 0 < k → dot_within f c xs ys k ≡ full (refused 3 0))
+    × ((c : Settings) (xs ys : List ℕ) (k : ℕ) → 0 < k → dot_within f c xs ys k ≡ full (refused 3 0)))
+    × ((e w named : ℕ) (b : ℤ) (c : Settings) (u a : ℕ) (bytes old : List ℕ) → length bytes % 10 ≡ 0 → 144 ≤ length old → 0 < a
+    → sum_within_entry 4 e w named b c u a bytes old ≡ record { code = 3; buffer = old })
+    × ((e w named : ℕ) (b : ℤ) (c : Settings) (a : ℕ) (left right old : List ℕ) → length left % 10 ≡ 0 → length right % 10 ≡ 0
+    → 144 ≤ length old → 0 < a → dot_within_entry 4 e w named b c a left right old ≡ record { code = 3; buffer = old })
+    × ((e w named : ℕ) (b : ℤ) (d : ℕ) (targets bytes old : List ℕ) → length targets ≡ 312 → length bytes % 10 ≡ 0 → 96 ≤ length old
+    → let three = slot_of (refused 3 0) in
+    target_entry 4 e w named b d targets bytes old ≡ record { code = 0; buffer = filled (three ++ (three ++ three)) old })

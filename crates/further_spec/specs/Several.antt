@@ -14,10 +14,11 @@ use Rattle.totals_spec.specs.Side.{side_of}
 use Rattle.totals_spec.specs.Totals.{Answer, refused, special, sum_rounded, towards_negative, zero_sign, stray, limit, refuse_if}
 use Rattle.totals_spec.specs.Totals.{first_index, answered, sum_terms}
 use Rattle.totals_spec.specs.Settled.{settled}
-use Rattle.totals_spec.specs.Bytes.{to_bytes, values_in, Entry, written, uneven}
+use Rattle.totals_spec.specs.Bytes.{to_bytes, values_in, Entry, written}
 use Rattle.totals_spec.specs.Pence.{not_number}
 use Rattle.totals_spec.specs.Table.{filled}
 use Rattle.totals_spec.specs.Words.{misnamed, format_by}
+use Rattle.further_spec.specs.Lengths.{cut_short}
 
 -- ---- reading the list
 
@@ -131,7 +132,7 @@ short96 old = ltb (length old) 96
 -- THE ENTRY of three targets: 1 and 2 refuse the call, which then writes nothing; any other refusal is its target's own, and stands in its 32 bytes
 unfoldable pub target_entry : (kind exponent_bits width named : ℕ) (bias : ℤ) (denormals_are_zero : ℕ) (targets bytes old : List ℕ) → Entry
 target_entry k e w named b d targets bytes old =
-    cond (not_three targets || uneven bytes) (record { code = 1; buffer = old })
+    cond (not_three targets || cut_short k bytes) (record { code = 1; buffer = old })
     (cond (short96 old) (record { code = 2; buffer = old })
     (record { code = 0; buffer = filled (slots (misnamed named b) (format_by k e w named b) d (values_in bytes) (values_in targets)) old }))
 

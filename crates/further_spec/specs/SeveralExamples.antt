@@ -127,6 +127,13 @@ target_entry_examples =
     && enters 1 (replicate 95 7) (target_entry 0 5 16 0 (pos 0) 0 (take 311 three_targets) l (replicate 95 7))
     && enters 1 (replicate 96 7) (target_entry 0 5 16 0 (pos 0) 0 three_targets (replicate 7 0) (replicate 96 7))
     && enters 2 (replicate 95 7) (target_entry 0 5 16 0 (pos 0) 0 three_targets l (replicate 95 7))
+    -- a list of kind 4: one value of ten bytes, and four, have 3 for all; sixteen bytes 1, and a buffer of 95 bytes 2
+    && enters 0 (refused_slot 3 0 ++ (refused_slot 3 0 ++ refused_slot 3 0))
+    (target_entry 4 15 80 0 (pos 0) 0 three_targets (replicate 10 0) (replicate 96 7))
+    && enters 0 (refused_slot 3 0 ++ (refused_slot 3 0 ++ refused_slot 3 0))
+    (target_entry 4 15 80 1 (pos 16383) 0 three_targets (replicate 40 0) (replicate 96 7))
+    && enters 1 (replicate 96 7) (target_entry 4 15 80 0 (pos 0) 0 three_targets (replicate 16 0) (replicate 96 7))
+    && enters 2 (replicate 95 7) (target_entry 4 15 80 0 (pos 0) 0 three_targets (replicate 10 0) (replicate 95 7))
 
 -- ==== THE THEOREMS: the tests compute to true
 

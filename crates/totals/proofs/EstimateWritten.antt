@@ -21,12 +21,13 @@ use Rattle.totals_spec.specs.Chain.{half, signed_from}
 use Rattle.totals_spec.specs.Format.{Format}
 use Rattle.totals_spec.specs.Settings.{Settings}
 use Rattle.totals_spec.specs.Totals.{refused, refuse_if, sum_answer, dot_answer}
-use Rattle.totals_spec.specs.Bytes.{to_bytes, uneven, values_in, Entry}
+use Rattle.totals_spec.specs.Bytes.{to_bytes, values_in, Entry}
 use Rattle.totals_spec.specs.Words.{misnamed, format_by}
 use Rattle.totals_spec.specs.Pages.{value_bytes}
 use Rattle.totals_spec.proofs.Fields.{two-numbers}
 use Rattle.totals_spec.proofs.Refused.{Small, sum-small, dot-small}
 use Rattle.totals_spec.proofs.Pages.{value-bytes-length}
+use Rattle.further_spec.specs.Lengths.{cut_short}
 use Rattle.further_spec.specs.Estimate.{Estimate, full, within, unfinished_at, sum_within, dot_within, word_of, window_of, estimate_written}
 use Rattle.further_spec.specs.Estimate.{estimate_entered, estimate_tested, sum_within_entry, dot_within_entry}
 use Rattle.further_spec.proofs.Within.{Windowed, sum-within-windowed, dot-within-windowed, within-fits}
@@ -301,40 +302,40 @@ dot-within-fits f c xs ys k =
 -- ---- the two entries
 
 module _ (k e w named : ℕ) (b : ℤ) (c : Settings) (u n : ℕ) (bytes old : List ℕ) where
-  pub sum-refused : {t : ℕ} → t ≡ within_numbers (uneven bytes) (length old) n → t ≢ 0 → Enters (sum_within_entry k e w named b c u n bytes old) t old
+  pub sum-refused : {t : ℕ} → t ≡ within_numbers (cut_short k bytes) (length old) n → t ≢ 0 → Enters (sum_within_entry k e w named b c u n bytes old) t old
   unfolding sum_within_entry
-  sum-refused = within-refused (uneven bytes) (length old) n (misnamed named b) _ old
+  sum-refused = within-refused (cut_short k bytes) (length old) n (misnamed named b) _ old
 
-  module _ (is : 0 ≡ within_numbers (uneven bytes) (length old) n) where
+  module _ (is : 0 ≡ within_numbers (cut_short k bytes) (length old) n) where
     pub sum-misnamed : misnamed named b ≡ true → Enters (sum_within_entry k e w named b c u n bytes old) 3 old
     unfolding sum_within_entry
-    sum-misnamed = within-misnamed (uneven bytes) (length old) n (misnamed named b) _ old is
+    sum-misnamed = within-misnamed (cut_short k bytes) (length old) n (misnamed named b) _ old is
 
     module _ {x : Estimate} (i : x ≡ sum_within (format_by k e w named b) c u (values_in bytes) n) where
       pub sum-asks : FitsEstimate x × (144 ≤ length old)
-      sum-asks = (rw i (sum-within-fits _ _ _ _ _), within-room (uneven bytes) (length old) n (misnamed named b) x old is)
+      sum-asks = (rw i (sum-within-fits _ _ _ _ _), within-room (cut_short k bytes) (length old) n (misnamed named b) x old is)
 
       pub sum-entered : misnamed named b ≡ false → (v : ℕ) (l : List ℕ) → Enters (estimate_entered x old) v l
           → Enters (sum_within_entry k e w named b c u n bytes old) v l
       unfolding sum_within_entry
-      sum-entered z v l h = within-enters (uneven bytes) (length old) n (misnamed named b) _ old is z v l (rw i at h)
+      sum-entered z v l h = within-enters (cut_short k bytes) (length old) n (misnamed named b) _ old is z v l (rw i at h)
 
 module _ (k e w named : ℕ) (b : ℤ) (c : Settings) (n : ℕ) (left right old : List ℕ) where
-  pub dot-refused : {t : ℕ} → t ≡ within_numbers (uneven left || uneven right) (length old) n → t ≢ 0
+  pub dot-refused : {t : ℕ} → t ≡ within_numbers (cut_short k left || cut_short k right) (length old) n → t ≢ 0
       → Enters (dot_within_entry k e w named b c n left right old) t old
   unfolding dot_within_entry
-  dot-refused = within-refused (uneven left || uneven right) (length old) n (misnamed named b) _ old
+  dot-refused = within-refused (cut_short k left || cut_short k right) (length old) n (misnamed named b) _ old
 
-  module _ (is : 0 ≡ within_numbers (uneven left || uneven right) (length old) n) where
+  module _ (is : 0 ≡ within_numbers (cut_short k left || cut_short k right) (length old) n) where
     pub dot-misnamed : misnamed named b ≡ true → Enters (dot_within_entry k e w named b c n left right old) 3 old
     unfolding dot_within_entry
-    dot-misnamed = within-misnamed (uneven left || uneven right) (length old) n (misnamed named b) _ old is
+    dot-misnamed = within-misnamed (cut_short k left || cut_short k right) (length old) n (misnamed named b) _ old is
 
     module _ {x : Estimate} (i : x ≡ dot_within (format_by k e w named b) c (values_in left) (values_in right) n) where
       pub dot-asks : FitsEstimate x × (144 ≤ length old)
-      dot-asks = (rw i (dot-within-fits _ _ _ _ _), within-room (uneven left || uneven right) (length old) n (misnamed named b) x old is)
+      dot-asks = (rw i (dot-within-fits _ _ _ _ _), within-room (cut_short k left || cut_short k right) (length old) n (misnamed named b) x old is)
 
       pub dot-entered : misnamed named b ≡ false → (v : ℕ) (l : List ℕ) → Enters (estimate_entered x old) v l
           → Enters (dot_within_entry k e w named b c n left right old) v l
       unfolding dot_within_entry
-      dot-entered z v l h = within-enters (uneven left || uneven right) (length old) n (misnamed named b) _ old is z v l (rw i at h)
+      dot-entered z v l h = within-enters (cut_short k left || cut_short k right) (length old) n (misnamed named b) _ old is z v l (rw i at h)

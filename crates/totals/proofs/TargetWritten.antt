@@ -10,9 +10,10 @@ use lib.ListN.{length}
 use borrow.Author.Tests.{eq-eqb, ne_eqb}
 use Rattle.totals_spec.specs.Format.{Format}
 use Rattle.totals_spec.specs.Totals.{Answer, refused}
-use Rattle.totals_spec.specs.Bytes.{to_bytes, values_in, uneven, written}
+use Rattle.totals_spec.specs.Bytes.{to_bytes, values_in, written}
 use Rattle.totals_spec.specs.Table.{filled}
 use Rattle.totals_spec.specs.Words.{misnamed, format_by}
+use Rattle.further_spec.specs.Lengths.{cut_short}
 use Rattle.further_spec.specs.Several.{misnamed_at, format_at, settings_at, answer_at, slot_of, slots, target_entry}
 use Rattle.totals_spec.proofs.Accepted.{cond_has}
 use Rattle.further_spec.proofs.Targets.{target_small, target-fits}
@@ -113,14 +114,14 @@ module _ (k e w named : ℕ) (b : ℤ) (d : ℕ) (targets bytes old : List ℕ) 
   not_three h = rw (ne_eqb (length targets) 312 h) (record { code_is = refl; buffer-is = refl })
 
   module _ (three : length targets ≡ 312) where
-    pub targets-turned : (r : Refusal) → number_of r ≡ length_numbers (uneven bytes) (length old) 96
+    pub targets-turned : (r : Refusal) → number_of r ≡ length_numbers (cut_short k bytes) (length old) 96
         → Enters (target_entry k e w named b d targets bytes old) (number_of r) old
     unfolding target_entry
-    targets-turned r h = rw (eq-eqb (length targets) 312 three) (turned-away (uneven bytes) (length old) 96 _ old r h)
+    targets-turned r h = rw (eq-eqb (length targets) 312 three) (turned-away (cut_short k bytes) (length old) 96 _ old r h)
 
-    pub targets-enter : 0 ≡ length_numbers (uneven bytes) (length old) 96 → (new : List ℕ)
+    pub targets-enter : 0 ≡ length_numbers (cut_short k bytes) (length old) 96 → (new : List ℕ)
         → new ≡ filled (slots (misnamed named b) (format_by k e w named b) d (values_in bytes) (values_in targets)) old
         → Enters (target_entry k e w named b d targets bytes old) 0 new
     unfolding target_entry
     targets-enter h new is =
-        rw (eq-eqb (length targets) 312 three) (let-through (uneven bytes) (length old) 96 _ old h 0 new (record { code_is = refl; buffer-is = is }))
+        rw (eq-eqb (length targets) 312 three) (let-through (cut_short k bytes) (length old) 96 _ old h 0 new (record { code_is = refl; buffer-is = is }))

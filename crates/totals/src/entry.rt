@@ -5,6 +5,7 @@ ghost use Rattle.totals_spec.specs.Bytes.{values_in};
 ghost use Rattle.totals_spec.specs.Extended as ten;
 ghost use Rattle.totals_spec.specs.Pages as pages;
 ghost use Rattle.further_spec.specs.Several as several;
+ghost use Rattle.further_spec.specs.Lengths as kinds;
 ghost use Rattle.totals_spec.specs.Totals as totals;
 ghost use Rattle.totals_spec.specs.Words as words;
 ghost use Rattle.format.specs.Joined.{format_of, settings_of};
@@ -77,11 +78,23 @@ fn enter_tens(t: Wide, answer: &mut [u8])
 
 // Whether one of two lists ends within a value of so many bytes.
 #[inline(always)]
-pub(crate) fn either_cut(left: &[u8], right: &[u8], size: usize) -> bool
+fn either_cut(left: &[u8], right: &[u8], size: usize) -> bool
     requires { 0 < size }
     ensures { result ≡ (not (eqb (length left.now % size) 0) || not (eqb (length right.now % size) 0)) }
 {
     left.len() % size != 0 || right.len() % size != 0
+}
+
+// Whether a list ends within a value, which has ten bytes in kind 4 and eight in every other.
+#[inline(always)]
+pub(crate) fn cut_short(kind: u64, values: &[u8]) -> bool
+    ensures { result ≡ kinds.cut_short kind values.now }
+{
+    if kind == 4 {
+        values.len() % 10 != 0
+    } else {
+        values.len() % 8 != 0
+    }
 }
 
 // Refusals 1 and 2 of an entry: whether a list ends within a value, and the answer's bytes, of which some are needed.
@@ -535,7 +548,7 @@ pub fn totals_sum_into(
     if targets.len() != 312 {
         return Refusal::UnevenLength.number();
     }
-    if let Err(refusal) = lengths(values.len() % 8 != 0, answer.len(), 96) {
+    if let Err(refusal) = lengths(cut_short(kind, values), answer.len(), 96) {
         return refusal.number();
     }
     let r = answers(

@@ -1,7 +1,8 @@
 // The byte entries of a sum and of a dot within an allowance of passes: eighteen words are written, the last twelve of them S.
-ghost use Rattle.std.specs.Prelude.{◌≡◌, ◌+◌, ◌*◌, ◌≤◌, length};
+ghost use Rattle.std.specs.Prelude.{◌≡◌, ◌||◌, ◌+◌, ◌*◌, ◌≤◌, length};
 ghost use Rattle.totals_spec.specs.Pages.{value_bytes};
 ghost use Rattle.further_spec.specs.Estimate as spec;
+ghost use Rattle.further_spec.specs.Lengths as kinds;
 ghost use Rattle.further_spec.proofs.Within.{Windowed};
 ghost use Rattle.limbs.specs.Value.{value};
 ghost use Rattle.reduction.specs.Answered.{answer_of};
@@ -10,7 +11,7 @@ ghost use Rattle.totals.specs.Entered.{Enters, settings_from};
 ghost use Rattle.totals.specs.Refusal.{refusal_number};
 ghost use Rattle.totals.specs.Estimates.{estimate_of, Fits, FitsEstimate, Writes, within_numbers};
 
-use crate::entry::{code, either_cut, lengths, named_format, settings};
+use crate::entry::{code, cut_short, lengths, named_format, settings};
 use crate::estimate::{Estimate, Seen, dot_bytes_within, sum_bytes_within};
 use crate::refusal::{Refusal, refuse_if};
 use limbs_window::negate;
@@ -111,6 +112,14 @@ fn tested(cut: bool, room: usize, allowance: u64) -> Result<(), Refusal>
     refuse_if(allowance == 0, Refusal::NoAllowance)
 }
 
+// Whether one of two lists ends within a value.
+#[inline(always)]
+fn either_cut_short(kind: u64, left: &[u8], right: &[u8]) -> bool
+    ensures { result ≡ (kinds.cut_short kind left.now || kinds.cut_short kind right.now) }
+{
+    cut_short(kind, left) || cut_short(kind, right)
+}
+
 // The sum of the values (summand 0), of their magnitudes (1) or of their squares (2), within an allowance of passes.
 pub fn totals_sum_within(
     kind: u64,
@@ -133,7 +142,7 @@ pub fn totals_sum_within(
 ) -> u64
     ensures { Enters (spec.sum_within_entry kind exponent_bits width bias_named bias (settings_from rounding tininess nan_propagation default_nan_negative flush_to_zero denormals_are_zero saturate precision) summand allowance values.now answer.old) result answer.new }
 {
-    let cut = values.len() % 8 != 0;
+    let cut = cut_short(kind, values);
     if let Err(refusal) = tested(cut, answer.len(), allowance) {
         return refusal.number();
     }
@@ -176,7 +185,7 @@ pub fn totals_dot_within(
 ) -> u64
     ensures { Enters (spec.dot_within_entry kind exponent_bits width bias_named bias (settings_from rounding tininess nan_propagation default_nan_negative flush_to_zero denormals_are_zero saturate precision) allowance left.now right.now answer.old) result answer.new }
 {
-    let cut = either_cut(left, right, 8);
+    let cut = either_cut_short(kind, left, right);
     if let Err(refusal) = tested(cut, answer.len(), allowance) {
         return refusal.number();
     }

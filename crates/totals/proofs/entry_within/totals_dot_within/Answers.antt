@@ -5,22 +5,22 @@ use Rattle.totals.proofs.EstimateWritten.{dot-refused, dot-misnamed, dot-asks, d
 use Rattle.totals.proofs.entry_within.totals_dot_within.Goals as goal
 
 pub returns-in-Err : goal.returns-in-Err
-returns-in-Err c = rw c.number.ensures (dot-refused _ _ _ _ _ _ _ _ _ _ (rw c.either_cut-cut.ensures at c.in-Err.ensures) (number-some _))
+returns-in-Err c = rw c.number.ensures (dot-refused _ _ _ _ _ _ _ _ _ _ (rw c.either_cut_short-cut.ensures at c.in-Err.ensures) (number-some _))
 
 pub returns-in_default-named_format : goal.returns-in_default-named_format
 returns-in_default-named_format c =
     let (named, is) = rw (read c.args.bias c.ranges.bias.sfits) at c.in_default-named_format.ensures in
-    rw c.number-in_default-named_format.ensures (dot-misnamed _ _ _ _ _ _ _ _ _ _ (rw c.either_cut-cut.ensures at (c.in_default.ensures {u = tt})) named)
+    rw c.number-in_default-named_format.ensures (dot-misnamed _ _ _ _ _ _ _ _ _ _ (rw c.either_cut_short-cut.ensures at (c.in_default.ensures {u = tt})) named)
 
 pub enter_estimate-requires : goal.enter_estimate-requires
 enter_estimate-requires c =
     let (named, is) = rw (read c.args.bias c.ranges.bias.sfits) at c.in-Ok.ensures in
-    dot-asks _ _ _ _ _ _ _ _ _ _ (rw c.either_cut-cut.ensures at (c.in_default.ensures {u = tt}))
+    dot-asks _ _ _ _ _ _ _ _ _ _ (rw c.either_cut_short-cut.ensures at (c.in_default.ensures {u = tt}))
     (rw (is, c.settings-c.ensures) at c.dot_bytes_within-e.ensures)
 
 pub returns : goal.returns
 returns c =
     let (named, is) = rw (read c.args.bias c.ranges.bias.sfits) at c.in-Ok.ensures in
-    dot-entered _ _ _ _ _ _ _ _ _ _ (rw c.either_cut-cut.ensures at (c.in_default.ensures {u = tt}))
+    dot-entered _ _ _ _ _ _ _ _ _ _ (rw c.either_cut_short-cut.ensures at (c.in_default.ensures {u = tt}))
     (rw (is, c.settings-c.ensures) at c.dot_bytes_within-e.ensures)
     named _ _ c.enter_estimate.ensures
