@@ -1,7 +1,9 @@
 -- What is shown within an allowance of passes: a full answer, or what the last pass allowed has seen.
 use Rattle.std.proofs.Common.{◌≡◌, ◌≢◌, refl, sym, ap, ap₂, ◌∙◌, subst, ℕ, Bool, true, false, List, ◌^◌, ◌<◌, ◌≤◌, zero-le, arith, le-leb, ne_eqb}
 use Rattle.std.specs.Prelude.{Option, Some, None, IfSome, Ok, Err}
+use native.Mathlib.Nat.{lt_of_lt_of_le}
 use borrow.Author.Tests.{lt-leb}
+use lib.Pow.{pow_pos}
 use Rattle.totals_spec.specs.Format.{Format, digits}
 use Rattle.totals_spec.specs.Settings.{Settings, summand_of}
 use Rattle.totals_spec.specs.Terms.{Term, top_of}
@@ -10,6 +12,7 @@ use Rattle.totals_spec.proofs.Kept.{KeptBoundary}
 use Rattle.further_spec.specs.Estimate.{Estimate, full, within, unfinished_at, pass_of, sum_within, dot_within}
 use Rattle.arithmetic.specs.declared.summand.Summand.{Summand}
 use Rattle.arithmetic.specs.Summands.{summand_in, summand_number}
+use Rattle.limbs.specs.Value.{value}
 use Rattle.window.specs.declared.Stopped.{Stopped}
 use Rattle.window.specs.declared.Units.{Units}
 use Rattle.window.specs.Joined.{boundary_of, signed_of}
@@ -51,11 +54,11 @@ pub told-as : (f : Format) (ts : List Term) (k : ℕ) {products same : Bool} {t 
     → e ≡ within f products ts k t → e ≡ within f same ts k a
 told-as f ts k p q h = h ∙ ap₂ (λ (b : Bool) (x : Answer). within f b ts k x) p q
 
--- its places are numbers of the code
+-- its places are numbers of the code, and it has some of its units
 pub boundary-near : (p : ℕ) (ts : List Term) (b : Option Units) → KeptBoundary p (top_of ts) (boundary_of b) → top_of ts < 2147483648
-    → IfSome b (λ x. x.place < 2 ^ 62)
+    → IfSome b (λ x. (x.place < 2 ^ 62) × (0 < value x.whole))
 boundary-near p ts None h s = tt
-boundary-near p ts (Some x) h s = omega (arith, h.3, s)
+boundary-near p ts (Some x) h s = (omega (arith, h.3, s), lt_of_lt_of_le (pow_pos p) h.0)
 
 -- ---- the answers of a sum and of a dot
 

@@ -1,5 +1,5 @@
 -- A sum or a dot within an allowance of passes (document 02, A.13), as the code has it.
-use Rattle.std.specs.Prelude.{◌≡◌, ◌+◌, ◌*◌, ◌^◌, ◌<◌, [], ◌∷◌, ltb, eqb, ℕ, Bool, List, ℤ, pos, Option, Some, None, Result, Ok, Err}
+use Rattle.std.specs.Prelude.{◌≡◌, ◌+◌, ◌*◌, ◌^◌, ◌<◌, [], ◌∷◌, ltb, eqb, ℕ, Bool, List, ℤ, pos, Option, Some, None, IfSome, Result, Ok, Err}
 use Rattle.totals_spec.specs.Basics.{Signed, flag}
 use Rattle.totals_spec.specs.Format.{Format}
 use Rattle.totals_spec.specs.Chain as chain
@@ -46,6 +46,15 @@ estimate_of (Unfinished s) = record {
   minus = minus_in s.boundary;
   unit = unit_in s.boundary;
 }
+
+-- a boundary that is shown has some of its units: so it is there exactly where the definitions have one, whose three numbers else are 0
+abbrev pub Bounded : Estimate → Type 0
+Bounded (Full a) = Unit {0}
+Bounded (Unfinished s) = IfSome s.boundary (λ b. 0 < value b.whole)
+
+abbrev pub BoundedIn : Result Estimate Refusal → Type 0
+BoundedIn (Ok e) = Bounded e
+BoundedIn (Err r) = Unit {0}
 
 -- of a call that may be refused
 abbrev pub estimate_in : Result Estimate Refusal → spec.Estimate

@@ -16,11 +16,11 @@ pub enter_estimate-requires : goal.enter_estimate-requires
 enter_estimate-requires c =
     let (named, is) = rw (read c.args.bias c.ranges.bias.sfits) at c.in-Ok.ensures in
     dot-asks _ _ _ _ _ _ _ _ _ _ (rw c.either_cut_short-cut.ensures at (c.in_default.ensures {u = tt}))
-    (rw (is, c.settings-c.ensures) at c.dot_bytes_within-e.ensures)
+    (rw (is, c.settings-c.ensures) at c.dot_bytes_within-e.ensures.answer)
 
 pub returns : goal.returns
 returns c =
     let (named, is) = rw (read c.args.bias c.ranges.bias.sfits) at c.in-Ok.ensures in
     dot-entered _ _ _ _ _ _ _ _ _ _ (rw c.either_cut_short-cut.ensures at (c.in_default.ensures {u = tt}))
-    (rw (is, c.settings-c.ensures) at c.dot_bytes_within-e.ensures)
+    (rw (is, c.settings-c.ensures) at c.dot_bytes_within-e.ensures.answer)
     named _ _ c.enter_estimate.ensures

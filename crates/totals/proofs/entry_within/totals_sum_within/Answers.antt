@@ -15,10 +15,10 @@ returns-in_default-named_format c =
 pub enter_estimate-requires : goal.enter_estimate-requires
 enter_estimate-requires c =
     let (named, is) = rw (read c.args.bias c.ranges.bias.sfits) at c.in-Ok.ensures in
-    sum-asks _ _ _ _ _ _ _ _ _ _ (rw c.cut_short-cut.ensures at (c.in_default.ensures {u = tt})) (rw (is, c.settings-c.ensures) at c.sum_bytes_within-e.ensures)
+    sum-asks _ _ _ _ _ _ _ _ _ _ (rw c.cut_short-cut.ensures at (c.in_default.ensures {u = tt})) (rw (is, c.settings-c.ensures) at c.sum_bytes_within-e.ensures.answer)
 
 pub returns : goal.returns
 returns c =
     let (named, is) = rw (read c.args.bias c.ranges.bias.sfits) at c.in-Ok.ensures in
-    sum-entered _ _ _ _ _ _ _ _ _ _ (rw c.cut_short-cut.ensures at (c.in_default.ensures {u = tt})) (rw (is, c.settings-c.ensures) at c.sum_bytes_within-e.ensures)
+    sum-entered _ _ _ _ _ _ _ _ _ _ (rw c.cut_short-cut.ensures at (c.in_default.ensures {u = tt})) (rw (is, c.settings-c.ensures) at c.sum_bytes_within-e.ensures.answer)
     named _ _ c.enter_estimate.ensures

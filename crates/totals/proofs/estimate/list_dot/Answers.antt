@@ -11,14 +11,14 @@ use Rattle.totals.proofs.Shown.{refused-shown, told-as}
 use Rattle.totals.proofs.Totalled.{dot-is}
 use Rattle.totals.proofs.estimate.list_dot.Goals as goal
 
-pub returns-in_err-no_stray : goal.returns-in_err-no_stray
-returns-in_err-no_stray g c =
+pub returns-in_err-no_stray-clause-answer : goal.returns-in_err-no_stray-clause-answer
+returns-in_err-no_stray-clause-answer g c =
     let p = err_from_is_err_and c.from_residual.result c.from_residual.ensures.1 in
     let (some, is) = c.in_err-no_stray.ensures {u = tt} in
     rw (p.1, p.2, is) (refused-shown _ _ _ _ _ (dot-strayed-left _ _ _ _ c.requires.0 some))
 
-pub returns-in_err-no_stray-2 : goal.returns-in_err-no_stray-2
-returns-in_err-no_stray-2 g c =
+pub returns-in_err-no_stray-2-clause-answer : goal.returns-in_err-no_stray-2-clause-answer
+returns-in_err-no_stray-2-clause-answer g c =
     let p = err_from_is_err_and c.from_residual-in_err-no_stray-2.result c.from_residual-in_err-no_stray-2.ensures.1 in
     let (some, is) = c.in_err-no_stray-2.ensures {u = tt} in
     rw (p.1, p.2, is) (refused-shown _ _ _ _ _ (dot-strayed-right _ _ _ _ c.requires.0 (c.in_ok-no_stray.ensures {u = tt}) some))
@@ -38,8 +38,8 @@ dot_in-total-requires-clause-summable g c =
     let a = dot-accepts _ _ _ _ (dot-unstrayed _ _ _ _ c.requires.0 (c.in_ok-no_stray.ensures {u = tt}) (c.in_ok-no_stray-2.ensures {u = tt})) in
     dot-summable c.args.f _ _ _ a.same a.few
 
-pub returns : goal.returns
+pub returns-clause-answer : goal.returns-clause-answer
 unfolding pair_item
-returns g c =
+returns-clause-answer g c =
     let total = dot-is c.args.f _ _ ∙ dot-told _ _ _ _ c.requires.0 (c.in_ok-no_stray.ensures {u = tt}) (c.in_ok-no_stray-2.ensures {u = tt}) in
-    told-as _ _ _ refl total (c.told.ensures _ _ c.dot_in-total.ensures)
+    told-as _ _ _ refl total (c.told.ensures.answer _ _ c.dot_in-total.ensures)

@@ -14,8 +14,8 @@ use Rattle.totals_spec.specs.Totals.{is_square}
 use Rattle.arithmetic.specs.Summands.{summand_in}
 use Rattle.totals.proofs.estimate.list_sum.Goals as goal
 
-pub returns-in_err-no_stray : goal.returns-in_err-no_stray
-returns-in_err-no_stray g c =
+pub returns-in_err-no_stray-clause-answer : goal.returns-in_err-no_stray-clause-answer
+returns-in_err-no_stray-clause-answer g c =
     let p = err_from_is_err_and c.from_residual.result c.from_residual.ensures.1 in
     let (some, is) = c.in_err-no_stray.ensures {u = tt} in
     rw (p.1, p.2, is) (refused-shown _ _ _ _ _ (sum-strayed _ _ _ _ c.requires.0 some))
@@ -30,9 +30,9 @@ sum_in-total-requires-clause-summable g c =
     let a = sum-accepts _ _ _ _ (sum-unstrayed _ _ _ _ c.requires.0 (c.in_ok-no_stray.ensures {u = tt})) in
     sum-summable c.args.f _ _ _ a.few
 
-pub returns : goal.returns
+pub returns-clause-answer : goal.returns-clause-answer
 unfolding item
-returns g c =
+returns-clause-answer g c =
     let square : c.eq.result ≡ is_square (summand_in c.args.u) = search rules in
     let total = sum-is c.args.f _ _ _ ∙ rw (summand-is c.args.u) at (sum-told _ _ _ _ c.requires.0 (c.in_ok-no_stray.ensures {u = tt})) in
-    told-as _ _ _ square total (c.told.ensures _ _ c.sum_in-total.ensures)
+    told-as _ _ _ square total (c.told.ensures.answer _ _ c.sum_in-total.ensures)

@@ -10,8 +10,8 @@ unfinished-requires c =
     let s = (rw c.in-Err.is at c.requires.within).0 in
     (s.edge, boundary-near _ _ c.in-Err.at.boundary s.bound s.small)
 
-pub returns-in-Ok : goal.returns-in-Ok
-returns-in-Ok c = λ t ts h. full-shown _ c.args.products ts _ t (narrow _ (layout_bounds c.args.f)) _ (rw c.in-Ok.is at h)
+pub returns-in-Ok-clause-answer : goal.returns-in-Ok-clause-answer
+returns-in-Ok-clause-answer c = λ t ts h. full-shown _ c.args.products ts _ t (narrow _ (layout_bounds c.args.f)) _ (rw c.in-Ok.is at h)
 
-pub returns-in-Err : goal.returns-in-Err
-returns-in-Err c = λ t ts h. c.unfinished.ensures ∙ stopped-shown _ c.args.products ts _ t _ (rw c.in-Err.is at h)
+pub returns-in-Err-clause-answer : goal.returns-in-Err-clause-answer
+returns-in-Err-clause-answer c = λ t ts h. c.unfinished.ensures.answer ∙ stopped-shown _ c.args.products ts _ t _ (rw c.in-Err.is at h)
