@@ -1002,7 +1002,7 @@ def spoiled(numbers, dot, turn, bias=None):
 
 
 def two_refusals():
-    """Every two numbers that hold together; 6 is asked by the program itself."""
+    """Every two numbers that hold together but 6, whose lists are too long for a row."""
     cases = []
     for numbers in combinations((1, 2, 3, 4, 5, 7), 2):
         for turn in range(4):
@@ -1377,8 +1377,6 @@ def texts(made):
         stdin += '%s %s %04x\n' % (dots(name), letter, len(cases)) + ''.join(case.row(most) for case in cases)
     stdout = ''.join(agreed(name, len(cases)) for name, cases in made)
     stdout += agreed('all of these', sum(len(cases) for _, cases in made))
-    # asked by the program itself, which knows the twelve answers from the table of refusals
-    stdout += dots('refusals by the number of elements') + ' 12 of 12 agree\n'
     for name, rows in pence_parts():
         stdin += '%04x\n' % len(rows) + ''.join(rows)
         stdout += dots(name) + ' %d of %d agree\n' % (len(rows), len(rows))

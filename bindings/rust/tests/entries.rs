@@ -230,10 +230,16 @@ fn as_many_zeros_as_there_may_be_and_one_more() {
     let mut buffer = [UNTOUCHED; 24];
     let code = sum(BINARY64, PLAIN, 0, zeros, &mut buffer);
     accepted(code, &buffer, of(0, 0, 0, EQUAL));
-    // 1, 2 and 5 come before 6, and 6 before 7
+    // 1 to 5 come before 6, and 6 before 7
     check_sum_refused(BINARY64, PLAIN, 0, ragged, 24, 1, 0);
     let longer = &more[..8 * (LIMIT + 1)];
     check_sum_refused(BINARY64, PLAIN, 0, longer, 23, 2, 0);
+    let (no_format, no_rounding) = ([5, 11, 64], [8, 0, 0, 0, 0, 0, 0, 0]);
+    check_sum_refused(no_format, PLAIN, 0, longer, 24, 3, 0);
+    check_dot_refused(no_format, PLAIN, longer, longer, 24, 3, 0);
+    check_sum_refused(BINARY64, no_rounding, 0, longer, 24, 4, 0);
+    check_sum_refused(BINARY64, PLAIN, 3, longer, 24, 4, 0);
+    check_dot_refused(BINARY64, no_rounding, longer, longer, 24, 4, 0);
     check_dot_refused(BINARY64, PLAIN, longer, zeros, 24, 5, 0);
     check_sum_refused(BINARY64, PLAIN, 0, longer, 24, 6, 0);
     check_dot_refused(BINARY64, PLAIN, longer, longer, 24, 6, 0);

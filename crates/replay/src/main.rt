@@ -6,7 +6,6 @@
 #![tactic(auto)]
 
 mod contributions;
-mod counts;
 mod estimates;
 mod figures;
 mod input;
@@ -21,7 +20,6 @@ mod ways;
 
 ghost use Rattle.std.specs.Prelude.{◌≡◌, ◌+◌, ◌^◌, ◌<◌, ◌≤◌, IfOk};
 
-use counts::counts;
 use hexadecimal::number;
 use input::{agreeing, next, print_disagreeing};
 use pages::{LONG_SPAN, LONG_WRITTEN, SPAN, WRITTEN};
@@ -166,7 +164,6 @@ fn main(rt: HostRuntime) -> io::Result<()> {
     let head = next::<3, _>(&mut rt.stdin())?;
     let all = sections(&rt, number(&head, 0, 2) % 256)?;
     println!(rt; "all of these ............................... {all}")?;
-    report(&rt, "refusals by the number of elements ", counts(), 12)?;
     report_rows::<PENCE, _>(&rt, "pence of one encoding ", figures::agrees)?;
     report_rows::<BIASED_PENCE, _>(&rt, "pence of one encoding, a bias named ", figures::agrees)?;
     report_rows::<ROW, _>(&rt, "pence of lists ", lists::agrees)?;

@@ -39,7 +39,7 @@ fn value(bytes: &[u8]) -> Option<u64>
 }
 
 // The values of the lines, or the first bad one. Line 8,193 is bad, whatever stands on it.
-pub fn read_lines(input: &[u8]) -> Result<ArrayVec<u64, 8192>, BadLine>
+pub(crate) fn read_lines(input: &[u8]) -> Result<ArrayVec<u64, 8192>, BadLine>
     ensures { result ≡ result_of (read_from 1 (lines input.now)) }
 {
     let mut values = ArrayVec::new();

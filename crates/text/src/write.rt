@@ -94,7 +94,7 @@ impl Text {
 }
 
 // The answer to a bad line, counted from 1.
-pub fn refused_line(n: usize) -> Text
+pub(crate) fn refused_line(n: usize) -> Text
     ensures { result ≡ refused_text ++ (decimal_text n ++ line_end) }
 {
     Text::new()
@@ -104,7 +104,7 @@ pub fn refused_line(n: usize) -> Text
 }
 
 // The four lines of an answer: of its flags the last two hex digits.
-pub fn answer_lines(res: u64, flags: u64, passes: u64, pence: Option<i64>) -> Text
+pub(crate) fn answer_lines(res: u64, flags: u64, passes: u64, pence: Option<i64>) -> Text
     ensures { result ≡ four_lines res flags passes pence }
 {
     let first = Text::new().hex(res, 16).byte(b'\n');

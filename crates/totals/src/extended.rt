@@ -54,7 +54,12 @@ fn asked(f: Format, c: Settings) -> Result<Env, Refusal>
 }
 
 // The refusal of a sum, 3, 4 or 6, or what it is asked with.
-pub fn sum_refusal(f: Format, c: Settings, u: u64, values: &[u8]) -> Result<(Env, Summand), Refusal>
+pub(crate) fn sum_refusal(
+    f: Format,
+    c: Settings,
+    u: u64,
+    values: &[u8],
+) -> Result<(Env, Summand), Refusal>
     ensures { AsksTenSum (settings_of c) u (spec.extended_sum_refusal (format_of f) (settings_of c) u (spec.tens_in values.now)) result }
 {
     let env = asked(f, c)?;
@@ -64,7 +69,7 @@ pub fn sum_refusal(f: Format, c: Settings, u: u64, values: &[u8]) -> Result<(Env
 }
 
 // The refusal of a dot, 3, 4, 5 or 6, or its settings in their ranges.
-pub fn dot_refusal(f: Format, c: Settings, left: &[u8], right: &[u8]) -> Result<Env, Refusal>
+pub(crate) fn dot_refusal(f: Format, c: Settings, left: &[u8], right: &[u8]) -> Result<Env, Refusal>
     ensures { AsksTens (settings_of c) (spec.extended_dot_refusal (format_of f) (settings_of c) (spec.tens_in left.now) (spec.tens_in right.now)) result }
 {
     let env = asked(f, c)?;
@@ -82,7 +87,7 @@ fn unsupported(c: Env, s: Scan) -> Wide
 }
 
 // The sum of a list that is not refused.
-pub fn sum(c: Env, u: Summand, values: &[u8]) -> Wide
+pub(crate) fn sum(c: Env, u: Summand, values: &[u8]) -> Wide
     requires { spec.extended_sum_refusal spec.kind4 (env_of c) (summand_number u) (spec.tens_in values.now) ≡ 0 }
     ensures { answer_as true result ≡ spec.extended_sum (env_of c) (summand_in u) (spec.tens_in values.now) }
 {
@@ -94,7 +99,7 @@ pub fn sum(c: Env, u: Summand, values: &[u8]) -> Wide
 }
 
 // The dot of two lists that is not refused.
-pub fn dot(c: Env, left: &[u8], right: &[u8]) -> Wide
+pub(crate) fn dot(c: Env, left: &[u8], right: &[u8]) -> Wide
     requires { spec.extended_dot_refusal spec.kind4 (env_of c) (spec.tens_in left.now) (spec.tens_in right.now) ≡ 0 }
     ensures { answer_as true result ≡ spec.extended_dot (env_of c) (pairs (spec.tens_in left.now) (spec.tens_in right.now)) }
 {

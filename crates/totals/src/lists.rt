@@ -59,7 +59,7 @@ fn total<T: Terms, A: Allowance>(
 
 // The sum of some numbers, within an allowance of passes.
 #[inline(always)]
-pub fn sum_in<N: Numbers, A: Allowance>(
+pub(crate) fn sum_in<N: Numbers, A: Allowance>(
     c: Env,
     u: Summand,
     numbers: N,
@@ -87,7 +87,7 @@ pub fn sum_in<N: Numbers, A: Allowance>(
 
 // The sum of the products of the pairs of two lists, likewise.
 #[inline(always)]
-pub fn dot_in<N: Numbers, A: Allowance>(
+pub(crate) fn dot_in<N: Numbers, A: Allowance>(
     c: Env,
     left: N,
     right: N,
@@ -116,7 +116,7 @@ pub fn dot_in<N: Numbers, A: Allowance>(
 
 // The same with every pass that they take.
 #[inline(always)]
-pub fn sum_of<N: Numbers>(c: Env, u: Summand, numbers: N) -> Wide
+pub(crate) fn sum_of<N: Numbers>(c: Env, u: Summand, numbers: N) -> Wide
     requires known { Known (wide (N.encoding numbers).format) (N.encoding numbers).format × SettingsBounds (N.encoding numbers).format (env_of c) }
     requires summable { Summable (N.encoding numbers).format (map (item_in (N.encoding numbers) (env_of c) (summand_in u)) (N.codes numbers)) }
     ensures { answer_as (wide (N.encoding numbers).format) result ≡ given_as (wide (N.encoding numbers).format) (sum_in (N.encoding numbers) (env_of c) (summand_in u) (N.codes numbers)) }
@@ -128,7 +128,7 @@ pub fn sum_of<N: Numbers>(c: Env, u: Summand, numbers: N) -> Wide
 }
 
 #[inline(always)]
-pub fn dot_of<N: Numbers>(c: Env, left: N, right: N) -> Wide
+pub(crate) fn dot_of<N: Numbers>(c: Env, left: N, right: N) -> Wide
     requires as_long { length (N.codes right) ≡ length (N.codes left) }
     requires known { Known (wide (N.encoding left).format) (N.encoding left).format × SettingsBounds (N.encoding left).format (env_of c) }
     requires summable { Summable (N.encoding left).format (map (pair_in (N.encoding left) (env_of c)) (totals.pairs (N.codes left) (N.codes right))) }
@@ -142,7 +142,7 @@ pub fn dot_of<N: Numbers>(c: Env, left: N, right: N) -> Wide
 
 // The sum of a list that is accepted.
 #[inline(always)]
-pub fn unstrayed_sum<E: Elements>(f: Layout, c: Env, u: Summand, elements: E) -> Answer
+pub(crate) fn unstrayed_sum<E: Elements>(f: Layout, c: Env, u: Summand, elements: E) -> Answer
     requires { totals.sum_refusal (layout_of f) (env_of c) (summand_number u) (E.list elements) ≡ 0 }
     ensures { answer_of result ≡ totals.sum_answer (layout_of f) (env_of c) (summand_number u) (E.list elements) }
 {
@@ -161,7 +161,12 @@ pub fn unstrayed_sum<E: Elements>(f: Layout, c: Env, u: Summand, elements: E) ->
 }
 
 // The sum of the elements of a list, unless one of them has a stray bit.
-pub fn sum<E: Elements>(f: Layout, c: Env, u: Summand, elements: E) -> Result<Answer, Refusal>
+pub(crate) fn sum<E: Elements>(
+    f: Layout,
+    c: Env,
+    u: Summand,
+    elements: E,
+) -> Result<Answer, Refusal>
     requires { sum_numbers (layout_of f) (env_of c) (summand_number u) (length (E.list elements)) ≡ 0 }
     ensures told { answer_in result ≡ totals.sum_answer (layout_of f) (env_of c) (summand_number u) (E.list elements) }
     ensures accepted { ForOk result (λ a. totals.sum_refusal (layout_of f) (env_of c) (summand_number u) (E.list elements) ≡ 0) }
@@ -171,7 +176,7 @@ pub fn sum<E: Elements>(f: Layout, c: Env, u: Summand, elements: E) -> Result<An
 }
 
 // The sum of the products of the pairs, likewise: a stray bit is looked for in the left list first.
-pub fn dot<E: Elements>(f: Layout, c: Env, left: E, right: E) -> Result<Answer, Refusal>
+pub(crate) fn dot<E: Elements>(f: Layout, c: Env, left: E, right: E) -> Result<Answer, Refusal>
     requires { dot_numbers (layout_of f) (env_of c) (length (E.list left)) (length (E.list right)) ≡ 0 }
     ensures { answer_in result ≡ totals.dot_answer (layout_of f) (env_of c) (E.list left) (E.list right) }
 {
@@ -193,7 +198,7 @@ pub fn dot<E: Elements>(f: Layout, c: Env, left: E, right: E) -> Result<Answer, 
 }
 
 // Whether a scan met a NaN or an infinity.
-pub fn met_special(s: &Scan) -> bool
+pub(crate) fn met_special(s: &Scan) -> bool
     ensures { result ≡ met s.now }
 {
     s.nan.is_some() || s.positive_infinity || s.negative_infinity
@@ -207,7 +212,7 @@ pub struct Kept {
 }
 
 // Of values in bytes, unless one of them has a stray bit.
-pub fn keep(f: Layout, c: Env, values: &[u8]) -> Result<Kept, Refusal>
+pub(crate) fn keep(f: Layout, c: Env, values: &[u8]) -> Result<Kept, Refusal>
     requires { sum_numbers (layout_of f) (env_of c) 0 (length (values_in values.now)) ≡ 0 }
     ensures { KeptIn (layout_of f) (env_of c) (values_in values.now) result }
 {

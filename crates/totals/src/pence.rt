@@ -115,7 +115,7 @@ fn signed(negative: bool, n: u64) -> i64
 }
 
 // The figure of a sign and a magnitude.
-pub fn in_range(negative: bool, n: u64) -> Result<i64, Refusal>
+fn in_range(negative: bool, n: u64) -> Result<i64, Refusal>
     ensures { figure_in result ≡ spec.in_range negative n }
 {
     if n >= TOO_LARGE {
@@ -176,7 +176,7 @@ fn nearest(f: Shape, v: Unrounded) -> Result<i64, Refusal>
 }
 
 // The figure of a sum of hundredfold terms, of which v is left.
-pub fn whole_pence(f: Shape, v: Unrounded) -> Result<i64, Refusal>
+fn whole_pence(f: Shape, v: Unrounded) -> Result<i64, Refusal>
     requires { 0 < significand_of v → Countable v }
     ensures { (x : Signed) → LeftOf 64 x v → figure_in result ≡ whole_figure (shape_of f) x }
 {

@@ -8,7 +8,7 @@ use format::layout::Layout;
 use limbs::word::{low_bits, ones, power};
 
 #[tactic(auto, unfolding(further_spec::specs::Contribution::rank_of))]
-pub fn rank_of(f: Layout, b: u64) -> u64
+pub(crate) fn rank_of(f: Layout, b: u64) -> u64
     ensures { result ≡ spec.rank_of (layout_of f) b }
 {
     let zero = power(f.shape.width - 1);
@@ -22,7 +22,7 @@ pub fn rank_of(f: Layout, b: u64) -> u64
 
 // The number of a rank; of the zeros +0.
 #[tactic(auto, unfolding(further_spec::specs::Contribution::number_at))]
-pub fn number_at(f: Layout, r: u64) -> u64
+pub(crate) fn number_at(f: Layout, r: u64) -> u64
     requires { 0 < r }
     ensures { result ≡ spec.number_at (layout_of f) r }
 {
@@ -36,7 +36,7 @@ pub fn number_at(f: Layout, r: u64) -> u64
 
 // The rank of the least finite number.
 #[tactic(auto, unfolding(further_spec::specs::Contribution::first_rank))]
-pub fn first_rank(f: Layout) -> u64
+pub(crate) fn first_rank(f: Layout) -> u64
     ensures { result ≡ spec.first_rank (layout_of f) }
 {
     power(f.shape.fraction_bits()) + 1
@@ -44,7 +44,7 @@ pub fn first_rank(f: Layout) -> u64
 
 // And that of the greatest.
 #[tactic(auto, unfolding(further_spec::specs::Contribution::last_rank))]
-pub fn last_rank(f: Layout) -> u64
+pub(crate) fn last_rank(f: Layout) -> u64
     ensures { result ≡ spec.last_rank (layout_of f) }
 {
     ones(f.shape.width) - power(f.shape.fraction_bits())

@@ -51,7 +51,7 @@ pub enum Refusal {
 
 impl Refusal {
     // The number that stands for it in a record.
-    pub fn number(self) -> u64
+    pub(crate) fn number(self) -> u64
         ensures { result ≡ number_of self }
     {
         match self {
@@ -76,7 +76,7 @@ impl Refusal {
     }
 
     // The place beside the number, 0 for what has none.
-    pub fn place(self) -> u64
+    pub(crate) fn place(self) -> u64
         ensures { result ≡ place_of self }
     {
         match self {
@@ -156,7 +156,12 @@ pub(crate) fn few(n: usize) -> Result<(), Refusal>
 }
 
 // The refusal of a sum that does not look at its elements, or what it is asked with.
-pub fn sum_refusal(f: Format, c: Settings, u: u64, n: usize) -> Result<(Asked, Summand), Refusal>
+pub(crate) fn sum_refusal(
+    f: Format,
+    c: Settings,
+    u: u64,
+    n: usize,
+) -> Result<(Asked, Summand), Refusal>
     ensures { AsksSum (format_of f) (settings_of c) u (sum_numbers (format_of f) (settings_of c) u n) result }
 {
     let asked = ranged(f, c)?;
@@ -166,7 +171,7 @@ pub fn sum_refusal(f: Format, c: Settings, u: u64, n: usize) -> Result<(Asked, S
 }
 
 // The refusal of a dot that does not look at its elements, or what it is asked with.
-pub fn dot_refusal(f: Format, c: Settings, n: usize, m: usize) -> Result<Asked, Refusal>
+pub(crate) fn dot_refusal(f: Format, c: Settings, n: usize, m: usize) -> Result<Asked, Refusal>
     ensures { Asks (format_of f) (settings_of c) (dot_numbers (format_of f) (settings_of c) n m) result }
 {
     let asked = ranged(f, c)?;

@@ -7,7 +7,7 @@ use limbs::word::ones;
 use values::elements::Elements;
 
 // The index of the first element above the greatest encoding. In 64 bits or more there is none.
-pub fn find_stray<E: Elements>(width: u64, elements: &E) -> Option<usize>
+pub(crate) fn find_stray<E: Elements>(width: u64, elements: &E) -> Option<usize>
     requires { 0 < width }
     ensures { FoundIn result width (E.list elements.now) }
 {
@@ -20,7 +20,7 @@ pub fn find_stray<E: Elements>(width: u64, elements: &E) -> Option<usize>
 }
 
 // No element is above it; refused with the place of the first that is.
-pub fn no_stray<E: Elements>(width: u64, elements: &E) -> Result<(), Refusal>
+pub(crate) fn no_stray<E: Elements>(width: u64, elements: &E) -> Result<(), Refusal>
     requires { 0 < width }
     ensures { Unstrayed result width (E.list elements.now) }
 {
