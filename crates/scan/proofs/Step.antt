@@ -1,4 +1,4 @@
--- One element more: what a scan has gathered with it. The same law serves elements of a list and pairs of a dot, with_item or plainly normal.
+-- One element more: what a scan has gathered with it. The same law serves elements of a list and pairs of a dot, taken as items or plainly normal.
 use mathlib.Core.Path.{◌≡◌, refl, sym, ap, ap₂, ◌∙◌, subst}
 use mathlib.Core.Bool.{Bool, true, false, ◌||◌, or-false}
 use mathlib.Core.List.{List, [], ◌∷◌, ◌++◌, map, map-append}
@@ -171,7 +171,7 @@ module _ {A : Type 0} (f : spec.Format) (c : env.Settings) (q : Reading f A) whe
       rw (any-one q.subnormal l x, any-one q.signaling l x, q.all_more l x, map-append q.item l (x ∷ []))
       (gathered-more f c _ _ (q.subnormal x) (q.signaling x) (q.all l) (q.operands x) (map q.item l) (q.item x) s n g (q.adds x) e)
 
-  -- an element that was with_item, with a position t kept apart
+  -- an element that was taken, with a position t kept apart
   pub over-taken : (l : List A) (x : A) (s r : Scan) (n : Option Nan) → r ≡ with_item (item_of (q.item x)) (seen (q.subnormal x) (q.signaling x) n s)
       → nan_of n ≡ if_nan (nans.chosen_of (rule_of c) (nan_of s.nan) (q.operands x)) → (t : ℕ)
       → Over l (with_top t s) → Over (l ++ (x ∷ [])) (with_top t r)
