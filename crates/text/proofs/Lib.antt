@@ -5,3 +5,4 @@ pub mod Numbers
 pub mod Pieces
 pub mod Spelt
 pub mod Sums
+pub mod Streams

@@ -3,6 +3,7 @@
 
 pub mod decided;
 mod read;
+pub mod stream;
 pub mod write;
 
 ghost use Rattle.std.specs.Prelude.{◌≡◌};

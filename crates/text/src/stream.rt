@@ -1,0 +1,80 @@
+// Reading the input as far as it decides the text, and writing the text, through any reader and any
+// writer.
+ghost use Rattle.std.specs.Prelude.{◌≡◌, ◌<◌, ◌≤◌, take, length, IfOk, IfSome, OnOk, OnErr};
+ghost use Rattle.std.specs.Io.KnownBytes.{Appends, Consumes, IsAtEnd};
+ghost use Rattle.totals_spec.specs.Program.{program_text};
+ghost use Rattle.text.specs.Streams.{ConsumesFewer, AppendsPart, IsLeft, IsWritten};
+
+use crate::answer_text;
+use std::io;
+use std::io::{ErrorKind, Read, Write};
+use thiserror::Error;
+
+/// Which end failed.
+#[derive(Debug, Drop, Error)]
+pub enum Failure {
+    #[error("standard input: {0}")]
+    Input(io::Error),
+    #[error("standard output: {0}")]
+    Output(io::Error),
+}
+
+// Reads until the buffer is full or the input ends, and tells how many bytes there are. std's
+// `read_to_end` does so with a Vec, and the program has no heap; its `read_exact` takes an input that
+// ends early for an error.
+fn read_full<R: Read>(reader: &mut R, buffer: &mut [u8]) -> io::Result<usize>
+    ensures within { IfOk result (λ n. n ≤ length buffer.new) }
+    ensures bytes { IfOk result (λ n.
+        Consumes (R.remaining reader.old) (R.remaining reader.new) (take n buffer.new)) }
+    ensures end { IfOk result (λ n. n < length buffer.new → IsAtEnd (R.remaining reader.new)) }
+    ensures err { OnErr result
+        (ConsumesFewer (R.remaining reader.old) (R.remaining reader.new) (length buffer.new)) }
+{
+    let mut done = 0;
+    while done < buffer.len() {
+        let n = reader.read(&mut buffer[done..])?;
+        if n == 0 {
+            break;
+        }
+        done += n;
+    }
+    Ok(done)
+}
+
+// Writes all of some bytes. std's `write_all` does so too, and does not say what is written where it
+// fails.
+fn write_full<W: Write>(writer: &mut W, bytes: &[u8]) -> io::Result<()>
+    ensures ok { OnOk result (Appends (W.contents writer.old) (W.contents writer.new) bytes.now) }
+    ensures err { OnErr result
+        (AppendsPart (W.contents writer.old) (W.contents writer.new) bytes.now) }
+{
+    let mut written = 0;
+    while written < bytes.len() {
+        let n = writer.write(&bytes[written..])?;
+        if n == 0 {
+            return Err(io::Error::from(ErrorKind::WriteZero));
+        }
+        written += n;
+    }
+    Ok(())
+}
+
+/// Reads an input as far as it decides its text, and writes the text of the whole input. 8,192 lines
+/// of 17 bytes and one byte more decide it: no more is read.
+pub fn answer<R: Read, W: Write>(reader: &mut R, writer: &mut W) -> Result<(), Failure>
+    ensures written { IfSome (R.remaining reader.old) (λ input.
+        IsWritten result (program_text input) (W.contents writer.old) (W.contents writer.new)) }
+    ensures left { IfSome (R.remaining reader.old) (λ input.
+        IsLeft result input (R.remaining reader.new)) }
+{
+    let mut input = [0u8; 139265];
+    let n = match read_full(reader, &mut input) {
+        Ok(n) => n,
+        Err(error) => return Err(Failure::Input(error)),
+    };
+    let text = answer_text(&input[..n]);
+    match write_full(writer, text.as_bytes()) {
+        Ok(()) => Ok(()),
+        Err(error) => Err(Failure::Output(error)),
+    }
+}
