@@ -6,6 +6,7 @@
 
 stdin is the number of cases in 4 hex digits and a line end, then the cases. A case has 589 bytes: 512 of which
 the first P, over and over, make the A bytes of input, 64 of which the first T are the text expected and the others 0, and a line AAAAA PPP TT in hex.
+Behind the cases stands the negative control, laid out in the same way: cases whose text is wrong.
 
 The expected texts follow document 01, and in the fourth line document 02. The sums of the good inputs are worked out in exact fractions, and so
 are their pence, which are those of the exact sum; the few sums that are no finite numbers or none above zero, and the passes, are written out by hand
@@ -152,6 +153,21 @@ def bad():
     yield 'a bad line within 8,193 lines', 5000, text([ONE, 'x']), 2
 
 
+def changed(text, at):
+    """The text with another digit at a place."""
+    return text[:at] + '%x' % (int(text[at:at + 1], 16) ^ 1) + text[at + 1:]
+
+
+def wrong(rows):
+    """The first case with one digit of each line changed, and without its last byte; and the first refused one with another number."""
+    name, times, piece, text = rows[0]
+    ends = [at - 1 for at, byte in enumerate(text) if byte == 10]
+    for spoilt in [changed(text.decode(), at).encode() for at in ends] + [text[:-1]]:
+        yield name, times, piece, spoilt
+    name, times, piece, text = next(row for row in rows if row[3].startswith(b'refused'))
+    yield name, times, piece, changed(text.decode(), len(text) - 2).encode()
+
+
 def cases():
     for name, times, piece, wanted in good():
         lines = (piece * times if times < 10_000 else (piece * (times // 17 + 1))[:times]).split()
@@ -163,13 +179,17 @@ def cases():
 
 def main():
     rows = list(cases())
-    stdin = f'{len(rows):04x}\n'.encode()
-    for name, times, piece, wanted in rows:
-        assert len(piece) <= 512 and len(wanted) <= 64, name
-        size = times if times >= 10_000 else times * len(piece)
-        assert size <= 139_281, name
-        stdin += piece.ljust(512, b'.') + wanted.ljust(64, b'\0') + f'{size:05x} {len(piece):03x} {len(wanted):02x}\n'.encode()
-    files = {'stdin': stdin, 'stdout': f'{len(rows)} of {len(rows)} agree\n'.encode()}
+    control = list(wrong(rows))
+    stdin = b''
+    for part in rows, control:
+        stdin += f'{len(part):04x}\n'.encode()
+        for name, times, piece, wanted in part:
+            assert len(piece) <= 512 and len(wanted) <= 64, name
+            size = times if times >= 10_000 else times * len(piece)
+            assert size <= 139_281, name
+            stdin += piece.ljust(512, b'.') + wanted.ljust(64, b'\0') + f'{size:05x} {len(piece):03x} {len(wanted):02x}\n'.encode()
+    stdout = f'{len(rows)} of {len(rows)} agree\n{len(control)} of {len(control)} wrong texts told as wrong\n'
+    files = {'stdin': stdin, 'stdout': stdout.encode()}
     same = True
     for name, data in files.items():
         if sys.argv[1:] == ['--check']:

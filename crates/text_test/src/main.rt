@@ -1,38 +1,83 @@
-// Runs the program's text over the cases of standard input, and prints how many of the answers agree. cases.py makes the cases and says how they
-// are laid out.
+// Runs the program's text over the cases of standard input, each as bytes and through readers and
+// writers, and prints how many of the answers agree. Then come wrong texts, each of which has to be
+// told as wrong both ways. cases.py makes the cases and says how they are laid out.
 #![tactic(auto)]
+
+mod streams;
+
+ghost use Rattle.std.specs.Prelude.{◌^◌, ◌<◌, IfOk};
 
 use arrayvec::ArrayVec;
 use hexadecimal::number;
 use std::io;
-use std::io::Read;
+use std::io::{ErrorKind, Read};
 use text::answer_text;
 
-// Whether the text for a row's input is the one that the row expects.
-fn agrees(row: &[u8; 589]) -> io::Result<bool> {
-    let size = number(row, 576, 5) as usize;
-    let n = number(row, 582, 3) as usize;
-    let length = number(row, 586, 2) as usize;
-    let mut input: ArrayVec<u8, 139281> = ArrayVec::new();
-    input.extend(row.iter().copied().take(n).cycle().take(size))?;
-    let text = answer_text(&input);
-    Ok(row[512..576].get(..length) == Some(text.as_bytes()))
+// Whether the text that a row expects is that of its input: as bytes, and through readers and
+// writers.
+#[derive(Clone, Copy)]
+struct Agrees {
+    bytes: bool,
+    streams: bool,
 }
 
-fn main(rt: HostRuntime) -> io::Result<()> {
-    let mut input = rt.stdin();
+fn compared(row: &[u8; 589]) -> io::Result<Agrees> {
+    let size = number(row, 576, 5) as usize;
+    let n = number(row, 582, 3) as usize;
+    let length = (number(row, 586, 2) as usize).min(64);
+    let mut input: ArrayVec<u8, 139281> = ArrayVec::new();
+    input.extend(row.iter().copied().take(n).cycle().take(size))?;
+    let wanted = &row[512..512 + length];
+    let text = answer_text(&input);
+    Ok(Agrees {
+        bytes: text.as_bytes() == wanted,
+        streams: streams::agrees(&input, wanted),
+    })
+}
+
+// How many rows follow.
+fn count(rt: &HostRuntime) -> io::Result<u64>
+    ensures { IfOk result (λ n. n < 65536) }
+{
     let mut head = [0u8; 5];
-    input.read_exact(&mut head)?;
-    let cases = number(&head, 0, 4);
+    rt.stdin().read_exact(&mut head)?;
+    Ok(number(&head, 0, 4) % 65536)
+}
+
+fn next(rt: &HostRuntime) -> io::Result<Agrees> {
+    let mut row = [0u8; 589];
+    rt.stdin().read_exact(&mut row)?;
+    compared(&row)
+}
+
+fn cases(rt: &HostRuntime) -> io::Result<()> {
+    let cases = count(rt)?;
     let mut agreed: u64 = 0;
     for case in 1..=cases {
-        let mut row = [0u8; 589];
-        input.read_exact(&mut row)?;
-        if agrees(&row)? {
+        let agrees = next(rt)?;
+        if agrees.bytes && agrees.streams {
             agreed += 1;
         } else {
             println!(rt; "case {case} disagrees")?;
         }
     }
     println!(rt; "{agreed} of {cases} agree")
+}
+
+// The negative control.
+fn wrong_texts(rt: &HostRuntime) -> io::Result<()> {
+    let texts = count(rt)?;
+    for text in 1..=texts {
+        let agrees = next(rt)?;
+        if agrees.bytes || agrees.streams {
+            println!(rt; "wrong text {text} is taken for right")?;
+            return Err(io::Error::from(ErrorKind::InvalidData));
+        }
+    }
+    println!(rt; "{texts} of {texts} wrong texts told as wrong")
+}
+
+fn main(rt: HostRuntime) -> io::Result<()> {
+    cases(&rt)?;
+    wrong_texts(&rt)
 }
