@@ -32,6 +32,9 @@ s  k ee ww rtndfzs qq z a  a format, the settings in the document's order and a
                            negative ones (2). a: 1 the format is valid, 2 so
                            are the settings, 4 the sum of these zeros is -0,
                            8 terms that cancel give -0
+
+Behind them stand five parts more, headed in the same way: the negative
+control, rows of each kind with one answer changed.
 """
 
 import random
@@ -305,6 +308,21 @@ def settings_rows(rng, count):
         yield settings_row(rng.choice((0, 1, 2, 3, 3, 4)), e, w, numbers, precision, rng.randrange(4))
 
 
+def spoilt(row, column, mask=1):
+    """The row with one digit changed."""
+    return row[:column] + '%x' % (int(row[column], 16) ^ mask) + row[column + 1:]
+
+
+def controls(parts):
+    """The first row of each part with one of its answers changed: each answer in turn, and of the 128 roundings the first and the last, result and flags."""
+    decode, nans, rounds, widths, offered = (part[0] for part in parts)
+    return ([spoilt(decode, column) for column in (8, 10, 12, 15, 18)],
+            [spoilt(nans, 11 + 2 * j) for j in range(8)],
+            [spoilt(rounds, column + 4 * j) for j in (0, 127) for column in (52, 54)],
+            [spoilt(widths, 15 + 9 * j) for j in range(7)],
+            [spoilt(offered, 21, mask) for mask in (1, 2, 4, 8)])
+
+
 def write(path):
     rng = random.Random(20)
     formats = [Format(kind, e, w).fill() for kind in KINDS for e, w in TINY]
@@ -317,9 +335,10 @@ def write(path):
     for part in parts:
         assert len(set(len(row) for row in part)) == 1
     with open(path, 'w') as out:
-        out.write(' '.join('%04x' % len(part) for part in parts) + '\n')
-        for part in parts:
-            out.write(''.join(row + '\n' for row in part))
+        for written in (parts, controls(parts)):
+            out.write(' '.join('%04x' % len(part) for part in written) + '\n')
+            for part in written:
+                out.write(''.join(row + '\n' for row in part))
     print('rows', [len(part) for part in parts], 'of', [len(part[0]) + 1 for part in parts], 'bytes; checks',
           5 * len(decode) + 8 * len(nans) + 128 * len(rounds) + 7 * len(widths) + 4 * len(offered))
 

@@ -1,5 +1,6 @@
 // Runs the codec and the rounding over the vectors of standard input, and prints how many of the answers agree. vectors.py makes the vectors, from
 // the text of document 01 alone, and says how a row is laid out.
+// Behind them it writes wrong answers, which have to be told as wrong.
 #![tactic(auto)]
 
 mod rows;
@@ -9,7 +10,7 @@ ghost use Rattle.std.specs.Prelude.{ℕ, ◌*◌, ◌^◌, ◌<◌, ◌≤◌, I
 use hexadecimal::number;
 use rows::{decode_row, format_row, nan_row, round_row, settings_row};
 use std::io;
-use std::io::Read;
+use std::io::{ErrorKind, Read};
 
 // How many answers of the next n rows, each of N bytes, agree, by a function that tells it of one row.
 fn next_rows<const N: usize, F: Fn(&[u8]) -> u64>(
@@ -49,6 +50,46 @@ fn report<const N: usize, F: Fn(&[u8]) -> u64>(
     println!(rt; "{name}: {agreed} of {all} agree")
 }
 
+// The next n rows, in each of which one answer is wrong: as many agree as are right, or there is
+// an error.
+fn told<const N: usize, F: Fn(&[u8]) -> u64>(
+    rt: &HostRuntime,
+    n: u64,
+    right: u64,
+    agreeing: F,
+) -> io::Result<()>
+    requires short { N < 2 ^ 63 }
+    requires callable { F.IsAlwaysCallable agreeing }
+{
+    for _ in 0..n {
+        let mut row = [0u8; N];
+        rt.stdin().read_exact(&mut row)?;
+        if agreeing(&row) != right {
+            return Err(io::Error::from(ErrorKind::InvalidData));
+        }
+    }
+    Ok(())
+}
+
+// The negative control: behind the vectors stand rows of each kind with one digit of the answers
+// changed, each of which has to be told as wrong.
+fn control(rt: &HostRuntime) -> io::Result<()> {
+    let mut head = [0u8; 25];
+    rt.stdin().read_exact(&mut head)?;
+    let d = number(&head, 0, 4) % 65536;
+    let n = number(&head, 5, 4) % 65536;
+    let r = number(&head, 10, 4) % 65536;
+    let f = number(&head, 15, 4) % 65536;
+    let s = number(&head, 20, 4) % 65536;
+    told::<20, _>(rt, d, 4, decode_row)?;
+    told::<27, _>(rt, n, 7, nan_row)?;
+    told::<564, _>(rt, r, 127, round_row)?;
+    told::<71, _>(rt, f, 6, format_row)?;
+    told::<23, _>(rt, s, 3, settings_row)?;
+    let wrong = d + n + r + f + s;
+    println!(rt; "one digit changed: {wrong} told as wrong")
+}
+
 fn main(rt: HostRuntime) -> io::Result<()> {
     let mut head = [0u8; 25];
     rt.stdin().read_exact(&mut head)?;
@@ -61,5 +102,6 @@ fn main(rt: HostRuntime) -> io::Result<()> {
     report::<27, _>(&rt, "choice among NaNs", n, 8 * n, nan_row)?;
     report::<564, _>(&rt, "rounding", r, 128 * r, round_row)?;
     report::<71, _>(&rt, "formats", f, 7 * f, format_row)?;
-    report::<23, _>(&rt, "settings and zeros", s, 4 * s, settings_row)
+    report::<23, _>(&rt, "settings and zeros", s, 4 * s, settings_row)?;
+    control(&rt)
 }
