@@ -178,6 +178,9 @@ column  0      c
       113      sixteen bytes of buffer before the call, two digits each
       146      the same after the call
       179      twelve values, 16 digits each
+
+Behind all these stand the rows of the negative control: for each way of working a kind of row out their number and the rows, each the kind's first
+accepted one with one digit of the answer changed (CONTROLS).
 """
 
 import os
@@ -1405,7 +1408,48 @@ def texts(made):
     rows = reaches()
     stdin += '%04x\n' % len(rows) + ''.join(reach.row() for reach in rows)
     stdout += dots('contributions') + ' %d of %d agree\n' % (len(rows), len(rows))
+    wrong = list(controls(stdin))
+    stdin += ''.join('%04x\n' % len(rows) + ''.join(rows) for rows in wrong)
+    stdout += dots('answers with one digit changed') + ' %d told as wrong\n' % sum(map(len, wrong))
     return stdin, stdout
+
+
+# The last digits of a record's fields, as a function answers it; and of what an entry returns and writes
+RECORD = (47, 50, 57, 67, 69, 71, 77)
+ENTERED = (47, 50, 57, 75, 77)
+# The kinds of rows, in the order of the control: the letters that a row begins with, its length, what row will do, and for each way of working it out the
+# columns of the answer that it compares. Of a page that is written the columns lie behind its values.
+CONTROLS = (
+    *(('sd', length, lambda row: row[69] == '0', (RECORD, RECORD, ENTERED)) for length in (283, 487, 301)),
+    *(('p', length, lambda row: row[45] == '0' and int(row[28:44], 16), ((27, 43, 45, 47),)) for length in (49, 67)),
+    *(('p', length, lambda row: row[30] == '0' and int(row[13:29], 16), ((12, 28, 30, 32), (12, 28, 30))) for length in (283, 301)),
+    *(('t', length, lambda row: row[69] == '0' and int(row[283:299], 16), (RECORD + (332,), ENTERED + (332,))) for length in (487, 505)),
+    ('r', 487, lambda row: row[8:13] == '00 00' and '0' not in row[3:5], ((9, 46, 63, 298, 400), (12, 46, 63, 298, 400))),
+    *(('g', length, lambda row: row[69] == '0', (RECORD, ENTERED)) for length in (530, 2306)),
+    *(('w', length, lambda row: row[18:20] == '00' and int(row[2:4], 16), ((19, 'first', 'last'),)) for length in (791, 4279)),
+    ('sd', 496, lambda row: int(row[73:76], 16) == 0, ((75, 159, 237),)),
+    ('i', 1371, lambda row: row[42] == '0', ((42, 1163, 1369),)),
+    ('sd', 1112, lambda row: int(row[73:76], 16) == 0, ((75, 400, 702),)),
+    ('c', 383, lambda row: int(row[73:76], 16) == 0, ((21, 77, 111), (21, 77, 111), (75, 147, 177))),
+)
+
+
+def spoilt(row, column):
+    """A row with one digit, or one sign, of the answer changed."""
+    if column in ('first', 'last'):
+        page = 22 + 16 * int(row[2:4], 16)
+        column = page + 1 if column == 'first' else page + 2 * int(row[5:8], 16) - 1
+    other = {'+': '-', '-': '+'}.get(row[column]) or '%x' % (int(row[column], 16) ^ 1)
+    return row[:column] + other + row[column + 1:]
+
+
+def controls(stdin):
+    """The parts of the negative control, each with its rows, from the rows that stand in front of them."""
+    lines = stdin.splitlines(keepends=True)
+    for letters, length, will_do, ways in CONTROLS:
+        row = next(line for line in lines if len(line) == length and line[0] in letters and will_do(line))
+        for columns in ways:
+            yield [spoilt(row, column) for column in columns]
 
 
 def pence_parts():
@@ -1492,7 +1536,8 @@ def check():
                 wrong += 1
                 print('%s, row %d (line %d):\n  listed %s  model  %s' % (name, i + 1, at + 2 + i, row, other(row)), end='')
         at += 1 + n
-    assert at == len(lines)
+    # what stands behind them is held to what this script makes, below
+    assert ''.join(lines[at:]) == ''.join('%04x\n' % len(part) + ''.join(part) for part in controls(''.join(lines[:at])))
     print(rows - wrong, 'of', rows, 'rows agree with the model')
     with open(os.path.join(HERE, 'stdout')) as file:
         same = texts(sections()) == (''.join(lines), file.read())

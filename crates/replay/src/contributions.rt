@@ -54,7 +54,7 @@ fn expected_at(s: &[u8]) -> Contribution
     }
 }
 
-fn by_words(s: &[u8]) -> bool {
+pub(crate) fn by_words(s: &[u8]) -> bool {
     let values: [u64; VALUES] = words_in(s, LIST);
     let n = at_most(s, 23, 2, VALUES);
     let wanted = number(s, WANTED, 16);
@@ -62,7 +62,7 @@ fn by_words(s: &[u8]) -> bool {
 }
 
 // With the bytes that the row adds behind the values.
-fn by_bytes(s: &[u8]) -> bool {
+pub(crate) fn by_bytes(s: &[u8]) -> bool {
     let values: [u8; BYTES] = laid_words(s, LIST, VALUES);
     let n = 8 * at_most(s, 23, 2, VALUES) + at_most(s, 26, 2, 7);
     let wanted = number(s, WANTED, 16);
@@ -94,7 +94,7 @@ fn enter(s: &[u8], answer: &mut [u8]) -> u64 {
 }
 
 // Whether the entry agrees with the row, with as much of the buffer as that says.
-fn by_entry(s: &[u8]) -> bool {
+pub(crate) fn by_entry(s: &[u8]) -> bool {
     leaves::<BUFFER, _>(
         |answer| enter(s, answer),
         bytes_in(s, BEFORE),

@@ -10,7 +10,7 @@ use totals::pence::{Pence, pence_of_sum};
 // What a figure is before a call. A refused call leaves it.
 const BEFORE: i64 = 7777777777777777777;
 
-fn by_function(s: &[u8]) -> bool {
+pub(crate) fn by_function(s: &[u8]) -> bool {
     let values = words_at(s, 0);
     let n = at_most(s, 10, 1, 12);
     pence_of_sum(format_at(s), &values[..n]) == pence_at(s, 12)
@@ -39,7 +39,7 @@ fn left(p: Pence, returned: u64, figure: i64) -> bool {
     }
 }
 
-fn by_entry(s: &[u8]) -> bool {
+pub(crate) fn by_entry(s: &[u8]) -> bool {
     let values = words_at(s, 0);
     let n = at_most(s, 10, 1, 12);
     let mut figure = BEFORE;

@@ -2,10 +2,12 @@
 // worked out over words, over bytes and through a byte entry, the pence of a list, the totals of a table, of ranges and of a page's span by the function and
 // through its entry; pages are written through theirs, values of ten bytes are added through the byte entries, and one total in several formats comes
 // through its own, and so do totals within an allowance of passes. Contributions come over words, over bytes and through their entry.
+// Then come wrong answers, each of which has to be told as wrong.
 // cases.py makes the list, and says how it is laid out; README.md says where the answers come from.
 #![tactic(auto)]
 
 mod contributions;
+mod control;
 mod estimates;
 mod figures;
 mod input;
@@ -189,5 +191,7 @@ fn main(rt: HostRuntime) -> io::Result<()> {
         "totals within an allowance of passes ",
         estimates::agrees,
     )?;
-    report_rows::<{ contributions::ROW }, _>(&rt, "contributions ", contributions::agrees)
+    report_rows::<{ contributions::ROW }, _>(&rt, "contributions ", contributions::agrees)?;
+    let wrong = control::told(&rt)?;
+    println!(rt; "answers with one digit changed ............. {wrong} told as wrong")
 }

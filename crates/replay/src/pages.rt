@@ -88,7 +88,7 @@ fn enter(s: &[u8], page: &[u8], start: usize, end: usize, answer: &mut [u8]) -> 
     )
 }
 
-fn by_function(s: &[u8]) -> bool {
+pub(crate) fn by_function(s: &[u8]) -> bool {
     let answer = asked(
         s,
         |page, start, end| page_sum(settings_at(s), summand_at(s), page, start, end),
@@ -96,7 +96,7 @@ fn by_function(s: &[u8]) -> bool {
     answer == answer_at(s)
 }
 
-fn by_entry(s: &[u8]) -> bool {
+pub(crate) fn by_entry(s: &[u8]) -> bool {
     entry_agrees(
         s,
         |answer| asked(s, |page, start, end| enter(s, page, start, end, answer)),

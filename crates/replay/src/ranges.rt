@@ -100,7 +100,7 @@ fn asked<T, F: FnOnce(&[u64], &mut [u64], &mut [u64], u64) -> T>(
 }
 
 // Asked a second time, with the lists as they were left, it answers the same and leaves the same.
-fn by_function(s: &[u8]) -> bool {
+pub(crate) fn by_function(s: &[u8]) -> bool {
     let mut firsts = words_at(s, 0);
     let mut seconds = words_at(s, 6);
     let accepted = refusal_at(s) == 0;
@@ -120,7 +120,7 @@ fn written(s: &[u8], accepted: bool) -> [u64; 4] {
 }
 
 // The entry with as much of the pair as the row says.
-fn by_entry(s: &[u8]) -> bool {
+pub(crate) fn by_entry(s: &[u8]) -> bool {
     let mut firsts = words_at(s, 0);
     let mut seconds = words_at(s, 6);
     let mut pair = [BEFORE; 4];

@@ -85,7 +85,7 @@ fn worked(s: &[u8], row_totals: &mut [u64; 16], column_totals: &mut [u64; 16]) -
     )
 }
 
-fn by_function(s: &[u8]) -> bool {
+pub(crate) fn by_function(s: &[u8]) -> bool {
     let mut row_totals = before();
     let mut column_totals = before();
     let answer = worked(s, &mut row_totals, &mut column_totals);
@@ -144,7 +144,7 @@ fn entered(
     )
 }
 
-fn by_entry(s: &[u8]) -> bool {
+pub(crate) fn by_entry(s: &[u8]) -> bool {
     let mut row_totals = before();
     let mut column_totals = before();
     let agrees = entry_agrees(
