@@ -13,6 +13,7 @@ mod figures;
 mod input;
 mod lists;
 mod pages;
+mod promised;
 mod ranges;
 mod row;
 mod tables;
@@ -89,7 +90,7 @@ impl fmt::Display for Agreed {
 fn counted(rt: &HostRuntime, row: &[u8]) -> io::Result<Agreed>
     ensures { IfOk result (λ a. a.rows ≡ 1) }
 {
-    let words = by_words(row);
+    let words = by_words(row) && promised::keeps(row);
     let bytes = by_bytes(row);
     let entries = by_entry(row);
     if !(words && bytes && entries) {

@@ -1,6 +1,7 @@
 // Rows of values of ten bytes, each worked out through an exported byte entry.
 use crate::row::{at_most, bytes_in, is_dot, returned_at, settings_at, summand_at, told_format_at};
-use crate::ways::{enter_dot, enter_sum, leaves};
+use crate::ways::leaves;
+use promised_calls::entries::{enter_dot, enter_sum};
 
 // The length of a row.
 pub const ROW: usize = 496;

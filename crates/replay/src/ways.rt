@@ -1,19 +1,14 @@
 // A case worked out over words, over bytes and through the byte entries.
 ghost use Rattle.std.specs.Prelude.{◌≡◌, ◌<◌, ◌≤◌, IsTrue, take, drop, replicate};
 ghost use Rattle.std.specs.Fn.{FnOnceReturnsAtMut};
-ghost use Rattle.totals_spec.specs.Extended.{sum_call, dot_call};
-ghost use Rattle.format.specs.Joined.{format_of, settings_of};
-ghost use Rattle.totals.specs.Entered.{Enters};
 ghost use Rattle.replay.specs.Row.{IsTold, word_at, lent_in, written_in};
 
 use crate::row::{
     answer_at, at_most, bytes_at, format_at, is_dot, returned_at, right_bytes, right_words,
     settings_at, summand_at, words_at,
 };
-use format::Format;
-use format::env::Settings;
+use promised_calls::entries::{enter_dot, enter_sum};
 use reduction::total::Answer;
-use totals::entry::{totals_dot, totals_dot_biased, totals_sum, totals_sum_biased};
 use totals::{dot, dot_bytes, sum, sum_bytes};
 use values::put_word;
 
@@ -66,87 +61,6 @@ fn total_bytes(s: &[u8]) -> Answer {
 
 pub(crate) fn by_bytes(s: &[u8]) -> bool {
     total_bytes(s) == answer_at(s)
-}
-
-// Through the entry that names a bias, where the row does.
-pub fn enter_sum(f: Format, c: Settings, u: u64, values: &[u8], answer: &mut [u8]) -> u64
-    ensures { Enters (sum_call (format_of f) (settings_of c) u values.now answer.old) result answer.new }
-{
-    match f.named {
-        Some(bias) => totals_sum_biased(
-            f.kind,
-            f.exponent_bits,
-            f.width,
-            bias,
-            c.rounding,
-            c.tininess,
-            c.nan_propagation,
-            c.default_nan_negative,
-            c.flush_to_zero,
-            c.denormals_are_zero,
-            c.saturate,
-            c.precision,
-            u,
-            values,
-            answer,
-        ),
-        None => totals_sum(
-            f.kind,
-            f.exponent_bits,
-            f.width,
-            c.rounding,
-            c.tininess,
-            c.nan_propagation,
-            c.default_nan_negative,
-            c.flush_to_zero,
-            c.denormals_are_zero,
-            c.saturate,
-            c.precision,
-            u,
-            values,
-            answer,
-        ),
-    }
-}
-
-pub fn enter_dot(f: Format, c: Settings, left: &[u8], right: &[u8], answer: &mut [u8]) -> u64
-    ensures { Enters (dot_call (format_of f) (settings_of c) left.now right.now answer.old) result answer.new }
-{
-    match f.named {
-        Some(bias) => totals_dot_biased(
-            f.kind,
-            f.exponent_bits,
-            f.width,
-            bias,
-            c.rounding,
-            c.tininess,
-            c.nan_propagation,
-            c.default_nan_negative,
-            c.flush_to_zero,
-            c.denormals_are_zero,
-            c.saturate,
-            c.precision,
-            left,
-            right,
-            answer,
-        ),
-        None => totals_dot(
-            f.kind,
-            f.exponent_bits,
-            f.width,
-            c.rounding,
-            c.tininess,
-            c.nan_propagation,
-            c.default_nan_negative,
-            c.flush_to_zero,
-            c.denormals_are_zero,
-            c.saturate,
-            c.precision,
-            left,
-            right,
-            answer,
-        ),
-    }
 }
 
 fn enter(s: &[u8], answer: &mut [u8]) -> u64 {
