@@ -1,4 +1,5 @@
--- A call of a byte entry that leaves what the definition does: two calls with a buffer each, and refused ones.
+-- A call of a byte entry that leaves what the definition does: two calls with a buffer each, and
+-- refused ones.
 use Rattle.std.proofs.Common.{◌≡◌, ◌≢◌, ℕ, ◌+◌, ◌*◌, ◌%◌, ◌/◌, ◌≤◌, ◌<◌, List, eqb, refl, sym, ap, ◌∙◌, subst, arith}
 use Rattle.std.specs.Prelude.{Bool, true, false, not, ◌||◌, cond, length, take, drop}
 use mathlib.Core.Logic.{◌⊎◌, inl, inr}

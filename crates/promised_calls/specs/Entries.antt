@@ -1,4 +1,5 @@
--- What the byte entries of a total read and write, of every kind: of kind 4 a value has ten bytes and an answer 32, of the others eight and 24.
+-- What the byte entries of a total read and write, of every kind: of kind 4 a value has ten bytes
+-- and an answer 32, of the others eight and 24.
 use Rattle.std.specs.Prelude.{◌≡◌, Bool, true, false, ◌||◌, List, ℕ, ◌%◌, ◌≤◌, length, take, drop}
 use Rattle.totals_spec.specs.Bytes.{from_bytes, values_in}
 use Rattle.totals_spec.specs.Format.{Format}

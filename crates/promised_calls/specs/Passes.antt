@@ -1,4 +1,5 @@
--- The limit on the passes, written out: 1 + ⌈(T − 702 − B) / (697 − p)⌉. `-` stops at 0, so that the limit is 1 where T − 702 lies below B.
+-- The limit on the passes, written out: 1 + ⌈(T − 702 − B) / (697 − p)⌉. `-` stops at 0, so that
+-- the limit is 1 where T − 702 lies below B.
 use Rattle.std.specs.Prelude.{List, ℕ, ◌+◌, ◌-◌, ◌/◌}
 use Rattle.totals_spec.specs.Format.{Format, digits}
 use Rattle.totals_spec.specs.Terms.{Term, top_of}

@@ -1,4 +1,5 @@
--- What is rounded once: the sum of the elements, their magnitudes, their squares or their products, as an exact number.
+-- What is rounded once: the sum of the elements, their magnitudes, their squares or their products,
+-- as an exact number.
 use Rattle.std.specs.Prelude.{Bool, true, List, map, ℕ}
 use Rattle.totals_spec.specs.Basics.{Signed, raised}
 use Rattle.totals_spec.specs.Format.{Format, room, grid}
@@ -9,7 +10,8 @@ use Rattle.totals_spec.specs.Promises.{ReadsBack, ReadsBack32}
 use Rattle.promises.specs.Amounts.{amount, product}
 use Rattle.promises.specs.Statements.{RoundedOnce, ExtendedOnce}
 
--- the exact sum of the amounts of a list, in the units in which the format's least number is 2^grid; and that of the products of the pairs of two
+-- the exact sum of the amounts of a list, in the units in which the format's least number is
+-- 2^grid; and that of the products of the pairs of two
 abbrev pub exact_by : Summand → Format → Settings → List ℕ → Signed
 exact_by value f c l = raised room (sum_of_amounts (map (amount f c value) l))
 exact_by magnitude f c l = raised room (sum_of_amounts (map (amount f c magnitude) l))
