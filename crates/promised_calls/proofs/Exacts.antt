@@ -10,7 +10,7 @@ use Rattle.totals_spec.specs.Terms.{item, pair_item, exact_sum}
 use Rattle.totals_spec.specs.Totals as spec
 use Rattle.totals_spec.specs.Totals.{on_grid, is_square, pairs, sum_terms, sum_answer, dot_terms, dot_answer}
 use Rattle.totals_spec.specs.Promises.{AllFinite, zero_answer, zero_for}
-use Rattle.totals_spec.proofs.Promises.{sum_zeros, dot-zeros, sum-side, dot-side}
+use Rattle.totals_spec.proofs.Promises.{sum-zeros, dot-zeros, sum-side, dot-side}
 use Rattle.promises.specs.Special.{Cancelled, some_subnormal}
 use Rattle.promises.specs.Statements.{RoundedOnce}
 use Rattle.promises.proofs.Amounts.{exact-sum-means}
@@ -64,7 +64,7 @@ module _ (f : Format) (c : Settings) (u : ℕ) (l : List ℕ) (a : Answer) (is :
 
   pub sum-of-zeros : length (sum_terms f c (summand_of u) l) ≡ 0
       → answer_of a ≡ zero_answer f (some_subnormal f l) (zero_for c (map (item f c (summand_of u)) l))
-  sum-of-zeros n = is ∙ sum_zeros f c u l sum-accepted h n
+  sum-of-zeros n = is ∙ sum-zeros f c u l sum-accepted h n
 
   pub sum-sided : a.side ≡ side_of (grid_for f u) (decode f a.result) (exact f c u l)
   sum-sided =
