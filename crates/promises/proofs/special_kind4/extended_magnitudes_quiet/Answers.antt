@@ -1,0 +1,5 @@
+use Rattle.promises.proofs.SpecialKind4.{extended-magnitudes-quiet}
+use Rattle.promises.proofs.special_kind4.extended_magnitudes_quiet.Goals as goal
+
+pub returns : goal.returns
+returns c = extended-magnitudes-quiet
