@@ -1,0 +1,5 @@
+use Rattle.promises.proofs.RisesTotals.{amounts-rise}
+use Rattle.promises.proofs.rising.amounts_rise.Goals as goal
+
+pub returns : goal.returns
+returns c = amounts-rise

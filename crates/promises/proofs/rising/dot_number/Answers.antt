@@ -1,0 +1,5 @@
+use Rattle.promises.proofs.RisesTotals.{dot-number}
+use Rattle.promises.proofs.rising.dot_number.Goals as goal
+
+pub returns : goal.returns
+returns c = dot-number

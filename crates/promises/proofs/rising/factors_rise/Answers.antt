@@ -1,0 +1,5 @@
+use Rattle.promises.proofs.RisesTotals.{factors-rise}
+use Rattle.promises.proofs.rising.factors_rise.Goals as goal
+
+pub returns : goal.returns
+returns c = factors-rise

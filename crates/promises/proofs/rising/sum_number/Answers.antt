@@ -1,0 +1,5 @@
+use Rattle.promises.proofs.RisesTotals.{sum-number}
+use Rattle.promises.proofs.rising.sum_number.Goals as goal
+
+pub returns : goal.returns
+returns c = sum-number

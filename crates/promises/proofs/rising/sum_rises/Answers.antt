@@ -1,0 +1,5 @@
+use Rattle.promises.proofs.RisesTotals.{sum-rises}
+use Rattle.promises.proofs.rising.sum_rises.Goals as goal
+
+pub returns : goal.returns
+returns c = sum-rises
