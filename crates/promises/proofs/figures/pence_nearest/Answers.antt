@@ -1,0 +1,5 @@
+use Rattle.promises.proofs.Pennies.{pence-nearest}
+use Rattle.promises.proofs.figures.pence_nearest.Goals as goal
+
+pub returns : goal.returns
+returns c = pence-nearest

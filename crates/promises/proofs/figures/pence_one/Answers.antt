@@ -1,0 +1,5 @@
+use Rattle.promises.proofs.Pennies.{pence-one}
+use Rattle.promises.proofs.figures.pence_one.Goals as goal
+
+pub returns : goal.returns
+returns c = pence-one
