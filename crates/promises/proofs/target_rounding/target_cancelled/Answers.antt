@@ -1,0 +1,5 @@
+use Rattle.promises.proofs.RoundedTargets.{target-cancelled}
+use Rattle.promises.proofs.target_rounding.target_cancelled.Goals as goal
+
+pub returns : goal.returns
+returns c = target-cancelled

@@ -1,0 +1,5 @@
+use Rattle.promises.proofs.RoundedTargets.{target-rounded-once}
+use Rattle.promises.proofs.target_rounding.target_rounded_once.Goals as goal
+
+pub returns : goal.returns
+returns c = target-rounded-once
