@@ -1,0 +1,5 @@
+use Rattle.promises.proofs.InBytes.{dot-call-does}
+use Rattle.promises.proofs.byte_entries.dot_call_does.Goals as goal
+
+pub returns : goal.returns
+returns c = dot-call-does

@@ -1,0 +1,5 @@
+use Rattle.promises.proofs.InBytes.{eights-values}
+use Rattle.promises.proofs.byte_entries.eights_values.Goals as goal
+
+pub returns : goal.returns
+returns c = eights-values

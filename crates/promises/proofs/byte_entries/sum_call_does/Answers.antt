@@ -1,0 +1,5 @@
+use Rattle.promises.proofs.InBytes.{sum-call-does}
+use Rattle.promises.proofs.byte_entries.sum_call_does.Goals as goal
+
+pub returns : goal.returns
+returns c = sum-call-does
