@@ -15,9 +15,9 @@ use Rattle.totals_spec.specs.Bytes.{to_bytes, values_in, Entry, written, entered
 use Rattle.totals_spec.specs.Conditions.{Uneven, UnevenTens}
 use Rattle.totals_spec.specs.Extended.{tens_in, uneven_tens, extended_written, extended_entered}
 use Rattle.totals_spec.specs.Extended.{extended_sum_answer, extended_dot_answer, extended_sum_entry, extended_dot_entry, sum_call, dot_call}
-use Rattle.totals_spec.proofs.Fits.{sum_fits, dot-fits}
+use Rattle.totals_spec.proofs.Fits.{sum-fits, dot-fits}
 use Rattle.totals_spec.proofs.Values.{wide-length, wide_at}
-use Rattle.totals_spec.proofs.Extended.{extended_fits, extended-refused}
+use Rattle.totals_spec.proofs.Extended.{extended-fits, extended-refused}
 use Rattle.promises.specs.Entries.{Bytes-of, Eights-values, eights_of, tens_of, Does}
 use Rattle.promises.specs.Entries.{Sum-call-does, Dot-call-does, Extended-sum-call-does, Extended-dot-call-does}
 
@@ -131,7 +131,7 @@ pub sum-call-does : Sum-call-does
 unfolding sum_call sum_entry entered
 sum-call-does f c u bytes old k =
     let a = sum_answer f c u (values_in bytes) in
-    let s = sum_fits f c u (values_in bytes) in
+    let s = sum-fits f c u (values_in bytes) in
     rw (ne_eqb f.kind 4 k)
     (does (Uneven bytes) (uneven bytes) 24 (a.refusal + 256 * a.place) a (eights_of a) (written a old) old (found 8 bytes) (found-back 8 bytes)
     (λ h. refl) (λ h. eights-written a old s.flags (small a.side s.side)))
@@ -152,7 +152,7 @@ pub extended-sum-call-does : Extended-sum-call-does
 unfolding sum_call extended_sum_entry extended_entered
 extended-sum-call-does f c u bytes old k =
     let a = extended_sum_answer f c u (tens_in bytes) in
-    let s = extended_fits.0 f c u (tens_in bytes) in
+    let s = extended-fits.0 f c u (tens_in bytes) in
     rw (eq-eqb f.kind 4 k)
     (does (UnevenTens bytes) (uneven_tens bytes) 32 a.refusal a (tens_of a) (extended_written a old) old (found 10 bytes) (found-back 10 bytes)
     (λ h. let z : a.place ≡ 0 = ap (λ (b : Answer). b.place) (extended-refused.0 f c u (tens_in bytes) h) in omega (arith, z))
@@ -162,7 +162,7 @@ pub extended-dot-call-does : Extended-dot-call-does
 unfolding dot_call extended_dot_entry extended_entered
 extended-dot-call-does f c left right old k =
     let a = extended_dot_answer f c (tens_in left) (tens_in right) in
-    let s = extended_fits.1 f c (tens_in left) (tens_in right) in
+    let s = extended-fits.1 f c (tens_in left) (tens_in right) in
     rw (eq-eqb f.kind 4 k)
     (does (UnevenTens left ⊎ UnevenTens right) (uneven_tens left || uneven_tens right) 32 a.refusal a (tens_of a) (extended_written a old) old
     (either-found 10 left right) (either-back 10 left right)

@@ -22,7 +22,7 @@ use Rattle.totals_spec.specs.Totals.{Answer, on_grid, is_square, pairs, sum_refu
 use Rattle.totals_spec.specs.Promises.{AllFinite, kept_as}
 use Rattle.totals_spec.proofs.Accepts.{sum-accepts, dot-accepts}
 use Rattle.totals_spec.proofs.Signed.{difference-parts}
-use Rattle.totals_spec.proofs.Zeros.{sum_zeros, dot-zeros}
+use Rattle.totals_spec.proofs.Zeros.{sum-zeros, dot-zeros}
 use Rattle.totals_spec.proofs.RoundedBack.{held_back}
 use Rattle.promises.specs.Rounding.{Once}
 use Rattle.promises.specs.Statements.{RoundedOnce}
@@ -138,7 +138,7 @@ module _ (f : Format) (c : Settings) (u : ℕ) (l : List ℕ) (r : sum_refusal f
           (sum-rounded-once f c u l r h (let z : 0 < exact.mag = omega (arith, eqb-false exact.mag 0 t) in z))
       go true t true i =
           of-zero f c (grid f sq) b w exact _ _ (eqb-true exact.mag 0 t)
-          (ap (λ (a : Answer). a.result) (sum_zeros f c u l r h (eqb-true _ 0 i)))
+          (ap (λ (a : Answer). a.result) (sum-zeros f c u l r h (eqb-true _ 0 i)))
       go true t false i =
           of-zero f c (grid f sq) b w exact _ _ (eqb-true exact.mag 0 t)
           (sum-cancelled f c u l r h (let z : 0 < length (sum_terms f c (summand_of u) l) = omega (arith, eqb-false _ 0 i) in z)

@@ -23,7 +23,7 @@ use Rattle.totals_spec.specs.Extended.{extended_sum_refusal, extended_sum_answer
 use Rattle.totals_spec.specs.Extended.{both_of, extended_dot}
 use Rattle.totals_spec.specs.Extended.{extended_dot_refusal, extended_dot_answer}
 use Rattle.totals_spec.proofs.Accepted.{cond_has}
-use Rattle.totals_spec.proofs.Extended.{extended-dot-accepts, extended-zeros, extended_exact}
+use Rattle.totals_spec.proofs.Extended.{extended-dot-accepts, extended-zeros, extended-exact}
 use Rattle.totals_spec.proofs.ExtendedTerms.{extended-nans, extended-pair-nans, both-any}
 use Rattle.promises.specs.Special.{AllOf, Given, default_of, is_infinity, is_infinite_value}
 use Rattle.promises.specs.Special.{infinity_times_zero, infinite_product, ZeroSign, zero_product}
@@ -341,7 +341,7 @@ extended-dot-of-zeros f c xs ys r h =
 pub extended-sum-cancelled : Extended-sum-cancelled
 unfolding reported sum_rounded
 extended-sum-cancelled f c u l r h n e =
-    let a = extended_exact.0 f c u l r h n in
+    let a = extended-exact.0 f c u l r h n in
     let z = eq-eqb (exact_of c u l).mag 0 e in
     record {
       negative = towards_negative c;
@@ -353,7 +353,7 @@ extended-sum-cancelled f c u l r h n e =
 pub extended-dot-cancelled : Extended-dot-cancelled
 unfolding reported sum_rounded
 extended-dot-cancelled f c xs ys r h k n e =
-    let a = extended_exact.1 f c xs ys r h k n in
+    let a = extended-exact.1 f c xs ys r h k n in
     let z = eq-eqb (exact_dot c xs ys).mag 0 e in
     record {
       negative = towards_negative c;
