@@ -44,8 +44,8 @@ pub fn target_entry_or_refusal(
     ensures is { Enters
         (target_entry kind exponent_bits width bias_named bias denormals_are_zero targets.now
         values.now answer.old) result answer.new }
-    ensures exactly { RefusesExactly (target_entry_conditions targets.now values.now answer.old)
-        result }
+    ensures exactly { RefusesExactly
+        (target_entry_conditions kind targets.now values.now answer.old) result }
     ensures nothing_written { WritesNothing result answer.old answer.new }
 {
     totals_sum_into(

@@ -5,7 +5,8 @@ ghost use Rattle.totals_spec.specs.Conditions as when;
 ghost use Rattle.totals_spec.specs.Places.{StrayAt, DotStrayAt};
 ghost use Rattle.totals_spec.specs.Totals as totals;
 ghost use Rattle.totals_spec.specs.Words.{format_by};
-ghost use Rattle.further_spec.specs.Conditions.{within_conditions, within_entry_conditions};
+ghost use Rattle.further_spec.specs.Conditions.{CutShort, within_conditions};
+ghost use Rattle.further_spec.specs.Conditions.{within_entry_conditions};
 ghost use Rattle.further_spec.specs.Estimate as spec;
 ghost use Rattle.format.specs.Joined.{format_of, settings_of};
 ghost use Rattle.totals.specs.Entered.{Enters};
@@ -79,7 +80,7 @@ pub fn sum_within_entry_or_refusal(
         (spec.sum_within_entry kind exponent_bits width bias_named bias (settings_of c) u allowance
         values.now answer.old) result answer.new }
     ensures exactly { RefusesExactly
-        (within_entry_conditions (when.Uneven values.now) answer.old allowance bias_named bias
+        (within_entry_conditions (CutShort kind values.now) answer.old allowance bias_named bias
         (when.sum_conditions (format_by kind exponent_bits width bias_named bias) (settings_of c) u
         (values_in values.now))) (result % 256) }
     ensures nothing_written { WritesNothing result answer.old answer.new }
@@ -122,8 +123,8 @@ pub fn dot_within_entry_or_refusal(
         (spec.dot_within_entry kind exponent_bits width bias_named bias (settings_of c) allowance
         left.now right.now answer.old) result answer.new }
     ensures exactly { RefusesExactly
-        (within_entry_conditions (when.Uneven left.now ⊎ when.Uneven right.now) answer.old allowance
-        bias_named bias
+        (within_entry_conditions (CutShort kind left.now ⊎ CutShort kind right.now) answer.old
+        allowance bias_named bias
         (when.dot_conditions (format_by kind exponent_bits width bias_named bias) (settings_of c)
         (values_in left.now) (values_in right.now))) (result % 256) }
     ensures nothing_written { WritesNothing result answer.old answer.new }

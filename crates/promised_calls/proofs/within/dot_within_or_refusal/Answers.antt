@@ -5,12 +5,12 @@ use Rattle.promised_calls.proofs.within.dot_within_or_refusal.Goals as goal
 
 pub returns-clause-exactly : goal.returns-clause-exactly
 returns-clause-exactly c =
-    dot-exactly (format_of c.args.f) (settings_of c.args.c) c.args.left.now c.args.right.now c.args.allowance (estimate_of c.dot_within.result) c.dot_within.ensures
+    dot-exactly (format_of c.args.f) (settings_of c.args.c) c.args.left.now c.args.right.now c.args.allowance (estimate_of c.dot_within.result) c.dot_within.ensures.answer
 
 pub returns-clause-nothing_else : goal.returns-clause-nothing_else
 returns-clause-nothing_else c =
-    dot-nothing-else (format_of c.args.f) (settings_of c.args.c) c.args.left.now c.args.right.now c.args.allowance (estimate_of c.dot_within.result) c.dot_within.ensures
+    dot-nothing-else (format_of c.args.f) (settings_of c.args.c) c.args.left.now c.args.right.now c.args.allowance (estimate_of c.dot_within.result) c.dot_within.ensures.answer
 
 pub returns-clause-place : goal.returns-clause-place
 returns-clause-place c =
-    dot-placed (format_of c.args.f) (settings_of c.args.c) c.args.left.now c.args.right.now c.args.allowance (estimate_of c.dot_within.result) c.dot_within.ensures
+    dot-placed (format_of c.args.f) (settings_of c.args.c) c.args.left.now c.args.right.now c.args.allowance (estimate_of c.dot_within.result) c.dot_within.ensures.answer
