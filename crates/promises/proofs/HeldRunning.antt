@@ -1,31 +1,28 @@
 -- The last calls of a running total, test by test.
-use mathlib.Core.Path.{◌≡◌, refl, sym, ap, ◌∙◌, subst}
-use mathlib.Core.Logic.{◌⊎◌, inl, inr, ◌↔◌, ◌≢◌}
-use mathlib.Core.Bool.{Bool, true, false, not, ◌&&◌, ◌||◌, cond}
-use mathlib.Core.List.{List, [], ◌∷◌}
-use Prim.Native.Nat.{ℕ, zero, suc, ◌+◌, ◌*◌, ◌^◌, ◌≤◌, ◌<◌}
+use mathlib.Core.Path.{◌≡◌, refl, sym}
+use mathlib.Core.Logic.{◌↔◌, ◌≢◌}
+use mathlib.Core.Bool.{Bool, true, false, not, ◌||◌, cond}
+use mathlib.Core.List.{List}
+use Prim.Native.Nat.{ℕ, ◌+◌, ◌*◌, ◌^◌, ◌≤◌}
 use native.Mathlib.Omega.{arith}
-use lib.Dec.{T, leb, ltb, eqb, ltb→lt, lt→ltb, nltb→le, leb→le, le→leb}
+use lib.Dec.{T, ltb, eqb, ltb→lt, nltb→le, leb→le, le→leb}
 use lib.IntN.{ℤ, pos, neg_ℤ}
 use lib.ListN.{length}
-use borrow.Author.Tests.{eqb-true, eqb-false, eq-eqb, ne_eqb}
-use Rattle.totals_spec.specs.Basics.{Signed}
-use Rattle.totals_spec.specs.Format.{Format, valid_format, origin, fall}
-use Rattle.totals_spec.specs.Settings.{Settings, valid_settings, propagation_of}
-use Rattle.totals_spec.specs.Decode.{is_nan}
+use borrow.Author.Tests.{eqb-true, eqb-false, eq-eqb}
+use Rattle.totals_spec.specs.Format.{Format, origin, fall}
+use Rattle.totals_spec.specs.Settings.{Settings, valid_settings}
 use Rattle.totals_spec.specs.Totals.{Answer, refused, refuse_if, answered, special, infinities}
 use Rattle.totals_spec.specs.Bytes.{Entry, short, entered, written}
 use Rattle.totals_spec.specs.Extended.{extended, short32, extended_entered, extended_written}
-use Rattle.totals_spec.specs.Pence.{Pence, refused_pence, pence_of, in_range, sum_figure}
+use Rattle.totals_spec.specs.Pence.{Pence, refused_pence, pence_of, sum_figure}
 use Rattle.totals_spec.specs.Words.{misnamed, format_by, figure_entered}
-use Rattle.totals_spec.specs.Conditions.{Misnamed, BadFormat, BadSettings, BeyondPence, Condition, First}
 use Rattle.totals_spec.proofs.Exactly.{Tests, last, test, exactly, either, format-fails, settings-fail, misnamed-found}
 use Rattle.running_spec.specs.State.{State, Marks, marks}
-use Rattle.running_spec.specs.Saved.{Key, format_in, counted_in, products_in, is_kind4, infinity_first_in, key_in, state_in, opens}
-use Rattle.running_spec.specs.Finish.{saw_nan, no_number, finish_marks, finish_marks4, number_state, finite_state, finish, finish_extended, into_marks, finish_into, state_pence}
+use Rattle.running_spec.specs.Saved.{format_in, counted_in, products_in, is_kind4, infinity_first_in, key_in, state_in, opens}
+use Rattle.running_spec.specs.Finish.{no_number, finish_marks, finish_marks4, number_state, finite_state, finish, finish_extended, into_marks, finish_into, state_pence}
 use Rattle.running_spec.specs.Entries.{finished_state, finish_answer, finish_entry, into_refusal, into_entry, running_pence, running_pence_entry}
 use Rattle.running_spec.proofs.Refusals.{by-kind, shorter, state-fails, is-eq}
-use Rattle.promises.specs.HeldRunning.{ShortBy, finish_conditions, SawNoNumber, SawInvalid, into_conditions, pence_conditions, Leaves}
+use Rattle.promises.specs.HeldRunning.{finish_conditions, SawNoNumber, SawInvalid, into_conditions, pence_conditions, Leaves}
 use Rattle.promises.specs.HeldRunning.{Finish-refused-exactly, Finish-writes, Pence-writes}
 
 -- ---- a finished record is accepted

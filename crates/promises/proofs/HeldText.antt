@@ -3,19 +3,19 @@ use mathlib.Core.Path.{◌≡◌, refl, sym, ap, ◌∙◌, subst}
 use mathlib.Core.Logic.{inl, inr, ◌≢◌}
 use mathlib.Core.Bool.{Bool, true, false, not, cond}
 use mathlib.Core.List.{List, [], ◌∷◌, ◌++◌}
-use Prim.Native.Nat.{ℕ, zero, suc, ◌+◌, ◌-◌, ◌*◌, ◌/◌, ◌%◌, ◌^◌, ◌≤◌, ◌<◌}
+use Prim.Native.Nat.{ℕ, zero, suc, ◌+◌, ◌/◌, ◌%◌, ◌^◌, ◌≤◌, ◌<◌}
 use native.Mathlib.Nat.{mod-lt, mod-eq_of_lt, div-lt_iff_lt-mul, pow-succ', mul_comm, pow-le-pow_left, pow-le-pow_right, le_trans, lt_of_lt_of_le}
 use native.Mathlib.Omega.{arith}
-use lib.Dec.{T, eqb, ltb, ltb→lt, nltb→le}
+use lib.Dec.{T, ltb, ltb→lt, nltb→le}
 use lib.Ieee.{size}
 use lib.Ieee.Digits.{size-lt}
 use lib.ListN.{length, get_or, length-append, get_or-append}
-use borrow.Author.Tests.{ne_eqb, eq-eqb, lt-ltb}
+use borrow.Author.Tests.{ne_eqb, eq-eqb}
 use Rattle.std.specs.Char.{digit_value}
 use Rattle.std.specs.Str.Parse.{digits_value}
 use Rattle.std.proofs.lemmas.Int.Digits.{digits_value_push}
 use Rattle.std.proofs.lemmas.Str.{digit_value-digit_char, digit_value_digit}
-use Rattle.totals_spec.specs.Program.{hex_byte, hex_text, decimal_from, decimal_text, signed_text, pence_text, none_text, answer_text}
+use Rattle.totals_spec.specs.Program.{hex_byte, hex_text, decimal_from, answer_text}
 use Rattle.promises.specs.Special.{AllOf}
 use Rattle.promises.specs.Lines.{Digit}
 use Rattle.promises.specs.HeldText.{Hex-reads, Decimal, Decimal-reads, Figure-reads, Pence-line, Four-lines}

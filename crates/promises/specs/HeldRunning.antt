@@ -1,5 +1,5 @@
 -- The last calls of a running total: when a finish, a finish into another format and the pence are refused, and what they write.
-use Rattle.std.specs.Prelude.{◌≡◌, ◌≢◌, ◌⊎◌, ◌↔◌, Bool, cond, List, [], ◌∷◌, ℕ, ◌^◌, ◌<◌, ◌≤◌, length, ℤ, T as Holds}
+use Rattle.std.specs.Prelude.{◌≡◌, ◌≢◌, ◌⊎◌, ◌↔◌, cond, List, [], ◌∷◌, ℕ, ◌<◌, ◌≤◌, length, ℤ, T as Holds}
 use Rattle.totals_spec.specs.Settings.{Settings}
 use Rattle.totals_spec.specs.Decode.{is_nan}
 use Rattle.totals_spec.specs.Bytes.{Entry, written}

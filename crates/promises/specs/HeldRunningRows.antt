@@ -1,5 +1,5 @@
 -- A running total of squares, finished into other formats: of 3 and of the least number of binary16, whose squares add up to 9 + 2^−48.
-use Rattle.std.specs.Prelude.{Bool, true, ◌&&◌, List, [], ◌∷◌, map, ℕ, eqb, T as Holds}
+use Rattle.std.specs.Prelude.{Bool, true, ◌&&◌, [], ◌∷◌, map, ℕ, eqb, T as Holds}
 use Rattle.std.proofs.Math.Option.{none}
 use Rattle.totals_spec.specs.Format.{Format, binary64}
 use Rattle.totals_spec.specs.Settings.{with_rounding, square}

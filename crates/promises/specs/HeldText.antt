@@ -1,5 +1,5 @@
 -- The program's lines, by what a reader of them gets back: digits are read as the kit reads them.
-use Rattle.std.specs.Prelude.{◌≡◌, ◌≢◌, List, [], ◌∷◌, ℕ, suc, ◌^◌, ◌<◌, ◌≤◌, length, get_or, ℤ, pos, neg_ℤ}
+use Rattle.std.specs.Prelude.{◌≡◌, ◌≢◌, [], ◌∷◌, ℕ, suc, ◌^◌, ◌<◌, ◌≤◌, length, get_or, pos, neg_ℤ}
 use Rattle.std.specs.Str.Parse.{digits_value}
 use Rattle.totals_spec.specs.Totals.{Answer}
 use Rattle.totals_spec.specs.Pence.{Pence}
