@@ -1,4 +1,5 @@
 -- The rows of a running total of squares, computed.
+use Rattle.std.specs.Prelude.{T as Holds}
 use Rattle.totals_spec.specs.Basics.{difference, raised}
 use Rattle.totals_spec.specs.Format.{binary64, valid_format, bias, lift, exponent_range, depth, origin, fall, grid, rise}
 use Rattle.totals_spec.specs.Settings.{with_rounding, valid_settings, precision_of}
@@ -14,7 +15,7 @@ use Rattle.running_spec.specs.State.{seen, held, state_of, marks}
 use Rattle.running_spec.specs.Finish.{finish_into, into_marks}
 use Rattle.promises.specs.HeldRunningRows.{into_rows, Into-agree}
 
-pub into-agree : Into-agree
+computed : Holds into_rows
 unfolding
     into_rows binary64 reading_with with_rounding
     difference raised valid_format bias lift exponent_range depth origin fall grid rise valid_settings precision_of
@@ -22,4 +23,7 @@ unfolding
     dropped rounded_at overflows largest overflow number_of finished tiny_sum round_to round encode leans_of side_of
     special sum_rounded size span climb
     seen held state_of marks finish_into into_marks
-into-agree = tt
+computed = tt
+
+pub into-agree : Into-agree
+into-agree = computed
