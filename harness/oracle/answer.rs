@@ -29,7 +29,7 @@ fn words(values: &[u128]) -> Vec<u64> {
 /// Kind 4 with its one E and W.
 const EXTENDED: [u64; 3] = [4, 15, 80];
 
-/// The numbers of document 01's settings and summand are in their ranges, and so is the format.
+/// The numbers of the specification's settings and summand are in their ranges, and so is the format.
 fn in_range(format: [u64; 3], settings: &[u64; 8], operation: Operation) -> bool {
     let [kind, e, w] = format;
     let digits = if format == EXTENDED { 64 } else { w.saturating_sub(e) };

@@ -1,4 +1,4 @@
-//! Document 01's table of refusals, read row by row for the two byte entries.
+//! The specification's table of refusals, read row by row for the two byte entries.
 
 use crate::case::{Case, Format, LIMIT, Operation};
 use crate::check::Value;

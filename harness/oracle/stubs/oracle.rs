@@ -29,7 +29,7 @@ const PROPAGATIONS: [NanPropagation; 4] =
 
 const SUMMANDS: [Summand; 3] = [Summand::Value, Summand::Magnitude, Summand::Square];
 
-/// The environment of document 01's eight settings, which are all in their ranges.
+/// The environment of the specification's eight settings, which are all in their ranges.
 fn env(settings: &[u64; 8]) -> Env {
     let [rounding, tininess, propagation, negative, flush, denormals, saturate, precision] = *settings;
     let nan = NanRule::new(PROPAGATIONS[propagation as usize]).with_default_negative(negative == 1);
@@ -80,7 +80,7 @@ impl<I: Iterator> Iterator for Counted<'_, I> {
     }
 }
 
-/// The flags as document 01's numbers, one bit for each.
+/// The flags as the specification's numbers, one bit for each.
 fn flag_byte(flags: Flags) -> u8 {
     let in_order = [
         Flags::INVALID,
@@ -219,7 +219,7 @@ impl Table {
         self.put::<11, Ieee, 64>();
     }
 
-    /// The total of a format with kind, exponent bits and width in document 01's ranges, if it was compiled. Where a bias is named it is that of an
+    /// The total of a format with kind, exponent bits and width in the specification's ranges, if it was compiled. Where a bias is named it is that of an
     /// encoding with this bias, or of the plain one that has it.
     #[must_use]
     pub fn get(&self, format: [u64; 3], bias: Option<i64>) -> Option<Total> {
