@@ -133,9 +133,9 @@ impl Report {
 
     pub fn tables(&self) -> String {
         format!(
-            "One list of 480 elements again and again. Nanoseconds per element; in brackets, how many times Fermuzhai's.\n\n{}\n\
+            "One list of 480 elements again and again. Nanoseconds per element; in brackets, how many times\nFermuzhai's.\n\n{}\n\
              64 such lists in turn. Nanoseconds per element.\n\n{}\nNanoseconds per call.\n\n{}\n\
-             Sums of 1 to 1,048,576 elements, many lists in turn up to 65,536. Nanoseconds per element; passes on the average of the lists.\n\n{}",
+             Sums of 1 to 1,048,576 elements, many lists in turn up to 65,536. Nanoseconds per element; passes on\nthe average of the lists.\n\n{}",
             table("list, total", &self.months),
             table("lists, total", &self.many),
             table("call", &self.calls),
