@@ -2650,7 +2650,8 @@ static void several_targets(void)
 
     memcpy(doubles, list, sizeof list);
     for (i = 0; i < MOST_TARGETS; i++) {
-        totals_sum_into_words(f, list, 3, 0, &targets[i], 1, &alone[i]);
+        const unsigned returned = totals_sum_into_words(f, list, 3, 0, &targets[i], 1, &alone[i]);
+        CHECK(returned == alone[i].refusal);
     }
     CHECK(has_record(alone[0], 0x3c01, 0x50, 1, TOTALS_ABOVE) && has_record(alone[1], 0x3f801001, 0x50, 1, TOTALS_ABOVE));
     CHECK(REFUSED(alone[2], TOTALS_TARGET_OUT_OF_REACH, 0) && has_record(alone[3], 0x38, 0x10, 1, TOTALS_BELOW));
@@ -2739,7 +2740,8 @@ static void targets_refused(void)
             }
             /* with a stray bit behind an infinity: 7 in place of 0 and of 17 */
             CHECK(into(f, 0, &three[0], &three[1], &three[2], stray, 3) == TOTALS_ACCEPTED);
-            totals_sum_into_words(f, stray, 3, 0, three, 3, records);
+            returned = totals_sum_into_words(f, stray, 3, 0, three, 3, records);
+            CHECK(returned == records[0].refusal);
             for (k = 0; k < 3; k++) {
                 const unsigned number = held >> k & 1 && i < 17 ? numbers[i] : (unsigned)TOTALS_STRAY_BIT;
                 const uint64_t place = number == TOTALS_STRAY_BIT ? 2 : 0;
@@ -2753,7 +2755,8 @@ static void targets_refused(void)
             }
             /* the list's denormals-are-zero above 1: 4 in place of all but 3 */
             CHECK(into(f, 2, &three[0], &three[1], &three[2], stray, 3) == TOTALS_ACCEPTED);
-            totals_sum_into_words(f, stray, 3, UINT64_MAX, three, 3, records);
+            returned = totals_sum_into_words(f, stray, 3, UINT64_MAX, three, 3, records);
+            CHECK(returned == records[0].refusal);
             for (k = 0; k < 3; k++) {
                 const unsigned number = held >> k & 1 && i < 9 ? (unsigned)TOTALS_NO_SUCH_FORMAT : (unsigned)TOTALS_SETTING_OUT_OF_RANGE;
                 CHECK(slot_is_refused(k, number) && REFUSED(records[k], number, 0));
