@@ -1,10 +1,10 @@
-//! What must be paid in month 480? Of a career, from standard input, the first 479 months are paid, and
-//! a total is wanted:
+//! What must be paid in month 480? Of a career, from standard input, the first 479 months are paid,
+//! and a total is wanted:
 //!
 //!     contribution < examples/career.txt
 //!
-//! A line is the 16 hex digits of a month's amount in binary64. The contribution is the least double that
-//! brings the total there; the one before it and a penny less do not.
+//! A line is the 16 hex digits of a month's amount in binary64. The contribution is the least
+//! double that brings the total there; the one before it and a penny less do not.
 
 use std::error::Error;
 use std::io;

@@ -1,6 +1,6 @@
 //! A year of which some months are stated, some estimated and some blank, with its lower and its
-//! upper total. The lows, added one after the other, come to more than their exact sum, and the highs
-//! to less: a total that the months allow can lie outside of those two.
+//! upper total. The lows, added one after the other, come to more than their exact sum, and the
+//! highs to less: a total that the months allow can lie outside of those two.
 
 use fermuzhai::Amount::{self, Between, Known, Missing};
 

@@ -1,4 +1,5 @@
-//! Twelve years of monthly amounts, read in two orders: a running total parts, the exact total does not.
+//! Twelve years of monthly amounts, read in two orders: a running total parts, the exact total does
+//! not.
 
 fn main() -> Result<(), fermuzhai::Refusal> {
     let months: Vec<f64> = (0..144)

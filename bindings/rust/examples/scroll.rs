@@ -1,5 +1,5 @@
-//! A list while scrolling: its first figures within one pass and within two, each between two doubles,
-//! and its total once there are passes enough.
+//! A list while scrolling: its first figures within one pass and within two, each between two
+//! doubles, and its total once there are passes enough.
 
 use fermuzhai::{sum_within, Estimate, Refusal};
 

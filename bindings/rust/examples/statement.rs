@@ -1,5 +1,5 @@
-//! The statement of a career, from standard input: its total in three formats, each rounded once from
-//! the exact sum.
+//! The statement of a career, from standard input: its total in three formats, each rounded once
+//! from the exact sum.
 //!
 //!     statement < examples/career.txt
 //!

@@ -17,8 +17,8 @@ pub enum Kind {
     X87 = 4,
 }
 
-/// A binary floating-point format of at most 64 bits, or [`Format::EXTENDED`]. What its encodings stand for is said in
-/// `docs/SPECIFICATION.md` of the repository.
+/// A binary floating-point format of at most 64 bits, or [`Format::EXTENDED`]. What its encodings
+/// stand for is said in `docs/SPECIFICATION.md` of the repository.
 ///
 /// Any numbers can be written down here: the library judges them at each call, and refuses a
 /// format that it does not have with [`Refusal::NoSuchFormat`](crate::Refusal::NoSuchFormat).
@@ -82,9 +82,9 @@ impl Format {
     /// OCP MX FP4 E2M1.
     pub const E2M1: Self = Self::new(Kind::Finite, 2, 4);
 
-    /// The format of [`X87`](crate::X87): 80 bits, 64 digits, and no bias that it names. Its encodings
-    /// fit no word, so that each total of [`Totals::of`](crate::Totals::of) it is refused with
-    /// [`Refusal::NoSuchFormat`](crate::Refusal::NoSuchFormat).
+    /// The format of [`X87`](crate::X87): 80 bits, 64 digits, and no bias that it names. Its
+    /// encodings fit no word, so that each total of [`Totals::of`](crate::Totals::of) it is refused
+    /// with [`Refusal::NoSuchFormat`](crate::Refusal::NoSuchFormat).
     pub const EXTENDED: Self = Self::new(Kind::X87, 15, 80);
 
     /// The farthest from 0, on either side, that a named bias can be: 268,435,456.
@@ -104,10 +104,11 @@ impl Format {
     /// The same with a bias that it names.
     ///
     /// The least normal number is then 2^(1 − bias). The exponent of the greatest is 2^E − 2 − bias
-    /// in [`Kind::Ieee`] and 2^E − 1 − bias in the other kinds. [`Kind::X87`] has no named bias. 1 need not be a number of the format.
+    /// in [`Kind::Ieee`] and 2^E − 1 − bias in the other kinds. [`Kind::X87`] has no named bias. 1
+    /// need not be a number of the format.
     ///
-    /// A bias that is farther from 0 than [`Format::FARTHEST_BIAS`] is refused when a total is taken,
-    /// with [`Refusal::NoSuchFormat`](crate::Refusal::NoSuchFormat).
+    /// A bias that is farther from 0 than [`Format::FARTHEST_BIAS`] is refused when a total is
+    /// taken, with [`Refusal::NoSuchFormat`](crate::Refusal::NoSuchFormat).
     ///
     /// ```
     /// use fermuzhai::{Format, Kind, Totals};

@@ -16,13 +16,13 @@ use crate::{raw, Format, Record, Refusal, Settings, Totals, Word};
 /// assert_eq!(Target::from(Format::BINARY16), Target::new(Format::BINARY16));
 /// ```
 ///
-/// Denormals-are-zero is about reading: it is the list's, and that of a target has no effect. Nor has
-/// the choice of a NaN, since a list with one is refused.
+/// Denormals-are-zero is about reading: it is the list's, and that of a target has no effect. Nor
+/// has the choice of a NaN, since a list with one is refused.
 #[derive(Clone, Copy, Debug, PartialEq, Eq, Hash)]
 #[non_exhaustive]
 pub struct Target {
-    /// The format, of at most the digits of the list's. Its exponents may reach farther or less far, on
-    /// either side.
+    /// The format, of at most the digits of the list's. Its exponents may reach farther or less
+    /// far, on either side.
     pub format: Format,
     /// How the sum is rounded into it.
     pub settings: Settings,
@@ -59,8 +59,8 @@ impl From<Format> for Target {
     }
 }
 
-/// The numbers that [`raw::sum_into`] takes: kind, exponent bits, width, 1 where the format names its
-/// bias, the bias, and the eight settings.
+/// The numbers that [`raw::sum_into`] takes: kind, exponent bits, width, 1 where the format names
+/// its bias, the bias, and the eight settings.
 impl From<Target> for [u64; 13] {
     fn from(target: Target) -> Self {
         let named = target.format.named_bias;
@@ -89,32 +89,32 @@ impl From<Target> for [u64; 13] {
 
 /// One total, several formats.
 impl<T: Word> Totals<T> {
-    /// The sum of the values, rounded once into each of the targets: a record, or a refusal, for each,
-    /// in their order.
+    /// The sum of the values, rounded once into each of the targets: a record, or a refusal, for
+    /// each, in their order.
     ///
-    /// Each is what a call with this target alone gives. The exact sum itself is rounded, never one that
-    /// was rounded before. The result is an encoding of the target's format; the passes, and
-    /// [`Flags::SUBNORMAL_INPUT`](crate::Flags::SUBNORMAL_INPUT), are those of the list. In the list's own
-    /// format the record is that of [`Totals::sum`] under the target's settings and this list's
-    /// denormals-are-zero.
+    /// Each is what a call with this target alone gives. The exact sum itself is rounded, never one
+    /// that was rounded before. The result is an encoding of the target's format; the passes, and
+    /// [`Flags::SUBNORMAL_INPUT`](crate::Flags::SUBNORMAL_INPUT), are those of the list. In the
+    /// list's own format the record is that of [`Totals::sum`] under the target's settings and this
+    /// list's denormals-are-zero.
     ///
-    /// Of the settings of these totals denormals-are-zero alone is heard. A sum of zero has the sign
-    /// that the target's rounding gives it.
+    /// Of the settings of these totals denormals-are-zero alone is heard. A sum of zero has the
+    /// sign that the target's rounding gives it.
     ///
-    /// The library takes three targets at a time, and sums the list once for these. The memory that is
-    /// taken is that of the records, and of lists of `f32` a copy.
+    /// The library takes three targets at a time, and sums the list once for these. The memory that
+    /// is taken is that of the records, and of lists of `f32` a copy.
     ///
     /// # Errors
     ///
     /// A target that is refused does not touch the others. Of each the first of these that holds:
     ///
-    /// - [`Refusal::NoSuchFormat`], where the library does not have the list's format or the target's, or
-    ///   one of them names a bias out of its range
+    /// - [`Refusal::NoSuchFormat`], where the library does not have the list's format or the
+    ///   target's, or one of them names a bias out of its range
     /// - [`Refusal::PrecisionOutOfRange`], of the target's precision and format
     /// - [`Refusal::TooManyElements`], of more than 268,435,456 values
     /// - [`Refusal::StrayBit`], of an encoding that is wider than the list's format
-    /// - [`Refusal::TargetOutOfReach`], where the target has more digits than the list's format, or the
-    ///   list holds a NaN or an infinity
+    /// - [`Refusal::TargetOutOfReach`], where the target has more digits than the list's format, or
+    ///   the list holds a NaN or an infinity
     ///
     /// Proved: the contract of `totals_sum_into` in `crates/totals/src/entry.rt`; `target-rounds`,
     /// `target-zero`, `target-exact`, `target-own`, `target-order`, `target-refusal` in

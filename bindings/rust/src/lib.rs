@@ -38,14 +38,15 @@ const MOST_ELEMENTS: usize = 1 << 28;
 
 /// The exact sum of the values, rounded once to the nearest, ties to even.
 ///
-/// A list of `f64` or [`X87`] is read where it lies; one of `f32` is copied first, eight bytes a value.
+/// A list of `f64` or [`X87`] is read where it lies; one of `f32` is copied first, eight bytes a
+/// value.
 ///
 /// # Errors
 ///
 /// [`Refusal::TooManyElements`] where there are more than 268,435,456 values.
 ///
-/// Proved: `sum-exact`, `sum-entry-order`, and of [`X87`] `extended-exact`, `extended-call-order`, in
-/// `crates/totals_spec/proofs/Promises.antt`.
+/// Proved: `sum-exact`, `sum-entry-order`, and of [`X87`] `extended-exact`, `extended-call-order`,
+/// in `crates/totals_spec/proofs/Promises.antt`.
 ///
 /// ```
 /// use fermuzhai::sum;
@@ -56,8 +57,8 @@ const MOST_ELEMENTS: usize = 1 << 28;
 /// # Ok::<(), fermuzhai::Refusal>(())
 /// ```
 ///
-/// Of finite values whose total is neither zero nor NaN, the negated list has the negated total, with the same flags and passes. [`Totals::sum`]
-/// says how it is under other roundings.
+/// Of finite values whose total is neither zero nor NaN, the negated list has the negated total,
+/// with the same flags and passes. [`Totals::sum`] says how it is under other roundings.
 ///
 /// ```
 /// use fermuzhai::sum;
@@ -79,8 +80,8 @@ pub fn sum<T: Float>(values: &[T]) -> Result<Record<T>, Refusal> {
 ///
 /// [`Refusal::TooManyElements`] where there are more than 268,435,456 values.
 ///
-/// Proved: `sum-exact`, `sum-entry-order`, and of [`X87`] `extended-exact`, `extended-call-order`, in
-/// `crates/totals_spec/proofs/Promises.antt`.
+/// Proved: `sum-exact`, `sum-entry-order`, and of [`X87`] `extended-exact`, `extended-call-order`,
+/// in `crates/totals_spec/proofs/Promises.antt`.
 ///
 /// ```
 /// assert_eq!(fermuzhai::magnitude_sum(&[1.5, -2.0])?.result, 3.5);
@@ -96,8 +97,8 @@ pub fn magnitude_sum<T: Float>(values: &[T]) -> Result<Record<T>, Refusal> {
 ///
 /// [`Refusal::TooManyElements`] where there are more than 268,435,456 values.
 ///
-/// Proved: `sum-exact`, `sum-entry-order`, and of [`X87`] `extended-exact`, `extended-call-order`, in
-/// `crates/totals_spec/proofs/Promises.antt`.
+/// Proved: `sum-exact`, `sum-entry-order`, and of [`X87`] `extended-exact`, `extended-call-order`,
+/// in `crates/totals_spec/proofs/Promises.antt`.
 ///
 /// ```
 /// assert_eq!(fermuzhai::square_sum(&[3.0, -4.0])?.result, 25.0);
@@ -126,8 +127,8 @@ pub fn square_sum<T: Float>(values: &[T]) -> Result<Record<T>, Refusal> {
 /// [`Refusal::DifferentLengths`] where the lists have two lengths, else
 /// [`Refusal::TooManyElements`] where there are more than 268,435,456 pairs.
 ///
-/// Proved: `dot-exact`, `dot-entry-order`, and of [`X87`] `extended-exact`, `extended-call-order`, in
-/// `crates/totals_spec/proofs/Promises.antt`.
+/// Proved: `dot-exact`, `dot-entry-order`, and of [`X87`] `extended-exact`, `extended-call-order`,
+/// in `crates/totals_spec/proofs/Promises.antt`.
 ///
 /// ```
 /// let (left, right) = ([1e200, 3.0, -1e200], [1e200, 0.5, 1e200]);
@@ -148,7 +149,8 @@ pub fn dot<T: Float>(left: &[T], right: &[T]) -> Result<Record<T>, Refusal> {
 /// # Errors
 ///
 /// [`Refusal::TooManyElements`] where there are more than 268,435,456 values, else
-/// [`Refusal::NoPence`] where one is a NaN or an infinity, or the figure's magnitude is 2^63 or more.
+/// [`Refusal::NoPence`] where one is a NaN or an infinity, or the figure's magnitude is 2^63 or
+/// more.
 ///
 /// Proved: `pence-by-chain`, `pence-order`, `one-pence` in
 /// `crates/totals_spec/proofs/Promises.antt`.
@@ -174,14 +176,14 @@ pub fn pence<T: Float + Word>(values: &[T]) -> Result<i64, Refusal> {
 /// The exact sum of each row, of each column and of all cells of a table, each rounded once to the
 /// nearest, ties to even. The cells are one list, row after row.
 ///
-/// Each total is what [`sum`] gives for its own cells. The sum of all cells is that of the cells, not
-/// of totals that were rounded.
+/// Each total is what [`sum`] gives for its own cells. The sum of all cells is that of the cells,
+/// not of totals that were rounded.
 ///
 /// # Errors
 ///
-/// The first of these that holds: [`Refusal::TooManyElements`] where there are more than 268,435,456
-/// cells; [`Refusal::BadShape`] where `rows` times `columns` is not the number of cells;
-/// [`Refusal::NoRoom`] where there are no cells, and more than 1,048,576 rows or columns.
+/// The first of these that holds: [`Refusal::TooManyElements`] where there are more than
+/// 268,435,456 cells; [`Refusal::BadShape`] where `rows` times `columns` is not the number of
+/// cells; [`Refusal::NoRoom`] where there are no cells, and more than 1,048,576 rows or columns.
 /// [`Totals::table_into`] lends lists of the caller's, and has no such bound.
 ///
 /// Proved: `table-row`, `table-column`, `table-grand`, `table-refused-exactly` in
@@ -214,17 +216,17 @@ pub fn table<T: Float + Word>(
 /// The exact sum of the values, rounded once into each of the targets: a record, or a refusal, for
 /// each, in their order. [`Target::new`] rounds to the nearest, ties to even.
 ///
-/// The exact sum itself is rounded each time. A sum that was rounded to `f64` first can lie on a tie of
-/// a shorter format where the exact one does not. [`Totals::sum_into`] takes encodings of any format,
-/// and counts subnormal values as zeros where it is asked to.
+/// The exact sum itself is rounded each time. A sum that was rounded to `f64` first can lie on a
+/// tie of a shorter format where the exact one does not. [`Totals::sum_into`] takes encodings of
+/// any format, and counts subnormal values as zeros where it is asked to.
 ///
 /// # Errors
 ///
 /// A target that is refused does not touch the others. Of each the first of these that holds:
-/// [`Refusal::NoSuchFormat`] where the library does not have the target's format, or it names a bias
-/// out of its range; [`Refusal::PrecisionOutOfRange`]; [`Refusal::TooManyElements`] where there are more
-/// than 268,435,456 values; [`Refusal::TargetOutOfReach`] where the target has more digits than `T`, or
-/// a value is a NaN or an infinity.
+/// [`Refusal::NoSuchFormat`] where the library does not have the target's format, or it names a
+/// bias out of its range; [`Refusal::PrecisionOutOfRange`]; [`Refusal::TooManyElements`] where
+/// there are more than 268,435,456 values; [`Refusal::TargetOutOfReach`] where the target has more
+/// digits than `T`, or a value is a NaN or an infinity.
 ///
 /// Proved: the contract of `totals_sum_into` in `crates/totals/src/entry.rt`; `target-rounds`,
 /// `target-zero`, `target-exact`, `target-own`, `target-order`, `target-refusal` in
@@ -259,18 +261,19 @@ pub fn sum_into<T: Float + Word>(
     Totals::<T>::new().sum_into(values, targets)
 }
 
-/// What must be added to reach a total: the least finite number with which, behind the values, [`sum`] has
-/// the wanted total for its result.
+/// What must be added to reach a total: the least finite number with which, behind the values,
+/// [`sum`] has the wanted total for its result.
 ///
-/// The number is the most negative one that does. Where the wanted total is below what the list comes to,
-/// it is an amount that goes back. Where zero is the answer it is +0. At most 65 sums are taken for it. A
-/// list of `f64` is read where it lies; one of `f32` is copied first, eight bytes a value.
+/// The number is the most negative one that does. Where the wanted total is below what the list
+/// comes to, it is an amount that goes back. Where zero is the answer it is +0. At most 65 sums are
+/// taken for it. A list of `f64` is read where it lies; one of `f32` is copied first, eight bytes a
+/// value.
 ///
 /// # Errors
 ///
-/// The first of these that holds: [`Refusal::TooManyElements`] where there are 268,435,456 values or more,
-/// since one is added; [`Refusal::NotFinite`] where a value or the wanted total is a NaN or an infinity;
-/// [`Refusal::NoContribution`] where no finite number does it.
+/// The first of these that holds: [`Refusal::TooManyElements`] where there are 268,435,456 values
+/// or more, since one is added; [`Refusal::NotFinite`] where a value or the wanted total is a NaN
+/// or an infinity; [`Refusal::NoContribution`] where no finite number does it.
 ///
 /// Proved: the contract of `totals_contribution` in `crates/totals/src/entry_contribution.rt`;
 /// `contribution-least`, `contribution-none`, `contribution-rises`, `contribution-refusal`,
@@ -298,17 +301,17 @@ pub fn contribution<T: Float + Word>(values: &[T], wanted: T) -> Result<T, Refus
     Totals::new().contribution(values, wanted)
 }
 
-/// The exact sum of the values, rounded once to the nearest, ties to even, if its chain of passes ends
-/// within the allowance; else what the last pass allowed has seen, which has bounds.
+/// The exact sum of the values, rounded once to the nearest, ties to even, if its chain of passes
+/// ends within the allowance; else what the last pass allowed has seen, which has bounds.
 ///
-/// A pass is a walk over the list. Most lists take one. More are needed where values lie some 700 binary
-/// places apart or farther, and the large ones cancel, or the sum is very near to where a rounding turns.
-/// [`Record::passes`] says how many a list has taken.
+/// A pass is a walk over the list. Most lists take one. More are needed where values lie some 700
+/// binary places apart or farther, and the large ones cancel, or the sum is very near to where a
+/// rounding turns. [`Record::passes`] says how many a list has taken.
 ///
 /// # Errors
 ///
-/// [`Refusal::NoPassAllowed`] where the allowance is 0, else [`Refusal::TooManyElements`] where there are
-/// more than 268,435,456 values.
+/// [`Refusal::NoPassAllowed`] where the allowance is 0, else [`Refusal::TooManyElements`] where
+/// there are more than 268,435,456 values.
 ///
 /// Proved: the contract of `totals_sum_within` in `crates/totals/src/entry_within.rt`;
 /// `within-in-time`, `within-same`, `within-unfinished`, `within-near`, `within-narrower`,
@@ -336,8 +339,8 @@ pub fn sum_within<T: Float + Word>(values: &[T], allowance: u64) -> Result<Estim
 /// # Errors
 ///
 /// The first of these that holds: [`Refusal::NoPassAllowed`] where the allowance is 0;
-/// [`Refusal::DifferentLengths`] where the lists have two lengths; [`Refusal::TooManyElements`] where there
-/// are more than 268,435,456 pairs.
+/// [`Refusal::DifferentLengths`] where the lists have two lengths; [`Refusal::TooManyElements`]
+/// where there are more than 268,435,456 pairs.
 ///
 /// Proved: the contract of `totals_dot_within` in `crates/totals/src/entry_within.rt`, and the
 /// theorems of [`sum_within`].

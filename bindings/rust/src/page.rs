@@ -11,11 +11,12 @@ const MOST_SHORT: usize = 1 << 20;
 /// A career page: `f64` values in bytes that say of themselves what they hold, to be opened many
 /// times and asked for the totals of spans.
 ///
-/// The values lie in front, eight bytes each, the least byte first. Behind them lie a summary of each
-/// 64 values, of twelve bytes, and a trailer: of sixteen bytes that ends in the letters `CPG1`, or, of
-/// more than 1,048,576 values, of 24 that ends in `CPG2`. `docs/SPECIFICATION.md` of the repository
-/// has the layout. A page opens where every byte is what [`Page::write`] would have written for its
-/// values. A reader that knows `CPG1` alone refuses the longer pages, and opens all others.
+/// The values lie in front, eight bytes each, the least byte first. Behind them lie a summary of
+/// each 64 values, of twelve bytes, and a trailer: of sixteen bytes that ends in the letters
+/// `CPG1`, or, of more than 1,048,576 values, of 24 that ends in `CPG2`. `docs/SPECIFICATION.md` of
+/// the repository has the layout. A page opens where every byte is what [`Page::write`] would have
+/// written for its values. A reader that knows `CPG1` alone refuses the longer pages, and opens all
+/// others.
 ///
 /// ```
 /// use fermuzhai::{Page, Refusal};
@@ -33,6 +34,7 @@ const MOST_SHORT: usize = 1 << 20;
 /// A page is opened once: it borrows its bytes, so they stay what they were, and a span then costs
 /// what its own values cost.
 #[derive(Clone, Copy, Debug, PartialEq, Eq, Hash)]
+#[must_use = "it was opened to be summed"]
 pub struct Page<'a> {
     /// The bytes of the values.
     values: &'a [u8],
@@ -134,12 +136,13 @@ impl<'a> Page<'a> {
         Totals::new().page_sum(Summand::Value, self, span)
     }
 
-    /// The page of the values, each with every bit that it has: NaNs and the signs of zeros are kept.
+    /// The page of the values, each with every bit that it has: NaNs and the signs of zeros are
+    /// kept.
     ///
     /// # Errors
     ///
-    /// [`Refusal::TooManyElements`] where there are more than 268,435,456 values. No memory is taken
-    /// for them.
+    /// [`Refusal::TooManyElements`] where there are more than 268,435,456 values. No memory is
+    /// taken for them.
     ///
     /// Proved: the contract of `totals_page_write` in `crates/totals/src/entry.rt`; `page-opens`,
     /// `page-length`, `page-summary`, `page-summarizes`, `page-as-before`, `page-longer` in
@@ -163,8 +166,8 @@ impl<'a> Page<'a> {
 
     /// [`Page::write`] into bytes of the caller's. Returns the page's length.
     ///
-    /// The page lies in front of `destination`. What lies beyond stays as it was, and a refused call
-    /// leaves every byte so.
+    /// The page lies in front of `destination`. What lies beyond stays as it was, and a refused
+    /// call leaves every byte so.
     ///
     /// # Errors
     ///
@@ -193,8 +196,8 @@ impl<'a> Page<'a> {
     }
 
     /// The length in bytes of the page of so many values: 8 for each, 12 for each 64 of them or
-    /// fewer, and 16 for the trailer, or 24 where there are more than 1,048,576 values. `None` of more
-    /// than 268,435,456, of which there is no page.
+    /// fewer, and 16 for the trailer, or 24 where there are more than 1,048,576 values. `None` of
+    /// more than 268,435,456, of which there is no page.
     ///
     /// Proved: `page-length` in `crates/totals_spec/proofs/Promises.antt`.
     ///

@@ -35,17 +35,17 @@ impl Amount {
 /// The lower and the upper total of amounts known within a range: every sum that the ranges allow
 /// lies on one of the two or between, and of two that are nearer to each other this is not true.
 ///
-/// So the lower total is the greatest double, or −∞, that is not above the exact sum of the lows, and
-/// the upper one the least, or +∞, that is not below that of the highs. A missing amount has a low of
-/// zero and `ceiling` for its high. A total of zero is +0, and an empty list has two. Every order of
-/// the amounts gives the same totals. The amounts are copied, 24 bytes each.
+/// So the lower total is the greatest double, or −∞, that is not above the exact sum of the lows,
+/// and the upper one the least, or +∞, that is not below that of the highs. A missing amount has a
+/// low of zero and `ceiling` for its high. A total of zero is +0, and an empty list has two. Every
+/// order of the amounts gives the same totals. The amounts are copied, 24 bytes each.
 ///
 /// # Errors
 ///
-/// [`Refusal::TooManyElements`] where there are more than 268,435,456 amounts, and no memory is taken
-/// for them; else [`Refusal::BadAmount`] where a figure is a NaN or an infinity, or a low is above its
-/// high (−0 and +0 are equal), or where the ceiling is a NaN, infinite or below zero, even where no
-/// amount is missing. A ceiling of −0 is accepted.
+/// [`Refusal::TooManyElements`] where there are more than 268,435,456 amounts, and no memory is
+/// taken for them; else [`Refusal::BadAmount`] where a figure is a NaN or an infinity, or a low is
+/// above its high (−0 and +0 are equal), or where the ceiling is a NaN, infinite or below zero,
+/// even where no amount is missing. A ceiling of −0 is accepted.
 ///
 /// Proved: the contract of `totals_range` in `crates/totals/src/entry.rt`; `range-holds`,
 /// `range-narrowest`, `range-zero`, `range-order`, `range-refused-exactly` in

@@ -248,7 +248,8 @@ mod entry {
     }
 }
 
-/// An entry, by its name, what stands before the settings, the settings, and what stands behind them.
+/// An entry, by its name, what stands before the settings, the settings, and what stands behind
+/// them.
 macro_rules! enter {
     ($entry:ident; $($before:expr),*; $c:ident; $($behind:expr),*) => {
         entry::$entry(
@@ -264,8 +265,8 @@ macro_rules! enter {
 /// Returns 0 and writes bytes 0 to 23 of the answer, or returns a refusal's code, which
 /// [`Refusal::from_code`](crate::Refusal::from_code) reads, and writes nothing.
 ///
-/// Of kind 4, `[4, 15, 80]`, a value takes ten bytes and the answer 32: the result in 0..9, the flags
-/// in 10, the side in 11, zeros, the passes in 24..31.
+/// Of kind 4, `[4, 15, 80]`, a value takes ten bytes and the answer 32: the result in 0..9, the
+/// flags in 10, the side in 11, zeros, the passes in 24..31.
 ///
 /// Proved: the contract of `totals_sum` in `crates/totals/src/entry.rt`.
 ///
@@ -322,7 +323,8 @@ pub fn dot(f: Format, c: Settings, left: &[u8], right: &[u8], answer: &mut [u8])
 /// refused with 3, and so is any of kind 4.
 ///
 /// Proved: the contract of `totals_sum_biased` in `crates/totals/src/entry.rt`; `named-own` in
-/// `crates/totals_spec/proofs/Promises.antt`: naming the kind's own bias is the same as naming none.
+/// `crates/totals_spec/proofs/Promises.antt`: naming the kind's own bias is the same as naming
+/// none.
 ///
 /// ```
 /// use fermuzhai::raw;
@@ -415,8 +417,8 @@ pub fn dot_biased(
 /// ```
 pub fn pence(f: Format, bias: Option<i64>, values: &[u64]) -> Result<i64, u64> {
     let mut figure = 0;
-    // SAFETY: the pointer to the values comes with the count of the slice that it is taken from, and
-    // `figure` is this call's own. Of the numbers nothing is asked.
+    // SAFETY: the pointer to the values comes with the count of the slice that it is taken from,
+    // and `figure` is this call's own. Of the numbers nothing is asked.
     let code = unsafe {
         entry::totals_pence(
             f[0],
@@ -436,9 +438,9 @@ pub fn pence(f: Format, bias: Option<i64>, values: &[u64]) -> Result<i64, u64> {
     }
 }
 
-/// The plain sums of the rows, of the columns and of all cells of a table. `cells` are encodings, row
-/// after row; `bias` is as in [`pence`]. `totals` are two lists, for the totals of the rows and for
-/// those of the columns.
+/// The plain sums of the rows, of the columns and of all cells of a table. `cells` are encodings,
+/// row after row; `bias` is as in [`pence`]. `totals` are two lists, for the totals of the rows and
+/// for those of the columns.
 ///
 /// Returns 0, writes the totals in front of the two lists and the record of all cells to bytes 0 to
 /// 23 of the answer, as [`sum`] does; what lies beyond stays as it was. Or returns a refusal's code
@@ -478,8 +480,8 @@ pub fn table(
 ) -> u64 {
     let [row_totals, column_totals] = totals;
     // SAFETY: each pointer comes with the length of the slice that it is taken from, and the three
-    // that are borrowed for writing lie apart from each other and from `cells`. Of the numbers nothing
-    // is asked.
+    // that are borrowed for writing lie apart from each other and from `cells`. Of the numbers
+    // nothing is asked.
     unsafe {
         enter!(
             totals_table; f[0], f[1], f[2], bias.is_some().into(), bias.unwrap_or(0); c;
@@ -491,15 +493,16 @@ pub fn table(
 }
 
 /// The lower and the upper total of amounts known within a range. `tags` say of each entry whether
-/// its amount is the first figure (0), lies between the first and the second (1), or is missing (2),
-/// and then lies between zero and the ceiling. Figures and ceiling are encodings of binary64. Those
-/// that an entry does not use may be any words: the second of a known one, both of a missing one.
+/// its amount is the first figure (0), lies between the first and the second (1), or is missing
+/// (2), and then lies between zero and the ceiling. Figures and ceiling are encodings of binary64.
+/// Those that an entry does not use may be any words: the second of a known one, both of a missing
+/// one.
 ///
-/// Returns 0 and writes the two totals to `pair`, whose later words stay as they were. The low of each
-/// entry is then left in `first` and its high in `second`. So only figures that are not used change,
-/// and the lists stand for the same entries. Or returns a refusal's code and writes nothing at all: 2
-/// where `pair` has fewer than two words, else 5 where the lists differ in length, 6 or 11. What these
-/// mean is said at [`range`](crate::range).
+/// Returns 0 and writes the two totals to `pair`, whose later words stay as they were. The low of
+/// each entry is then left in `first` and its high in `second`. So only figures that are not used
+/// change, and the lists stand for the same entries. Or returns a refusal's code and writes nothing
+/// at all: 2 where `pair` has fewer than two words, else 5 where the lists differ in length, 6 or
+/// 11. What these mean is said at [`range`](crate::range).
 ///
 /// Proved: the contract of `totals_range` in `crates/totals/src/entry.rt`; `range-holds`,
 /// `range-narrowest`, `range-zero`, `range-order`, `range-refused-exactly`, `range-entry-refused`,
@@ -530,8 +533,8 @@ pub fn range(
     pair: &mut [u64],
 ) -> u64 {
     // SAFETY: each pointer comes with the length of the slice that it is taken from, and the three
-    // that are borrowed for writing lie apart from each other and from `tags`. Of the numbers nothing
-    // is asked.
+    // that are borrowed for writing lie apart from each other and from `tags`. Of the numbers
+    // nothing is asked.
     unsafe {
         entry::totals_range(
             tags.as_ptr(),
@@ -548,12 +551,12 @@ pub fn range(
 }
 
 /// The sum of a span of a career page: of the values from the index `start` up to the index `end`,
-/// itself left out. Summand and answer are those of [`sum`], and so is the record, that of these values
-/// as a list of their own.
+/// itself left out. Summand and answer are those of [`sum`], and so is the record, that of these
+/// values as a list of their own.
 ///
-/// Returns and writes as [`sum`] does. Its refusals are 2 where the answer has fewer than 24 bytes, 12
-/// where the page does not open, 13 where the span starts above its end or ends above the page's count,
-/// and 4, the first that holds in this order. Every call looks at the whole page;
+/// Returns and writes as [`sum`] does. Its refusals are 2 where the answer has fewer than 24 bytes,
+/// 12 where the page does not open, 13 where the span starts above its end or ends above the page's
+/// count, and 4, the first that holds in this order. Every call looks at the whole page;
 /// [`Page`](crate::Page) does so once.
 ///
 /// Proved: the contract of `totals_page_sum` in `crates/totals/src/entry.rt`; `page-span`,
@@ -596,8 +599,8 @@ pub fn page_sum(
 ///
 /// # Errors
 ///
-/// The code of a refusal, and nothing is written: 2 where `page` is shorter than the page would be, for
-/// any number of values, else 6 where there are more than 268,435,456 of them.
+/// The code of a refusal, and nothing is written: 2 where `page` is shorter than the page would be,
+/// for any number of values, else 6 where there are more than 268,435,456 of them.
 ///
 /// Proved: the contract of `totals_page_write` in `crates/totals/src/entry.rt`; `page-opens`,
 /// `page-beyond`, `page-refused`, `page-refused-exactly`, `page-length` in
@@ -612,8 +615,8 @@ pub fn page_sum(
 /// assert_eq!(raw::page_write(&[0], &mut page), Err(2));
 /// ```
 pub fn page_write(values: &[u64], page: &mut [u8]) -> Result<usize, u64> {
-    // SAFETY: each pointer comes with the length of the slice that it is taken from, and `page`, being
-    // borrowed for writing, lies apart from `values`.
+    // SAFETY: each pointer comes with the length of the slice that it is taken from, and `page`,
+    // being borrowed for writing, lies apart from `values`.
     let code = unsafe {
         entry::totals_page_write(values.as_ptr(), values.len(), page.as_mut_ptr(), page.len())
     };
@@ -625,24 +628,24 @@ pub fn page_write(values: &[u64], page: &mut [u8]) -> Result<usize, u64> {
     }
 }
 
-/// The sum of the values, rounded once into each of three targets. `values` are eight bytes each, as of
-/// [`sum`], and `bias` is as in [`pence`]. `targets` are three times thirteen numbers of eight bytes,
-/// the least byte first: kind, exponent bits, width, 1 where the format names its bias or else 0, the
-/// bias in two's complement, and the eight settings.
+/// The sum of the values, rounded once into each of three targets. `values` are eight bytes each,
+/// as of [`sum`], and `bias` is as in [`pence`]. `targets` are three times thirteen numbers of
+/// eight bytes, the least byte first: kind, exponent bits, width, 1 where the format names its bias
+/// or else 0, the bias in two's complement, and the eight settings.
 ///
-/// Returns 0 and writes 32 bytes for each target: a refusal, plus 256 times its place, in eight bytes,
-/// and behind it the 24 of an answer of [`sum`], zeros where the target is refused. What lies behind
-/// byte 95 stays as it was. A target's refusals are 3, 4, 6, 7 and 17, the first that holds; what they
-/// mean is said at [`Totals::sum_into`](crate::Totals::sum_into). 3 is also that the fourth number of a
-/// target is above 1, or is 0 beside a bias that is not; and 4 that `denormals_are_zero` is above 1, or
-/// a setting of the target is out of its range.
+/// Returns 0 and writes 32 bytes for each target: a refusal, plus 256 times its place, in eight
+/// bytes, and behind it the 24 of an answer of [`sum`], zeros where the target is refused. What
+/// lies behind byte 95 stays as it was. A target's refusals are 3, 4, 6, 7 and 17, the first that
+/// holds; what they mean is said at [`Totals::sum_into`](crate::Totals::sum_into). 3 is also that
+/// the fourth number of a target is above 1, or is 0 beside a bias that is not; and 4 that
+/// `denormals_are_zero` is above 1, or a setting of the target is out of its range.
 ///
-/// Or returns 1, where the targets are not 312 bytes or the values no multiple of 8, of kind 4 of 10, or
-/// 2, where the answer has fewer than 96, and writes nothing.
+/// Or returns 1, where the targets are not 312 bytes or the values no multiple of 8, of kind 4 of
+/// 10, or 2, where the answer has fewer than 96, and writes nothing.
 ///
 /// Proved: the contract of `totals_sum_into` in `crates/totals/src/entry.rt`; `target-rounds`,
-/// `target-entry-refusal`, `target-entry-refused`, `target-entry-order`, `target-entry-read-back` in
-/// `crates/further_spec/proofs/Promises.antt`.
+/// `target-entry-refusal`, `target-entry-refused`, `target-entry-order`, `target-entry-read-back`
+/// in `crates/further_spec/proofs/Promises.antt`.
 ///
 /// ```
 /// use fermuzhai::{raw, Format, Target};
@@ -695,18 +698,19 @@ pub fn sum_into(
 /// [`sum`] within an allowance of passes. `bias` is as in [`pence`].
 ///
 /// Returns 0 and writes 144 bytes, numbers with the little end first and in two's complement: the
-/// result in 0..7, the flags in 8, the mark in 9, the side in 10, the boundary's sign, 1 for minus, in
-/// 11, zeros in 12..15, the passes in 16..23, the last edge in 24..31, the boundary's whole number in
-/// 32..39, the position of its unit in 40..47, S in 48..143. What lies behind stays as it was.
+/// result in 0..7, the flags in 8, the mark in 9, the side in 10, the boundary's sign, 1 for minus,
+/// in 11, zeros in 12..15, the passes in 16..23, the last edge in 24..31, the boundary's whole
+/// number in 32..39, the position of its unit in 40..47, S in 48..143. What lies behind stays as it
+/// was.
 ///
-/// A mark of 0 is a full answer: bytes 0 to 23 are those of [`sum`], the last edge is that of its last
-/// pass or 0 where there was none, and the rest is 0. A mark of 1 is an unfinished one: result, flags
-/// and side are 0, the passes are the allowance, and S counts units of 2^(last edge). What it says is
-/// told at [`Unfinished`](crate::Unfinished).
+/// A mark of 0 is a full answer: bytes 0 to 23 are those of [`sum`], the last edge is that of its
+/// last pass or 0 where there was none, and the rest is 0. A mark of 1 is an unfinished one:
+/// result, flags and side are 0, the passes are the allowance, and S counts units of 2^(last edge).
+/// What it says is told at [`Unfinished`](crate::Unfinished).
 ///
-/// Or returns a refusal's code and writes nothing: 1, of kind 4 too of a length that is no multiple of
-/// ten, 2 under 144 bytes of answer, 16 of an allowance of 0, and then those of [`sum`], the first that
-/// holds in this order. 3 is also kind 4.
+/// Or returns a refusal's code and writes nothing: 1, of kind 4 too of a length that is no multiple
+/// of ten, 2 under 144 bytes of answer, 16 of an allowance of 0, and then those of [`sum`], the
+/// first that holds in this order. 3 is also kind 4.
 ///
 /// Proved: the contract of `totals_sum_within` in `crates/totals/src/entry_within.rt`;
 /// `within-in-time`, `within-unfinished`, `within-near`, `within-entry-refusal`,
@@ -752,7 +756,8 @@ pub fn sum_within(
     }
 }
 
-/// [`dot`] within an allowance of passes. Returns and writes as [`sum_within`] does, with 5 behind 4.
+/// [`dot`] within an allowance of passes. Returns and writes as [`sum_within`] does, with 5 behind
+/// 4.
 ///
 /// Proved: the contract of `totals_dot_within` in `crates/totals/src/entry_within.rt`, and the
 /// theorems named there.
@@ -788,15 +793,15 @@ pub fn dot_within(
     }
 }
 
-/// The contribution that reaches a target: the least finite number with which, behind the values, their
-/// plain sum is the wanted total. `values` are encodings of a format of kind 0, one to a word in its low
-/// bits, and `wanted` is one too; `bias` is as in [`pence`].
+/// The contribution that reaches a target: the least finite number with which, behind the values,
+/// their plain sum is the wanted total. `values` are encodings of a format of kind 0, one to a word
+/// in its low bits, and `wanted` is one too; `bias` is as in [`pence`].
 ///
-/// Returns 0 and writes the encoding of the number to bytes 0 to 7 of the answer, the least byte first;
-/// what lies behind stays as it was. Or returns a refusal's code and writes nothing: 2 under eight bytes
-/// of answer, 3, 4, 6, 7 plus 256 times a place, 15 or 14, the first that holds in this order. What they
-/// mean is said at [`Totals::contribution`](crate::Totals::contribution). 3 is also any kind but 0, and 4
-/// a flush to zero or a denormals-are-zero that is not 0.
+/// Returns 0 and writes the encoding of the number to bytes 0 to 7 of the answer, the least byte
+/// first; what lies behind stays as it was. Or returns a refusal's code and writes nothing: 2 under
+/// eight bytes of answer, 3, 4, 6, 7 plus 256 times a place, 15 or 14, the first that holds in this
+/// order. What they mean is said at [`Totals::contribution`](crate::Totals::contribution). 3 is
+/// also any kind but 0, and 4 a flush to zero or a denormals-are-zero that is not 0.
 ///
 /// Proved: the contract of `totals_contribution` in `crates/totals/src/entry_contribution.rt`;
 /// `contribution-least`, `contribution-none`, `contribution-entry-refusal`,

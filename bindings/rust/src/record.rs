@@ -185,8 +185,8 @@ impl Side {
 
 /// An accepted total: the result with its flags, the passes that it took, and which way it leans.
 ///
-/// It is shown as `result, flags FLAGS, passes N`: a float in decimal, by the precision that is asked for; an encoding, and
-/// an [`X87`](crate::X87), in hexadecimal.
+/// It is shown as `result, flags FLAGS, passes N`: a float in decimal, by the precision that is
+/// asked for; an encoding, and an [`X87`](crate::X87), in hexadecimal.
 ///
 /// ```
 /// use fermuzhai::{sum, Format, Totals};
@@ -202,14 +202,15 @@ impl Side {
 /// Two records are equal where every field is, results by their encodings: so −0 is not +0, and a
 /// NaN equals itself.
 ///
-/// The library's record has one field more, the last edge, which of its byte entries those within an
-/// allowance alone hand out: [`raw::sum_within`](crate::raw::sum_within) and
+/// The library's record has one field more, the last edge, which of its byte entries those within
+/// an allowance alone hand out: [`raw::sum_within`](crate::raw::sum_within) and
 /// [`raw::dot_within`](crate::raw::dot_within).
 #[derive(Clone, Copy, Debug)]
 #[non_exhaustive]
+#[must_use = "the total is in it, and its flags"]
 pub struct Record<T> {
-    /// The exact sum, rounded once: a float, or an encoding where the list was of encodings, and of a
-    /// [`Target`](crate::Target).
+    /// The exact sum, rounded once: a float, or an encoding where the list was of encodings, and of
+    /// a [`Target`](crate::Target).
     pub result: T,
     /// What happened on the way.
     pub flags: Flags,
@@ -248,6 +249,20 @@ impl<T: Value> Hash for Record<T> {
         (self.result.encoding(), flags, passes, side).hash(state);
     }
 }
+
+/// The compiler warns of a record that is not looked at, and of nothing else here.
+///
+/// ```compile_fail
+/// #![deny(unused_must_use)]
+/// fermuzhai::sum(&[1.0]).unwrap();
+/// ```
+///
+/// ```
+/// #![deny(unused_must_use)]
+/// let _ = fermuzhai::sum(&[1.0]).unwrap();
+/// ```
+#[cfg(doctest)]
+struct Unseen;
 
 #[cfg(test)]
 mod tests {

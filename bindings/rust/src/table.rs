@@ -13,9 +13,11 @@ use crate::{Record, Word};
 /// # Ok::<(), fermuzhai::Refusal>(())
 /// ```
 ///
-/// Two are equal where every total is, by their encodings: so −0 is not +0, and a NaN equals itself.
+/// Two are equal where every total is, by their encodings: so −0 is not +0, and a NaN equals
+/// itself.
 #[derive(Clone, Debug)]
 #[non_exhaustive]
+#[must_use = "the totals are in it"]
 pub struct Table<T> {
     /// The sum of each row, from the first on: floats, or encodings where the cells are encodings.
     pub rows: Vec<T>,

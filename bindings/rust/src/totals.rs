@@ -7,8 +7,8 @@ use crate::{
     raw, Float, Format, Kind, List, Page, Record, Refusal, Settings, Summand, Table, Value, Word,
 };
 
-/// The most rows, or columns, that [`Totals::table`] makes room for where there are no cells. A table
-/// with cells has at most as many of either.
+/// The most rows, or columns, that [`Totals::table`] makes room for where there are no cells. A
+/// table with cells has at most as many of either.
 const MOST_EMPTY: usize = 1 << 20;
 
 /// The four totals in one format and under one choice of settings; the same within an allowance of
@@ -62,17 +62,17 @@ impl Totals<f64> {
     /// One of the three sums, of the values of a span of a page: what [`Totals::sum_of`] gives for
     /// them as a list of their own. An empty span is +0, toward negative too.
     ///
-    /// The values are read where they lie, those of the span alone: the page was looked at when it was
-    /// opened.
+    /// The values are read where they lie, those of the span alone: the page was looked at when it
+    /// was opened.
     ///
     /// # Errors
     ///
     /// [`Refusal::BadSpan`] where the span starts above its end, or ends above [`Page::len`]; else
     /// [`Refusal::PrecisionOutOfRange`].
     ///
-    /// Proved: the contract of `totals_sum` in `crates/totals/src/entry.rt`; `page-only`, `span-values`,
-    /// `page-span-read`, `page-span` (the total of a span is that of its values as a list) in
-    /// `crates/totals_spec/proofs/Promises.antt`.
+    /// Proved: the contract of `totals_sum` in `crates/totals/src/entry.rt`; `page-only`,
+    /// `span-values`, `page-span-read`, `page-span` (the total of a span is that of its values as a
+    /// list) in `crates/totals_spec/proofs/Promises.antt`.
     ///
     /// ```
     /// use fermuzhai::{Page, Refusal, Rounding, Settings, Summand, Totals};
@@ -135,20 +135,21 @@ impl<T: Value> Totals<T> {
     ///
     /// The first of these that holds:
     ///
-    /// - [`Refusal::NoSuchFormat`], of encodings of a format that the library does not have, or that
-    ///   names a bias out of its range
+    /// - [`Refusal::NoSuchFormat`], of encodings of a format that the library does not have, or
+    ///   that names a bias out of its range
     /// - [`Refusal::PrecisionOutOfRange`]
     /// - [`Refusal::TooManyElements`], of more than 268,435,456 values
     /// - [`Refusal::StrayBit`], of an encoding that is wider than the format
     ///
-    /// Of finite values, negating each of them and exchanging the two directed roundings gives the negated result with the same flags and
-    /// passes, and the other side, provided that the result is neither zero nor NaN. [`Kind::Fnuz`](crate::Kind::Fnuz)'s zero is its own
-    /// negative.
+    /// Of finite values, negating each of them and exchanging the two directed roundings gives the
+    /// negated result with the same flags and passes, and the other side, provided that the result
+    /// is neither zero nor NaN. [`Kind::Fnuz`](crate::Kind::Fnuz)'s zero is its own negative.
     ///
     /// ```
     /// use fermuzhai::{Rounding, Settings, Side, Totals};
     ///
-    /// let toward = |rounding| Totals::<f64>::new().with_settings(Settings::new().with_rounding(rounding));
+    /// let plain = Settings::new();
+    /// let toward = |rounding| Totals::<f64>::new().with_settings(plain.with_rounding(rounding));
     /// let up = toward(Rounding::TowardPositive).sum(&[1.0, 1e-40])?;
     /// let down = toward(Rounding::TowardNegative).sum(&[-1.0, -1e-40])?;
     /// assert_eq!(down.result, -up.result);
@@ -157,8 +158,9 @@ impl<T: Value> Totals<T> {
     /// # Ok::<(), fermuzhai::Refusal>(())
     /// ```
     ///
-    /// Proved: `sum-exact`, `sum-entry-order`, `sum-mirror`, and of [`X87`](crate::X87) `extended-exact`,
-    /// `extended-call-order`, `extended-mirror`, in `crates/totals_spec/proofs/Promises.antt`.
+    /// Proved: `sum-exact`, `sum-entry-order`, `sum-mirror`, and of [`X87`](crate::X87)
+    /// `extended-exact`, `extended-call-order`, `extended-mirror`, in
+    /// `crates/totals_spec/proofs/Promises.antt`.
     pub fn sum(&self, values: &[T]) -> Result<Record<T>, Refusal> {
         self.sum_of(Summand::Value, values)
     }
@@ -183,8 +185,8 @@ impl<T: Value> Totals<T> {
     ///
     /// Without a NaN it is the dot product of the list with itself, record for record.
     ///
-    /// Proved: `sum-exact`, `sum-entry-order`, `square-dot`, and of [`X87`](crate::X87) `extended-exact`,
-    /// `extended-call-order`, in `crates/totals_spec/proofs/Promises.antt`.
+    /// Proved: `sum-exact`, `sum-entry-order`, `square-dot`, and of [`X87`](crate::X87)
+    /// `extended-exact`, `extended-call-order`, in `crates/totals_spec/proofs/Promises.antt`.
     pub fn square_sum(&self, values: &[T]) -> Result<Record<T>, Refusal> {
         self.sum_of(Summand::Square, values)
     }
@@ -196,7 +198,8 @@ impl<T: Value> Totals<T> {
     /// Those of [`Totals::sum`], and after the precision [`Refusal::DifferentLengths`], of lists of
     /// two lengths.
     ///
-    /// Of finite values, negating those of the left list and exchanging the two directed roundings gives the negated record, as of a sum.
+    /// Of finite values, negating those of the left list and exchanging the two directed roundings
+    /// gives the negated record, as of a sum.
     ///
     /// ```
     /// use fermuzhai::{Format, Totals};
@@ -208,8 +211,9 @@ impl<T: Value> Totals<T> {
     /// # Ok::<(), fermuzhai::Refusal>(())
     /// ```
     ///
-    /// Proved: `dot-exact`, `dot-entry-order`, `dot-mirror`, and of [`X87`](crate::X87) `extended-exact`,
-    /// `extended-call-order`, `extended-mirror`, in `crates/totals_spec/proofs/Promises.antt`.
+    /// Proved: `dot-exact`, `dot-entry-order`, `dot-mirror`, and of [`X87`](crate::X87)
+    /// `extended-exact`, `extended-call-order`, `extended-mirror`, in
+    /// `crates/totals_spec/proofs/Promises.antt`.
     pub fn dot(&self, left: &[T], right: &[T]) -> Result<Record<T>, Refusal> {
         self.dot_bytes(&T::bytes(left), &T::bytes(right))
     }
@@ -330,8 +334,8 @@ impl<T: Value> Totals<T> {
 
 /// Pence and tables are taken of words.
 impl<T: Word> Totals<T> {
-    /// A list as an entry that refuses ten bytes a value takes it: no list of words has such a value, so
-    /// none is lent, and the refusal is that of an empty list.
+    /// A list as an entry that refuses ten bytes a value takes it: no list of words has such a
+    /// value, so none is lent, and the refusal is that of an empty list.
     pub(crate) fn lent<'a>(&self, values: &'a [T]) -> Cow<'a, [u8]> {
         if self.format.kind == Kind::X87 {
             Cow::Borrowed(&[])
@@ -351,8 +355,8 @@ impl<T: Word> Totals<T> {
     ///
     /// The first of these that holds:
     ///
-    /// - [`Refusal::NoSuchFormat`], of encodings of a format that the library does not have, or that
-    ///   names a bias out of its range
+    /// - [`Refusal::NoSuchFormat`], of encodings of a format that the library does not have, or
+    ///   that names a bias out of its range
     /// - [`Refusal::TooManyElements`], of more than 268,435,456 values
     /// - [`Refusal::StrayBit`], of an encoding that is wider than the format
     /// - [`Refusal::NoPence`], of a NaN or an infinity anywhere in the list, or a figure whose
@@ -384,15 +388,15 @@ impl<T: Word> Totals<T> {
     /// The sum of each row, of each column and of all cells of a table. The cells are one list, row
     /// after row.
     ///
-    /// Each total is what [`Totals::sum`] gives for its own cells, a row from left to right, a column
-    /// from top to bottom. Rows without columns, and columns without rows, are empty: their sum is +0,
-    /// toward negative too.
+    /// Each total is what [`Totals::sum`] gives for its own cells, a row from left to right, a
+    /// column from top to bottom. Rows without columns, and columns without rows, are empty: their
+    /// sum is +0, toward negative too.
     ///
     /// # Errors
     ///
-    /// Those of [`Totals::table_into`]. Room is made for at most as many rows, and as many columns, as
-    /// there are cells, or for 1,048,576 where there are none. A table without cells that has more of
-    /// either is refused with [`Refusal::NoRoom`], and no memory is taken for it.
+    /// Those of [`Totals::table_into`]. Room is made for at most as many rows, and as many columns,
+    /// as there are cells, or for 1,048,576 where there are none. A table without cells that has
+    /// more of either is refused with [`Refusal::NoRoom`], and no memory is taken for it.
     ///
     /// Proved: `table-row`, `table-column`, `table-grand`, `table-refused-exactly` in
     /// `crates/totals_spec/proofs/Promises.antt`.
@@ -433,18 +437,19 @@ impl<T: Word> Totals<T> {
     ///
     /// The first `rows` elements of `row_totals` and the first `columns` of `column_totals` are the
     /// totals. What lies beyond stays as it was, and a refused call leaves both lists so. Lists of
-    /// `f64` and of encodings are written where they lie; of `f32` the cells and both lists are copied.
+    /// `f64` and of encodings are written where they lie; of `f32` the cells and both lists are
+    /// copied.
     ///
     /// # Errors
     ///
     /// The first of these that holds:
     ///
-    /// - [`Refusal::NoSuchFormat`], of encodings of a format that the library does not have, or that
-    ///   names a bias out of its range
+    /// - [`Refusal::NoSuchFormat`], of encodings of a format that the library does not have, or
+    ///   that names a bias out of its range
     /// - [`Refusal::PrecisionOutOfRange`]
     /// - [`Refusal::TooManyElements`], of more than 268,435,456 cells
-    /// - [`Refusal::BadShape`], where `rows` times `columns`, as whole numbers, is not the number of
-    ///   cells
+    /// - [`Refusal::BadShape`], where `rows` times `columns`, as whole numbers, is not the number
+    ///   of cells
     /// - [`Refusal::NoRoom`], of a list of totals that is shorter than `rows` or `columns` asks for
     /// - [`Refusal::StrayBit`], of an encoding that is wider than the format, with the lowest index
     ///   of one in the cells

@@ -155,9 +155,9 @@ pub(crate) mod sealed {
                 assert!(size_of::<f64>() == size_of::<u64>());
                 assert!(align_of::<f64>() >= align_of::<u64>());
             }
-            // SAFETY: the pointer and the count are those of one slice, which stays borrowed as long
-            // as the words are. A word has the size and no greater alignment than a float, whose
-            // every bit has a value, and may have any value.
+            // SAFETY: the pointer and the count are those of one slice, which stays borrowed as
+            // long as the words are. A word has the size and no greater alignment than a float,
+            // whose every bit has a value, and may have any value.
             Cow::Borrowed(unsafe {
                 core::slice::from_raw_parts(values.as_ptr().cast(), values.len())
             })
@@ -268,8 +268,8 @@ pub(crate) mod sealed {
             return Cow::Owned(copied(values));
         }
         // SAFETY: the pointer and the size are those of one slice, which stays borrowed as long as
-        // the bytes are. A `Plain` has no padding, so each byte has a value, and a `u8` may have any
-        // value and any address.
+        // the bytes are. A `Plain` has no padding, so each byte has a value, and a `u8` may have
+        // any value and any address.
         Cow::Borrowed(unsafe {
             core::slice::from_raw_parts(values.as_ptr().cast(), size_of_val(values))
         })

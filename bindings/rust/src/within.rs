@@ -3,11 +3,11 @@ use core::hash::{Hash, Hasher};
 
 use crate::{raw, Record, Refusal, Summand, Totals, Value, Word};
 
-/// What a total within an allowance of passes comes to: the whole record, or what the last pass allowed
-/// has seen.
+/// What a total within an allowance of passes comes to: the whole record, or what the last pass
+/// allowed has seen.
 ///
-/// A full answer is the same for every larger allowance. Of unfinished ones a larger allowance never has
-/// a wider bound.
+/// A full answer is the same for every larger allowance. Of unfinished ones a larger allowance
+/// never has a wider bound.
 ///
 /// ```
 /// use fermuzhai::{sum, sum_within, Estimate};
@@ -20,6 +20,7 @@ use crate::{raw, Record, Refusal, Summand, Totals, Value, Word};
 /// # Ok::<(), fermuzhai::Refusal>(())
 /// ```
 #[derive(Clone, Copy, Debug)]
+#[must_use = "what the passes allowed have seen is in it"]
 pub enum Estimate<T> {
     /// The chain ended in time: the record of the total.
     Full(Record<T>),
@@ -107,9 +108,9 @@ impl<T: Value> Display for Estimate<T> {
 
 /// What the last pass allowed has seen, where the chain of passes does not end with it.
 ///
-/// The sum S in units of 2^`last_edge`, plus the boundary where there is one, is a first figure. It is off
-/// from the exact sum by fewer of these units than there are terms, and these are at most the elements
-/// of the list. [`Unfinished::bounds`] has the exact sum between two doubles.
+/// The sum S in units of 2^`last_edge`, plus the boundary where there is one, is a first figure. It
+/// is off from the exact sum by fewer of these units than there are terms, and these are at most
+/// the elements of the list. [`Unfinished::bounds`] has the exact sum between two doubles.
 ///
 /// Proved: `within-near`, `within-narrower`, `within-order`, `within-fits` in
 /// `crates/further_spec/proofs/Promises.antt`. The doubles are worked out by this crate.
@@ -118,14 +119,16 @@ impl<T: Value> Display for Estimate<T> {
 pub struct Unfinished {
     /// The allowance.
     pub passes: u64,
-    /// The position of the lowest digit that the last pass allowed looks at: that of the bit worth 1 is 0.
+    /// The position of the lowest digit that the last pass allowed looks at: that of the bit worth
+    /// 1 is 0.
     pub last_edge: i64,
     /// S of this pass, in units of 2^`last_edge`.
     pub sum: Units,
-    /// What this pass was compared against, where an earlier one has set it. S is then the sum less the
-    /// boundary.
+    /// What this pass was compared against, where an earlier one has set it. S is then the sum less
+    /// the boundary.
     pub boundary: Option<Boundary>,
-    /// The elements of the list, or the pairs of a dot. There are at most so many terms: a zero is none.
+    /// The elements of the list, or the pairs of a dot. There are at most so many terms: a zero is
+    /// none.
     pub elements: usize,
 }
 
@@ -181,7 +184,8 @@ impl Units {
     /// ```
     /// use fermuzhai::{Format, Kind, Totals};
     ///
-    /// // 2^4000, −3 × 2^2597 and 2^−4000, in five digits: beside 2^4000 the second pass has three units
+    /// // 2^4000, −3 × 2^2597 and 2^−4000, in five digits: beside 2^4000 the second pass has three
+    /// // units
     /// let wide = Totals::of(Format::new(Kind::Ieee, 13, 18));
     /// let list = [0x1f9f << 4, 1 << 17 | 0x1a25 << 4 | 8, 0x5f << 4];
     /// let sum = |allowance| Some(wide.sum_within(&list, allowance).ok()?.unfinished()?.sum);
@@ -203,8 +207,8 @@ impl Units {
     }
 }
 
-/// A whole number of units of 2^`unit`, with a sign: what a sum is compared against that lies too near
-/// to it for a rounding.
+/// A whole number of units of 2^`unit`, with a sign: what a sum is compared against that lies too
+/// near to it for a rounding.
 ///
 /// ```
 /// use fermuzhai::{Format, Kind, Totals};
@@ -249,15 +253,17 @@ impl Unfinished {
         }
     }
 
-    /// Two doubles, or infinities, that have the exact sum between them, or are it: S and the boundary
-    /// less and plus a unit for each element, rounded down and up.
+    /// Two doubles, or infinities, that have the exact sum between them, or are it: S and the
+    /// boundary less and plus a unit for each element, rounded down and up.
     ///
-    /// They are of any format's sum as a number, before it is rounded to the format. One of zero is +0.
+    /// They are of any format's sum as a number, before it is rounded to the format. One of zero is
+    /// +0.
     ///
     /// ```
     /// use fermuzhai::{sum_within, Totals};
     ///
-    /// // what is left when 2^1000 has gone is not seen by the first pass; three units of 2^298 are the bound
+    /// // what is left when 2^1000 has gone is not seen by the first pass; three units of 2^298 are
+    /// // the bound
     /// let list = [2f64.powi(1000), 1.0, -2f64.powi(1000)];
     /// let seen = sum_within(&list, 1)?.unfinished().unwrap();
     /// assert_eq!(seen.bounds(), (-3.0 * 2f64.powi(298), 3.0 * 2f64.powi(298)));
@@ -277,9 +283,9 @@ impl Unfinished {
         )
     }
 
-    /// S and the boundary as the nearest double, ties to even; an infinity where that is too large. It
-    /// lies between [`Unfinished::bounds`], and is a figure to show, not a result: nothing is promised of
-    /// its last digits.
+    /// S and the boundary as the nearest double, ties to even; an infinity where that is too large.
+    /// It lies between [`Unfinished::bounds`], and is a figure to show, not a result: nothing is
+    /// promised of its last digits.
     #[must_use]
     pub fn figure(&self) -> f64 {
         self.shown(0).rounded(Toward::Nearest)
@@ -340,10 +346,12 @@ impl Display for Unfinished {
     }
 }
 
-/// Sixteen words hold S, which takes twelve, and a boundary of one word raised by up to [`FARTHEST`].
+/// Sixteen words hold S, which takes twelve, and a boundary of one word raised by up to
+/// [`FARTHEST`].
 const WORDS: usize = 16;
 
-/// A unit of the boundary this far above the last edge is 2^64 times what S and the elements can be.
+/// A unit of the boundary this far above the last edge is 2^64 times what S and the elements can
+/// be.
 const FARTHEST: i64 = 832;
 
 /// Where a number that is no double goes.
@@ -370,7 +378,8 @@ impl Wide {
         if length == 0 {
             return 0.0;
         }
-        // the double's lowest digit: the highest one of the number is the first of 53, or it is subnormal
+        // the double's lowest digit: the highest one of the number is the first of 53, or it is
+        // subnormal
         let unit = self.place.saturating_add(length - 53).max(-1074);
         let cut = unit.saturating_sub(self.place);
         let (whole, is_exact) = if cut <= 0 {
@@ -399,7 +408,8 @@ impl Wide {
                 f64::MAX
             }
         } else {
-            // a digit in front of 53 goes into the exponent, and from the greatest double to infinity
+            // a digit in front of 53 goes into the exponent, and from the greatest double to
+            // infinity
             let field = (unit + 1074) as u64;
             f64::from_bits((field << 52) + whole + u64::from(is_away))
         };
@@ -455,13 +465,13 @@ fn bit_length(words: &[u64]) -> u32 {
 
 /// A first figure within an allowance of passes.
 impl<T: Word> Totals<T> {
-    /// The sum of the values, if its chain of passes ends within the allowance; else what the last pass
-    /// allowed has seen.
+    /// The sum of the values, if its chain of passes ends within the allowance; else what the last
+    /// pass allowed has seen.
     ///
-    /// A list of zeros, an empty one and one with a NaN or an infinity take no pass. `docs/PROMISES.md` of
-    /// the repository says which allowance is enough for any list. A call walks over the list at most once
-    /// for each pass allowed, beside the first look that every total takes; passes that see nothing are
-    /// counted, not walked.
+    /// A list of zeros, an empty one and one with a NaN or an infinity take no pass.
+    /// `docs/PROMISES.md` of the repository says which allowance is enough for any list. A call
+    /// walks over the list at most once for each pass allowed, beside the first look that every
+    /// total takes; passes that see nothing are counted, not walked.
     ///
     /// # Errors
     ///
@@ -478,8 +488,9 @@ impl<T: Word> Totals<T> {
     /// // 2^4000, −2^4000 and 2^−4000, in five digits: ten passes find nothing
     /// let wide = Totals::of(Format::new(Kind::Ieee, 13, 18));
     /// let list = [0x1f9f << 4, 0x1f9f << 4 | 1 << 17, 0x5f << 4];
-    /// let edge = |allowance| Some(wide.sum_within(&list, allowance).ok()?.unfinished()?.last_edge);
-    /// assert_eq!([1, 2, 9, 10, 11].map(edge), [Some(3298), Some(2532), Some(-2830), Some(-3596), None]);
+    /// let within = |allowance| wide.sum_within(&list, allowance).ok()?.unfinished();
+    /// let edges = [1, 2, 9, 10, 11].map(|allowance| Some(within(allowance)?.last_edge));
+    /// assert_eq!(edges, [Some(3298), Some(2532), Some(-2830), Some(-3596), None]);
     /// assert_eq!(wide.sum_within(&list, 11)?.full(), Some(wide.sum(&list)?));
     /// assert_eq!(wide.sum_within(&list, 0), Err(Refusal::NoPassAllowed));
     /// # Ok::<(), Refusal>(())

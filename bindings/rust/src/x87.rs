@@ -13,14 +13,16 @@ const TOP_FIELD: u16 = 0x7fff;
 const SIGN: u16 = 0x8000;
 const LEADING: u64 = 1 << 63;
 
-/// A number in the 80 bits of the x87, the `long double` of C on x86-64: ten bytes, the least first.
+/// A number in the 80 bits of the x87, the `long double` of C on x86-64: ten bytes, the least
+/// first.
 ///
 /// Eight bytes are the significand, 64 digits of which the leading one is written out; two are the
-/// head, 15 bits of exponent field under the sign. Any ten bytes are an `X87`; what they stand for is
-/// said in `docs/SPECIFICATION.md` of the repository:
+/// head, 15 bits of exponent field under the sign. Any ten bytes are an `X87`; what they stand for
+/// is said in `docs/SPECIFICATION.md` of the repository:
 ///
 /// - A field above 0 over a leading digit of 0 stands for nothing: [`X87::is_unsupported`]. A list
-///   with one has the default NaN for each of its totals, and [`Flags::INVALID`](crate::Flags::INVALID).
+///   with one has the default NaN for each of its totals, and
+///   [`Flags::INVALID`](crate::Flags::INVALID).
 /// - A leading digit of 1 over a field of 0 is read as its number, which counts as subnormal. No
 ///   result is written so.
 ///
@@ -96,8 +98,8 @@ impl X87 {
         u64::from_le_bytes([a, b, c, d, e, f, g, h])
     }
 
-    /// Whether it stands for nothing: the exponent field is above 0, and the leading digit is 0. Such
-    /// are the unnormals and, with a field of all ones, the pseudo-infinities and pseudo-NaNs.
+    /// Whether it stands for nothing: the exponent field is above 0, and the leading digit is 0.
+    /// Such are the unnormals and, with a field of all ones, the pseudo-infinities and pseudo-NaNs.
     #[must_use]
     pub const fn is_unsupported(self) -> bool {
         self.head() & TOP_FIELD != 0 && self.significand() < LEADING
@@ -156,8 +158,8 @@ impl X87 {
             return Err(Refusal::UnevenLength { list: None });
         }
         let count = bytes.len() / size_of::<Self>();
-        // SAFETY: the pointer is that of a slice of ten times as many bytes, which stays borrowed as
-        // long as the list is. A value is ten bytes, of any value and at any address.
+        // SAFETY: the pointer is that of a slice of ten times as many bytes, which stays borrowed
+        // as long as the list is. A value is ten bytes, of any value and at any address.
         Ok(unsafe { core::slice::from_raw_parts(bytes.as_ptr().cast(), count) })
     }
 
@@ -172,8 +174,8 @@ impl X87 {
     /// ```
     #[must_use]
     pub const fn bytes_of(list: &[Self]) -> &[u8] {
-        // SAFETY: the pointer and the size are those of one slice, which stays borrowed as long as the
-        // bytes are. A value is ten bytes and no padding.
+        // SAFETY: the pointer and the size are those of one slice, which stays borrowed as long as
+        // the bytes are. A value is ten bytes and no padding.
         unsafe { core::slice::from_raw_parts(list.as_ptr().cast(), list.len() * size_of::<Self>()) }
     }
 }
@@ -195,7 +197,8 @@ impl From<f64> for X87 {
         let fraction = bits & ((1 << 52) - 1);
         let (field, significand) = match (exponent, fraction) {
             (0, 0) => (0, 0),
-            // a leading digit of 2^(63 − 1074) and a field of 16383 + 63 − 1074, less what it is moved by
+            // a leading digit of 2^(63 − 1074) and a field of 16383 + 63 − 1074, less what it is
+            // moved by
             (0, _) => {
                 let moved = fraction.leading_zeros();
                 (15_372 - moved as u16, fraction << moved)

@@ -1,5 +1,6 @@
-//! Formats that name a bias, through the entries and through `Totals`. The rows are those of the definitions' own table, whose theorem is
-//! `biases-agree`; that the kind's own bias may be named is `named-own`.
+//! Formats that name a bias, through the entries and through `Totals`. The rows are those of the
+//! definitions' own table, whose theorem is `biases-agree`; that the kind's own bias may be named
+//! is `named-own`.
 
 mod common;
 

@@ -65,10 +65,10 @@ fn four_totals_in_one_record<T: Value + std::fmt::Debug>(
 ) {
     for rounding in ROUNDINGS {
         let totals = totals.with_settings(Settings::new().with_rounding(rounding));
-        one_record(list, |l| totals.sum(l));
-        one_record(list, |l| totals.magnitude_sum(l));
-        one_record(list, |l| totals.square_sum(l));
-        one_record(&pairs(list, other), |l| {
+        let _ = one_record(list, |l| totals.sum(l));
+        let _ = one_record(list, |l| totals.magnitude_sum(l));
+        let _ = one_record(list, |l| totals.square_sum(l));
+        let _ = one_record(&pairs(list, other), |l| {
             let (left, right): (Vec<T>, Vec<T>) = l.iter().copied().unzip();
             totals.dot(&left, &right)
         });

@@ -1,6 +1,7 @@
-//! The contribution that reaches a target, through `raw`, `Totals` and the free function. The expectations are rows that were worked out by hand;
-//! in small formats a search through all of their numbers, in whole numbers; in wider ones the exact sum with the number found and with the one before it, or
-//! where there is none on either side of the wanted total.
+//! The contribution that reaches a target, through `raw`, `Totals` and the free function. The
+//! expectations are rows that were worked out by hand; in small formats a search through all of
+//! their numbers, in whole numbers; in wider ones the exact sum with the number found and with the
+//! one before it, or where there is none on either side of the wanted total.
 
 mod common;
 mod draw;
@@ -29,7 +30,8 @@ fn with(rounding: Rounding) -> Settings {
     PLAIN.with_rounding(rounding)
 }
 
-/// The number found or a refusal's code. Eight bytes are written, whatever was in them, and none beyond; or nothing at all.
+/// The number found or a refusal's code. Eight bytes are written, whatever was in them, and none
+/// beyond; or nothing at all.
 fn entered(f: Format, c: Settings, list: &[u64], wanted: u64) -> Result<u64, u64> {
     let mut answer = [UNTOUCHED; 16];
     let code = raw::contribution(f.into(), f.named_bias, c.into(), wanted, list, &mut answer);
@@ -284,7 +286,8 @@ impl Small {
         (0..1 << self.format.width).map(answer).collect()
     }
 
-    /// Compares every wanted total. The encodings do not depend on the bias. Returns how many there were with a number, and without.
+    /// Compares every wanted total. The encodings do not depend on the bias. Returns how many there
+    /// were with a number, and without.
     fn compare(&self, bias: Option<i64>, c: Settings, list: &[u64]) -> [u64; 2] {
         let mut format = self.format;
         format.named_bias = bias;
@@ -329,7 +332,8 @@ fn add(all: &mut [u64; 2], more: [u64; 2]) {
     all[1] += more[1];
 }
 
-/// The numbers in units, and some that are rounded, by hand: five bits of which three are of exponent, two digits.
+/// The numbers in units, and some that are rounded, by hand: five bits of which three are of
+/// exponent, two digits.
 #[test]
 fn units_and_their_rounding() {
     let small = Small::new(3, 5);
@@ -373,7 +377,8 @@ fn lists_of_up_to_one_small_value() {
     }
 }
 
-/// Every list of two, by default in every mode; every wanted total. In the first mode in both orders.
+/// Every list of two, by default in every mode; every wanted total. In the first mode in both
+/// orders.
 #[test]
 fn lists_of_two_small_values_in_every_mode() {
     let small = Small::new(3, 6);
@@ -393,7 +398,8 @@ fn lists_of_two_small_values_in_every_mode() {
     }
 }
 
-/// Every list of two numbers under a fifth of all modes, precisions and saturates, by turns, with a bias that is named or is not; every wanted total.
+/// Every list of two numbers under a fifth of all modes, precisions and saturates, by turns, with a
+/// bias that is named or is not; every wanted total.
 fn lists_of_two_numbers(small: &Small) {
     let is_finite = |encoding: &u64| small.units(*encoding).is_some();
     let lists: Vec<[u64; 2]> = small
@@ -461,7 +467,8 @@ struct Case {
 }
 
 impl Case {
-    /// The rank of the exact sum with a number behind the list, rounded once; that of an infinity lies behind the last.
+    /// The rank of the exact sum with a number behind the list, rounded once; that of an infinity
+    /// lies behind the last.
     fn with(&self, rank_of_number: i64) -> i64 {
         let mut list = self.list.clone();
         list.push(at(self.f, rank_of_number));
@@ -470,7 +477,8 @@ impl Case {
         rank(self.f, result)
     }
 
-    /// The least rank with which the sum is not below a wanted one; behind the last where it always is.
+    /// The least rank with which the sum is not below a wanted one; behind the last where it always
+    /// is.
     fn least_not_below(&self, wanted: i64) -> i64 {
         let (mut low, mut high) = (-last(self.f), last(self.f) + 1);
         while low < high {
@@ -484,7 +492,8 @@ impl Case {
         low
     }
 
-    /// Whether there is a number: then the sum is the wanted total with it and below with the one before it, and else above and below.
+    /// Whether there is a number: then the sum is the wanted total with it and below with the one
+    /// before it, and else above and below.
     fn is_right(&self, wanted: u64) -> bool {
         let what = || format!("{:?} {:?} {:x?} to {wanted:x}", self.f, self.c, self.list);
         let (first, last, goal) = (-last(self.f), last(self.f), rank(self.f, wanted));
@@ -529,7 +538,8 @@ fn drawn_settings(draw: &mut Draw, f: Format, rounding: Rounding) -> Settings {
     }
 }
 
-/// Finite values: near one exponent, or of any; some of them subnormal, some of the largest, some zeros, some negatives of others.
+/// Finite values: near one exponent, or of any; some of them subnormal, some of the largest, some
+/// zeros, some negatives of others.
 fn drawn_list(draw: &mut Draw, f: Format, count: u64) -> Vec<u64> {
     let fields = (1 << f.exponent_bits) - 1;
     let near = match draw.below(4) {
@@ -556,7 +566,8 @@ fn drawn_list(draw: &mut Draw, f: Format, count: u64) -> Vec<u64> {
     list
 }
 
-/// A total that some number reaches, or the one beside it; the total itself; zeros, the largest and the least numbers; or any.
+/// A total that some number reaches, or the one beside it; the total itself; zeros, the largest and
+/// the least numbers; or any.
 fn drawn_total(draw: &mut Draw, case: &Case) -> u64 {
     let (f, last) = (case.f, last(case.f));
     let with = |draw: &mut Draw| case.with(rank(f, drawn_list(draw, f, 1)[0]));
@@ -618,7 +629,8 @@ fn drawn_lists_of_other_formats() {
     }
 }
 
-/// 480 months and a total to the pound, in every mode: the number, and what a list in another order has.
+/// 480 months and a total to the pound, in every mode: the number, and what a list in another order
+/// has.
 #[test]
 fn a_career_in_every_mode() {
     let f = Format::BINARY64;
@@ -634,7 +646,8 @@ fn a_career_in_every_mode() {
         for pounds in [300_000f64, 20_000.0, -1.0, 0.0, 1e300] {
             let wanted = pounds.to_bits();
             let is_found = case.is_right(wanted);
-            // the amount that is missing is the smaller, so it has digits enough; to odd a sum that is not exact is never 300,000, which is even
+            // the amount that is missing is the smaller, so it has digits enough; to odd a sum that
+            // is not exact is never 300,000, which is even
             let is_even = rounding == Rounding::ToOdd;
             assert!(pounds != 300_000.0 || is_found != is_even, "{rounding:?}");
             let number = entered(f, case.c, &case.list, wanted);
@@ -678,7 +691,8 @@ const BAD_SETTINGS: [raw::Settings; 10] = [
     [0, 0, 0, 0, 0, 0, 0, 12],
 ];
 
-/// Three values and the wanted total behind them, and what is wrong with these four: none, or the code of the first of 7, 15 and 14 that holds.
+/// Three values and the wanted total behind them, and what is wrong with these four: none, or the
+/// code of the first of 7, 15 and 14 that holds.
 fn faulty_values(draw: &mut Draw, [is_stray, is_special, is_none]: [bool; 3]) -> ([u64; 4], u64) {
     let mut all = [0x3c00, 0x3c00, 0x3c00, 0x3c00];
     let mut code = 0;
@@ -702,7 +716,8 @@ fn faulty_values(draw: &mut Draw, [is_stray, is_special, is_none]: [bool; 3]) ->
     (all, code)
 }
 
-/// Every choice of conditions, in several ways: the first in the order 2, 3, 4, 7, 15, 14 is returned, and nothing is written.
+/// Every choice of conditions, in several ways: the first in the order 2, 3, 4, 7, 15, 14 is
+/// returned, and nothing is written.
 #[test]
 fn refusals_in_their_order() {
     let mut draw = Draw(14);

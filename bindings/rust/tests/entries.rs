@@ -1,5 +1,6 @@
-//! Both entries with good, refused and empty input. Every byte of the buffer is looked at. The expectations are those of docs/SPECIFICATION.md: its table of
-//! refusals, its layout of the answer, its careers C1 to C12, and small exact sums.
+//! Both entries with good, refused and empty input. Every byte of the buffer is looked at. The
+//! expectations are those of docs/SPECIFICATION.md: its table of refusals, its layout of the
+//! answer, its careers C1 to C12, and small exact sums.
 use fermuzhai::raw::{bytes, dot, sum, Format, Settings};
 
 const BINARY64: Format = [0, 11, 64];
@@ -32,7 +33,8 @@ const BELOW: u8 = 1;
 const ABOVE: u8 = 2;
 const NO_COMPARISON: u8 = 3;
 
-/// An accepted call: 0 comes back, bytes 0 to 23 are result, flags, a zero, the side, five zeros, passes, and the rest is as it was.
+/// An accepted call: 0 comes back, bytes 0 to 23 are result, flags, a zero, the side, five zeros,
+/// passes, and the rest is as it was.
 fn accepted(code: u64, buffer: &[u8], wanted: Written) {
     let Written {
         result,
@@ -133,7 +135,8 @@ fn careers() {
     }
 }
 
-/// The side is one of numbers, not of magnitudes; it is taken after denormals-are-zero, and of the result after flush-to-zero.
+/// The side is one of numbers, not of magnitudes; it is taken after denormals-are-zero, and of the
+/// result after flush-to-zero.
 #[test]
 fn sides() {
     const TOWARD_POSITIVE: Settings = [3, 0, 0, 0, 0, 0, 0, 0];

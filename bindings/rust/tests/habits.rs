@@ -1,6 +1,7 @@
-//! Two habits, of lists drawn at random in every kind and under every setting, with and without a named bias. All values negated, or those of a
-//! dot's left list, and the directed modes exchanged give the negated record; a square sum has the record of the dot product of the list with
-//! itself. The theorems are `sum-mirror`, `dot-mirror` and `square-dot`.
+//! Two habits, of lists drawn at random in every kind and under every setting, with and without a
+//! named bias. All values negated, or those of a dot's left list, and the directed modes exchanged
+//! give the negated record; a square sum has the record of the dot product of the list with itself.
+//! The theorems are `sum-mirror`, `dot-mirror` and `square-dot`.
 
 mod common;
 mod draw;
@@ -125,8 +126,8 @@ fn any_settings(draw: &mut Draw, f: Format, mode: Rounding) -> Settings {
         .with_precision(precision as u8)
 }
 
-/// Up to seven values near one exponent, some of them negatives of others; once in six the first is any encoding at all, where the numbers of
-/// the format do not lie too far apart.
+/// Up to seven values near one exponent, some of them negatives of others; once in six the first is
+/// any encoding at all, where the numbers of the format do not lie too far apart.
 fn any_list(draw: &mut Draw, f: Format, count: usize) -> Vec<u64> {
     let near = match draw.below(4) {
         0 => draw.below(3).min(highest(f)),
@@ -172,7 +173,8 @@ fn of(record: &Record<u64>) -> (u64, u8, Side, u64) {
     )
 }
 
-/// Runs a check of lists in every kind and mode. Of enough of them it must say that there was something to see.
+/// Runs a check of lists in every kind and mode. Of enough of them it must say that there was
+/// something to see.
 fn in_every_kind_and_mode(seed: u64, check: impl Fn(&mut Draw, Format, Settings) -> bool) {
     let mut draw = Draw(seed);
     for kind in KINDS {

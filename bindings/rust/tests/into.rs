@@ -1,5 +1,6 @@
-//! One total in several formats, through `raw`, `Totals` and the free function. The expectations are rows worked out by hand, and what exact sums, added and
-//! rounded digit by digit, come to; of the passes alone, those of the plain sum.
+//! One total in several formats, through `raw`, `Totals` and the free function. The expectations
+//! are rows worked out by hand, and what exact sums, added and rounded digit by digit, come to; of
+//! the passes alone, those of the plain sum.
 
 mod common;
 mod draw;
@@ -28,7 +29,8 @@ const NO_COMPARISON: u8 = Side::NoComparison as u8;
 /// The thirteen numbers of a target.
 type Numbers = [u64; 13];
 
-/// The refusal, plus 256 times its place; the result; flags, side and the zeros beside them; the passes.
+/// The refusal, plus 256 times its place; the result; flags, side and the zeros beside them; the
+/// passes.
 type Slot = [u64; 4];
 
 /// 2^n as an encoding of binary64, for a normal number.
@@ -228,7 +230,8 @@ fn rows() {
     let fnuz = Format::E4M3_FNUZ;
     #[rustfmt::skip]
     let rows: [(Totals<u64>, &[u64], Target, Slot); 48] = [
-        // a little above a tie of binary16, on it and a little below; and beside the tie after 1 + 2^−10
+        // a little above a tie of binary16, on it and a little below; and beside the tie after 1 +
+        // 2^−10
         (b64, &[one, tie, tiny], plain(half), accepted(0x3c01, 0x50, 1, ABOVE)),
         (b64, &[one, tie, tiny], plain(single), accepted(0x3f80_1000, 0x10, 1, BELOW)),
         (b64, &[one, tie, tiny], plain(double), accepted(0x3ff0_0200_0000_0000, 0x10, 1, BELOW)),
@@ -520,7 +523,8 @@ fn zeros() {
     }
 }
 
-/// A condition of a refused target: its number, whether it is the target's own, and what makes it hold.
+/// A condition of a refused target: its number, whether it is the target's own, and what makes it
+/// hold.
 struct Condition {
     code: u64,
     is_own: bool,
@@ -588,8 +592,8 @@ const CONDITIONS: [Condition; 33] = [
     of_list(17, |asked, _| asked.values[0] = 0xfc01),
 ];
 
-/// Every condition by itself and every two at once, of one, of two and of all three targets: the first in the order 3, 4, 7, 17 is told, and a target of which
-/// none holds has its record.
+/// Every condition by itself and every two at once, of one, of two and of all three targets: the
+/// first in the order 3, 4, 7, 17 is told, and a target of which none holds has its record.
 #[test]
 fn refusals_of_each_target() {
     // forty bytes are whole values of eight and of ten
@@ -632,7 +636,8 @@ fn refusals_of_each_target() {
     }
 }
 
-/// One element more than there may be: 6 comes after 3 and 4, and before 7 and 17. Zeros that nobody wrote take no memory.
+/// One element more than there may be: 6 comes after 3 and 4, and before 7 and 17. Zeros that
+/// nobody wrote take no memory.
 #[test]
 fn too_many_elements() {
     let mut values = vec![0u8; 8 * (LIMIT + 1)];
@@ -687,7 +692,8 @@ fn too_many_elements() {
     );
 }
 
-/// Lengths that are not: 1 comes before 2, and both before any refusal of a target. Nothing is written.
+/// Lengths that are not: 1 comes before 2, and both before any refusal of a target. Nothing is
+/// written.
 #[test]
 fn lengths_in_bytes() {
     let good = raw::bytes([Numbers::from(plain(Format::BINARY16)); 3].as_flattened());
@@ -836,7 +842,8 @@ fn exponents_that_reach_farther_or_less_far() {
     }
 }
 
-/// In the list's own format the record is that of the plain sum, under the target's settings and the list's denormals-are-zero.
+/// In the list's own format the record is that of the plain sum, under the target's settings and
+/// the list's denormals-are-zero.
 #[test]
 fn the_own_format() {
     let mut draw = Draw(14);
@@ -927,7 +934,8 @@ fn drawn_target(draw: &mut Draw, most_digits: u64, top: i64) -> Target {
     plain(f).with_settings(drawn_settings(draw, digits as u8))
 }
 
-/// An encoding of a list's format, not a NaN and not an infinity, with its exponent field in a range of so many.
+/// An encoding of a list's format, not a NaN and not an infinity, with its exponent field in a
+/// range of so many.
 fn drawn_value(draw: &mut Draw, f: Format, from: u64, fields: u64) -> u64 {
     loop {
         let (digits, last) = (u32::from(f.digits()), (1u64 << f.exponent_bits) - 1);
@@ -1000,7 +1008,8 @@ fn drawn_lists_into_drawn_targets() {
     );
 }
 
-/// Sums on a tie of a target and a little beside it, at places of all depths, of lists that must be read more than once.
+/// Sums on a tie of a target and a little beside it, at places of all depths, of lists that must be
+/// read more than once.
 #[test]
 fn beside_ties() {
     let mut draw = Draw(70);

@@ -1,5 +1,7 @@
-//! Career pages, through `raw` and through `Page`. The expectations are a model of the page, written from its layout in docs/SPECIFICATION.md; exact sums in
-//! whole numbers of 128 bits; and, under settings and over NaNs and infinities, what the plain sum gives for the span as a list of its own.
+//! Career pages, through `raw` and through `Page`. The expectations are a model of the page,
+//! written from its layout in docs/SPECIFICATION.md; exact sums in whole numbers of 128 bits; and,
+//! under settings and over NaNs and infinities, what the plain sum gives for the span as a list of
+//! its own.
 
 mod draw;
 
@@ -19,7 +21,8 @@ const INFINITY: u64 = 0x7ff << 52;
 const MINUS: u64 = 1 << 63;
 const FRACTION: u64 = (1 << 52) - 1;
 
-/// Zeros, the least and the greatest subnormal, the least normal number, the greatest, infinities, quiet and signaling NaNs, each of either sign.
+/// Zeros, the least and the greatest subnormal, the least normal number, the greatest, infinities,
+/// quiet and signaling NaNs, each of either sign.
 const ODD: [u64; 8] = [
     0,
     1,
@@ -33,7 +36,8 @@ const ODD: [u64; 8] = [
 
 // ---- the model
 
-/// The positions of the highest and of the lowest set bit of a number other than 0, or the class of any other value. The bit worth 2^k stands at k.
+/// The positions of the highest and of the lowest set bit of a number other than 0, or the class of
+/// any other value. The bit worth 2^k stands at k.
 fn bits_or_class(word: u64) -> Result<(i32, i32), u8> {
     let (field, fraction) = (word >> 52 & 0x7ff, word & FRACTION);
     let (significand, unit) = match (field, fraction) {
@@ -91,7 +95,8 @@ fn page_of(words: &[u64]) -> Vec<u8> {
     page
 }
 
-/// The values of a page: of bytes that are what would have been written for the values that they count.
+/// The values of a page: of bytes that are what would have been written for the values that they
+/// count.
 fn opened(bytes: &[u8]) -> Option<Vec<u64>> {
     let count = if bytes.ends_with(b"CPG2") {
         u64::from_le_bytes(bytes.last_chunk::<16>()?[..8].try_into().unwrap()) as usize
@@ -139,7 +144,8 @@ fn check_no_page(bytes: &[u8]) {
     assert_eq!(answer, [UNTOUCHED; 24]);
 }
 
-/// The page of the values is the model's on every way, and opens; a destination that is too short stays as it was, and so does what lies behind the page.
+/// The page of the values is the model's on every way, and opens; a destination that is too short
+/// stays as it was, and so does what lies behind the page.
 fn check_written(words: &[u64]) -> Vec<u8> {
     let (wanted, values) = (page_of(words), floats(words));
     let length = wanted.len();
@@ -164,7 +170,8 @@ fn check_written(words: &[u64]) -> Vec<u8> {
     page
 }
 
-/// A span through `raw` and through `Page`: the answer of the plain sum of its values, byte for byte.
+/// A span through `raw` and through `Page`: the answer of the plain sum of its values, byte for
+/// byte.
 fn check_span(page: &[u8], words: &[u64], start: usize, end: usize) {
     let span = raw::bytes(&words[start..end]);
     let opened = Page::open(page).unwrap();
@@ -194,7 +201,8 @@ fn check_span(page: &[u8], words: &[u64], start: usize, end: usize) {
     }
 }
 
-/// Values of one sort: any words, odd ones, subnormal, near to each other, mostly zeros, or not finite.
+/// Values of one sort: any words, odd ones, subnormal, near to each other, mostly zeros, or not
+/// finite.
 fn group(draw: &mut Draw, count: usize) -> Vec<u64> {
     let (sort, exponent) = (draw.below(6), 1 + draw.below(2030));
     let digits = FRACTION & (u64::MAX << draw.below(52));
@@ -294,7 +302,8 @@ fn either_trailer() {
             assert_eq!(opened.sum(start..end), wanted);
         }
         assert_eq!(opened.sum(..count + 1), Err(Refusal::BadSpan));
-        // the first and the last summary, the least and the greatest byte of each number of the trailer, the last letter
+        // the first and the last summary, the least and the greatest byte of each number of the
+        // trailer, the last letter
         let behind = length - trailer;
         let number = (trailer - 8) / 2;
         for at in [
@@ -315,7 +324,8 @@ fn either_trailer() {
     }
 }
 
-/// The letters of one trailer over the numbers of the other; and a trailer that is right but for the range of its count.
+/// The letters of one trailer over the numbers of the other; and a trailer that is right but for
+/// the range of its count.
 #[test]
 fn the_wrong_trailer() {
     let list = words(&mut Draw(21), MOST_SHORT + 1);
@@ -349,7 +359,8 @@ fn the_wrong_trailer() {
     }
 }
 
-/// The page of so many zeros. Those that nobody wrote take no memory, and a summary for each 64 of them does.
+/// The page of so many zeros. Those that nobody wrote take no memory, and a summary for each 64 of
+/// them does.
 fn page_of_zeros(count: usize) -> Vec<u8> {
     let trailer = long_trailer(8 * count as u64, count as u64);
     let behind = 8 * count + 12 * count.div_ceil(64);
@@ -444,7 +455,8 @@ fn a_page_lies_at_any_address() {
 
 // ---- what is no page
 
-/// Every byte of the summaries and of the trailer, with each other value of a byte: 12. A changed byte of a value: 12, or the page of the changed values.
+/// Every byte of the summaries and of the trailer, with each other value of a byte: 12. A changed
+/// byte of a value: 12, or the page of the changed values.
 #[test]
 fn damage() {
     let mut draw = Draw(12);
@@ -629,7 +641,8 @@ fn spans_are_lists_of_their_own() {
     }
 }
 
-/// Every kind of bounds that name a span, and every pair of indices about the page, in one of which an end overflows.
+/// Every kind of bounds that name a span, and every pair of indices about the page, in one of which
+/// an end overflows.
 #[test]
 fn bounds() {
     let list = [0.5, 2.0, -1.0, 8.0];

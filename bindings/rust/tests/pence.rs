@@ -1,5 +1,6 @@
-//! The pence of a list, through `raw`, through `Totals` and through the free function. The expectations are a hundred times the exact sum, worked out by hand,
-//! by exact fractions or in whole numbers of 128 bits, and rounded to the nearest, a half away from zero.
+//! The pence of a list, through `raw`, through `Totals` and through the free function. The
+//! expectations are a hundred times the exact sum, worked out by hand, by exact fractions or in
+//! whole numbers of 128 bits, and rounded to the nearest, a half away from zero.
 
 use fermuzhai::{pence, raw, Format, Kind, Refusal, Settings, Totals};
 
@@ -58,7 +59,8 @@ fn doubles() {
         (&[0.125, LEAST], 13),
         (&[0.375, -LEAST], 37),
         (&[0.375, LEAST], 38),
-        // the doubles nearest to 2.675 and 1.005 are a little less, that to 0.005 a little more; the one before it is less
+        // the doubles nearest to 2.675 and 1.005 are a little less, that to 0.005 a little more;
+        // the one before it is less
         (&[2.675], 267),
         (&[1.005], 100),
         (&[0.005], 1),
@@ -111,7 +113,8 @@ fn singles() {
     assert_eq!(pence(&many), Ok(501 * 25 - 500 * 50));
 }
 
-/// Each format that has a name: an eighth of a pound, or the least number where that is more; a sum that is too large for the format; NaNs and infinities.
+/// Each format that has a name: an eighth of a pound, or the least number where that is more; a sum
+/// that is too large for the format; NaNs and infinities.
 #[test]
 fn formats() {
     #[rustfmt::skip]
@@ -248,7 +251,8 @@ fn refusals_in_their_order() {
     list[1_048_576] = 0x1_0000;
     check(half, &list, Err(7 + 256 * 1_048_576));
 
-    // one more than there may be, with a NaN and a stray bit; zeros that nobody wrote take no memory
+    // one more than there may be, with a NaN and a stray bit; zeros that nobody wrote take no
+    // memory
     let mut list = vec![0; LIMIT + 1];
     list[LIMIT - 1] = 0x7e00;
     list[LIMIT] = 0x1_0000;
@@ -260,7 +264,8 @@ fn refusals_in_their_order() {
     assert_eq!(pence(&vec![0f64; LIMIT + 1]), too_many);
 }
 
-/// Eighths of a pound, many of them ties, beside amounts that cancel: the whole number of eighths is known, and so is the figure.
+/// Eighths of a pound, many of them ties, beside amounts that cancel: the whole number of eighths
+/// is known, and so is the figure.
 #[test]
 fn one_figure_in_every_order() {
     let mut state = 480u64;

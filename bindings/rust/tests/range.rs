@@ -1,5 +1,7 @@
-//! The lower and the upper total of amounts known within a range, through `raw` and through the free function. The expectations are the neighbours of exact
-//! sums, worked out by hand or in whole numbers of 128 bits; over all finite numbers, what the plain sum gives for the lows and for the highs.
+//! The lower and the upper total of amounts known within a range, through `raw` and through the
+//! free function. The expectations are the neighbours of exact sums, worked out by hand or in whole
+//! numbers of 128 bits; over all finite numbers, what the plain sum gives for the lows and for the
+//! highs.
 
 mod draw;
 
@@ -14,7 +16,8 @@ const LEAST: f64 = f64::from_bits(1);
 const INFINITY: u64 = 0x7ff0_0000_0000_0000;
 const MINUS: u64 = 1 << 63;
 
-/// What the figures that are not used may hold: zeros of either sign, infinities, quiet and signaling NaNs, a number.
+/// What the figures that are not used may hold: zeros of either sign, infinities, quiet and
+/// signaling NaNs, a number.
 const UNUSED: [u64; 7] = [
     0,
     MINUS,
@@ -53,7 +56,8 @@ fn lists(amounts: &[Amount], unused: u64) -> [Vec<u64>; 3] {
     [0, 1, 2].map(|i| entries.iter().map(|entry| entry[i]).collect())
 }
 
-/// Every way to the pair: it is this, by its encodings; the lists are left with the lows and the highs, and nothing is written beyond the pair.
+/// Every way to the pair: it is this, by its encodings; the lists are left with the lows and the
+/// highs, and nothing is written beyond the pair.
 fn check(amounts: &[Amount], ceiling: f64, lower: u64, upper: u64) {
     let what = || format!("{amounts:?} under {ceiling}");
     let (a, b) = range(amounts, ceiling).unwrap();
@@ -274,7 +278,8 @@ fn refusals_in_their_order() {
     check_untouched(&[0], &[], &[one], INFINITY, 2, 5);
 }
 
-/// One entry more than there may be: 6 comes after 2 and 5, and before 11. Zeros that nobody wrote take no memory.
+/// One entry more than there may be: 6 comes after 2 and 5, and before 11. Zeros that nobody wrote
+/// take no memory.
 #[test]
 fn too_many_entries() {
     let one = 1.0f64.to_bits();
@@ -326,7 +331,8 @@ fn a_million_amounts_and_one_more() {
 /// A whole number counts 2^−UNIT.
 const UNIT: i64 = 40;
 
-/// The greatest double that is not above the number: the one of its 53 leading digits, a lower number where it is negative.
+/// The greatest double that is not above the number: the one of its 53 leading digits, a lower
+/// number where it is negative.
 fn not_above(n: i128) -> f64 {
     let digits = 128 - n.unsigned_abs().leading_zeros();
     let beyond = digits.saturating_sub(53);
@@ -341,7 +347,8 @@ fn not_below(n: i128) -> f64 {
     0.0 - not_above(-n)
 }
 
-/// Whole numbers of up to 113 digits: the sums of the lows and of the highs are known, and so are their neighbours.
+/// Whole numbers of up to 113 digits: the sums of the lows and of the highs are known, and so are
+/// their neighbours.
 #[test]
 fn neighbours_of_exact_sums() {
     // 2^53 + 1 is no double; its neighbours are 2^53 and 2^53 + 2
@@ -399,7 +406,8 @@ fn neighbours_of_exact_sums() {
     assert!(inexact > 1000 && zeros > 300, "{inexact}, {zeros}");
 }
 
-/// Finite numbers of every size: the pair is the plain sum of the lows toward negative and that of the highs toward positive, with −0 as +0.
+/// Finite numbers of every size: the pair is the plain sum of the lows toward negative and that of
+/// the highs toward positive, with −0 as +0.
 #[test]
 fn the_plain_sums() {
     let totals =

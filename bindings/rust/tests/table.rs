@@ -1,5 +1,6 @@
-//! The totals of the rows and columns of a table, through `raw`, through `Totals` and through the free function. The expectations are exact sums in whole
-//! numbers, those of docs/SPECIFICATION.md worked out by hand, and what the plain sum gives for the cells of each row and column.
+//! The totals of the rows and columns of a table, through `raw`, through `Totals` and through the
+//! free function. The expectations are exact sums in whole numbers, those of docs/SPECIFICATION.md
+//! worked out by hand, and what the plain sum gives for the cells of each row and column.
 
 mod common;
 mod draw;
@@ -29,7 +30,8 @@ fn column<T: Copy>(cells: &[T], rows: usize, columns: usize, j: usize) -> Vec<T>
     (0..rows).map(|i| cells[i * columns + j]).collect()
 }
 
-/// What a call of the entry leaves: its code, the two lists with `BEYOND` more words than they need, and the answer with as many bytes more.
+/// What a call of the entry leaves: its code, the two lists with `BEYOND` more words than they
+/// need, and the answer with as many bytes more.
 #[derive(Debug, PartialEq)]
 struct Left {
     code: u64,
@@ -150,7 +152,8 @@ fn no_rows_or_no_columns() {
     }
 }
 
-/// Zeros and terms that cancel: −0 where all zeros are −0, and toward negative where there is a −0 or a term.
+/// Zeros and terms that cancel: −0 where all zeros are −0, and toward negative where there is a −0
+/// or a term.
 #[test]
 fn zeros_of_either_sign() {
     const MINUS: u64 = 0x8000;
@@ -189,7 +192,8 @@ fn roundings() {
     check(short, &five_seven, &four_eight, &[0x4a00], 0x4a00);
 }
 
-/// Eighths, whose exact sums a double has: in whole numbers they are known. In larger tables four amounts cancel within two rows and within two columns.
+/// Eighths, whose exact sums a double has: in whole numbers they are known. In larger tables four
+/// amounts cancel within two rows and within two columns.
 #[test]
 fn eighths() {
     let mut draw = Draw(3);
@@ -253,8 +257,8 @@ fn singles() {
     assert_eq!([rows[2], columns[3]].map(f32::to_bits), [0x7f80_0001; 2]);
 }
 
-/// The NaN of a row is selected from left to right, that of a column from top to bottom; infinities meet within a row or column alone, and so does what is
-/// too large.
+/// The NaN of a row is selected from left to right, that of a column from top to bottom; infinities
+/// meet within a row or column alone, and so does what is too large.
 #[test]
 fn nans_and_infinities() {
     let with = |rule| HALVES.with_settings(Settings::new().with_nan_propagation(rule));
@@ -307,7 +311,8 @@ fn drawn_settings(draw: &mut Draw, digits: u8) -> Settings {
         .with_precision(draw.below(u64::from(digits) + 1) as u8)
 }
 
-/// Of each format, tables of encodings of every sort, under drawn settings: rows and columns have what the plain sum gives.
+/// Of each format, tables of encodings of every sort, under drawn settings: rows and columns have
+/// what the plain sum gives.
 #[test]
 fn rows_and_columns_are_plain_sums() {
     let formats = [
@@ -396,7 +401,8 @@ fn floats_are_their_encodings() {
     }
 }
 
-/// A million cells and one more, each in three shapes: cell i is i mod 7, less 3. There are as many rows or columns as cells.
+/// A million cells and one more, each in three shapes: cell i is i mod 7, less 3. There are as many
+/// rows or columns as cells.
 #[test]
 fn a_million_cells() {
     let all: Vec<f64> = (0..=MILLION).map(|i| (i % 7) as f64 - 3.0).collect();
@@ -479,7 +485,8 @@ fn shapes() {
     assert_eq!(code(6, 0, &[]), 0);
 }
 
-/// Where there are no cells the rows have no limit but the room: `table` makes it for a million, and lists that are lent can be longer.
+/// Where there are no cells the rows have no limit but the room: `table` makes it for a million,
+/// and lists that are lent can be longer.
 #[test]
 fn more_rows_than_cells() {
     for n in [MILLION + 1, LIMIT, LIMIT + 1, 1 << 40, 1 << 62, usize::MAX] {
@@ -497,7 +504,8 @@ fn more_rows_than_cells() {
     assert_eq!(rows[MILLION + 2], 7.0);
 }
 
-/// Each refusal, and all that several conditions together can be: the first in the order 2, 3, 4, 6, 9, 10, 7 is returned, and nothing is written.
+/// Each refusal, and all that several conditions together can be: the first in the order 2, 3, 4,
+/// 6, 9, 10, 7 is returned, and nothing is written.
 #[test]
 fn refusals_in_their_order() {
     const ORDER: [u64; 7] = [2, 3, 4, 6, 9, 10, 7];

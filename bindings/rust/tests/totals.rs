@@ -94,7 +94,8 @@ fn known_formats() {
             "{format:?}"
         );
     }
-    // the largest number of each small format, doubled: 448 in E4M3 overflows to its NaN, E2M1 stays at 6
+    // the largest number of each small format, doubled: 448 in E4M3 overflows to its NaN, E2M1
+    // stays at 6
     let largest = Totals::of(Format::E4M3).sum(&[0x7e, 0x7e]).unwrap();
     assert_eq!(
         (largest.result, largest.flags),

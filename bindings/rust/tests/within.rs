@@ -1,5 +1,6 @@
-//! A first figure within an allowance of passes, through `raw`, `Totals` and the free functions. The expectations are rows of the specification or were
-//! worked out by hand, and a chain that is run pass by pass in exact arithmetic; of a full answer, the record of the plain total.
+//! A first figure within an allowance of passes, through `raw`, `Totals` and the free functions.
+//! The expectations are rows that the request gives or that were worked out by hand, and a chain
+//! that is run pass by pass in exact arithmetic; of a full answer, the record of the plain total.
 
 mod chain;
 mod common;
@@ -59,7 +60,8 @@ fn word(bytes: &[u8]) -> u64 {
     u64::from_le_bytes(bytes.try_into().unwrap())
 }
 
-/// What the entry leaves, whatever was in the buffer: 144 bytes and none beyond; or its code, and then nothing.
+/// What the entry leaves, whatever was in the buffer: 144 bytes and none beyond; or its code, and
+/// then nothing.
 fn enter(call: impl Fn(&mut [u8]) -> u64) -> Result<(Fields, Sum), u64> {
     let mut given = None;
     for filling in [UNTOUCHED, !UNTOUCHED] {
@@ -216,7 +218,8 @@ fn is_above(x: f64, parts: &[Part]) -> bool {
     x == f64::INFINITY || (x != f64::NEG_INFINITY && less(parts, &[Part::of_double(x)]))
 }
 
-/// The bounds have the exact sum between them, and are the narrowest doubles around the figure and a unit for each element.
+/// The bounds have the exact sum between them, and are the narrowest doubles around the figure and
+/// a unit for each element.
 fn check_bounds(seen: &Unfinished, pass: &Pass, terms: &[Term], count: usize) {
     let exact: Vec<Part> = terms.iter().map(Part::of_term).collect();
     let shown = shown(pass);
@@ -292,7 +295,8 @@ fn check_at(totals: Totals<u64>, of: Of<'_>, allowance: u64, pass: Option<&Pass>
     assert_eq!(estimate.full(), None);
 }
 
-/// Every allowance from 1 to one more than the passes, or the first and the last ones of a long chain and its thousandth, and the greatest.
+/// Every allowance from 1 to one more than the passes, or the first and the last ones of a long
+/// chain and its thousandth, and the greatest.
 fn check(totals: Totals<u64>, of: Of<'_>) {
     let record = of.plain(totals).unwrap();
     let terms = of.terms(totals).unwrap_or_default();
@@ -323,7 +327,7 @@ fn unfinished(totals: Totals<u64>, values: &[u64], allowance: u64) -> Unfinished
     estimate.unfinished().unwrap()
 }
 
-/// The rows of the specification, and those beside them: S as powers of two, the edge, the boundary.
+/// The rows of the request, and those beside them: S as powers of two, the edge, the boundary.
 #[test]
 fn rows() {
     let b64 = Totals::of(Format::BINARY64);
@@ -415,7 +419,8 @@ const WIDTHS: [(u8, u8); 9] = [
 ];
 const BIASES: [Option<i64>; 4] = [None, None, Some(-40), Some(2000)];
 
-/// A list that takes several passes where the format lets it: values of any exponent, many of them taken back.
+/// A list that takes several passes where the format lets it: values of any exponent, many of them
+/// taken back.
 fn drawn(draw: &mut Draw, f: Format) -> Vec<u64> {
     let mask = u64::MAX >> (64 - f.width);
     let sign = 1 << (f.width - 1);
@@ -489,7 +494,8 @@ fn a_run_of_empty_passes() {
     assert_eq!(totals.sum(&list).unwrap().passes, 350_439);
 }
 
-/// Bounds of sums that no double has: far above, far below and beside zero; and of boundaries far above the edge.
+/// Bounds of sums that no double has: far above, far below and beside zero; and of boundaries far
+/// above the edge.
 #[test]
 fn bounds_beyond_the_doubles() {
     let five = Totals::of(WIDE);
@@ -649,7 +655,8 @@ fn orders_and_larger_allowances() {
     assert_eq!(hashed.len() as u64, passes);
 }
 
-/// Numbers of a call, each right or wrong: the lowest refusal that holds is given, with 16 in front of 3, and nothing is written.
+/// Numbers of a call, each right or wrong: the lowest refusal that holds is given, with 16 in front
+/// of 3, and nothing is written.
 #[test]
 fn refusals_in_their_order() {
     let stray = [0x3c00, 0x1_0000].map(u64::to_le_bytes);
@@ -745,7 +752,8 @@ fn refusals_in_their_order() {
     assert_eq!(answer, [UNTOUCHED; 144]);
 }
 
-/// A list of kind 4 is counted by tens: where it is whole it has 3, and else 1, before a short buffer and no allowance; a list of words has no such value.
+/// A list of kind 4 is counted by tens: where it is whole it has 3, and else 1, before a short
+/// buffer and no allowance; a list of words has no such value.
 #[test]
 fn eighty_bits_by_tens() {
     let zeros = [0; 100];

@@ -1,5 +1,6 @@
-//! Values of ten bytes, through the entries and through the lists of `X87`. The expectations are those of the specification's section "Eighty-bit values", or come from exact arithmetic: by
-//! hand, where a row says how, and in whole numbers of 128 bits.
+//! Values of ten bytes, through the entries and through the lists of `X87`. The expectations are
+//! those of document 02, or come from exact arithmetic: by hand, where a row says how, and in whole
+//! numbers of 128 bits.
 
 mod common;
 mod draw;
@@ -547,7 +548,8 @@ fn rounded(n: i128, at: i32, mode: Rounding) -> Wanted {
     Wanted(result, flags, 1, side)
 }
 
-/// Values of up to 29 bits at 30 places: sums, squares and products fit 128 bits, wherever they lie.
+/// Values of up to 29 bits at 30 places: sums, squares and products fit 128 bits, wherever they
+/// lie.
 #[test]
 fn whole_numbers() {
     let mut draw = Draw(10);

@@ -1,4 +1,5 @@
-//! The passes of a chain, one after the other, by docs/SPECIFICATION.md: in a window of 768 bits, with terms that may lie anywhere.
+//! The passes of a chain, one after the other, by docs/SPECIFICATION.md: in a window of 768 bits,
+//! with terms that may lie anywhere.
 
 use std::cmp::Ordering::{self, Equal, Greater, Less};
 
@@ -26,7 +27,8 @@ impl Term {
     }
 }
 
-/// The elements of a list as terms; `None` where one is a NaN or an infinity. One that counts as zero stays, with a significand of 0.
+/// The elements of a list as terms; `None` where one is a NaN or an infinity. One that counts as
+/// zero stays, with a significand of 0.
 fn elements(f: Format, denormals_are_zero: bool, values: &[u64]) -> Option<Vec<Term>> {
     let each = values.iter().map(|&value| {
         let n = number(f, value)?;

@@ -1,5 +1,6 @@
-//! What the sum of a list comes to in a target: added digit by digit, and rounded once. Formats, zeros, tininess, overflow and flags are those of
-//! docs/SPECIFICATION.md. The passes of a sum are not worked out.
+//! What the sum of a list comes to in a target: added digit by digit, and rounded once. Formats,
+//! zeros, tininess, overflow and flags are those of docs/SPECIFICATION.md. The passes of a sum are
+//! not worked out.
 
 use std::cmp::Ordering::{self, Equal, Greater, Less};
 
@@ -17,7 +18,8 @@ pub fn greatest(f: Format) -> i64 {
 #[derive(Clone, Debug)]
 pub struct Exact {
     is_negative: bool,
-    /// Of the magnitude, from the one worth 2^unit on. The last is a 1; there is none where the sum is 0.
+    /// Of the magnitude, from the one worth 2^unit on. The last is a 1; there is none where the sum
+    /// is 0.
     digits: Vec<bool>,
     unit: i64,
     has_terms: bool,
@@ -26,7 +28,8 @@ pub struct Exact {
     zeros: [bool; 2],
 }
 
-/// The digits of a number with so many units, twos, fours and so on: in two's complement, and the digit that goes on for ever.
+/// The digits of a number with so many units, twos, fours and so on: in two's complement, and the
+/// digit that goes on for ever.
 fn carried(counts: &[i64], sign: i64) -> (Vec<bool>, bool) {
     let mut carry = 0;
     let mut digits = Vec::new();
@@ -82,7 +85,8 @@ impl Exact {
         self.unit + self.digits.len() as i64 - 1
     }
 
-    /// The whole number of 2^place in the magnitude, and what is left beside half of one, if anything.
+    /// The whole number of 2^place in the magnitude, and what is left beside half of one, if
+    /// anything.
     fn cut(&self, place: i64) -> (u64, Option<Ordering>) {
         let digit =
             |at: i64| at >= self.unit && at <= self.top() && self.digits[(at - self.unit) as usize];
@@ -159,7 +163,8 @@ impl Exact {
 
         let place = top.max(least) - kept + 1;
         let (n, is_up, is_exact) = self.rounded(c.rounding, place);
-        // the number with all digits of the format; below the least normal number the first of them are zeros
+        // the number with all digits of the format; below the least normal number the first of them
+        // are zeros
         let highest = place + 63 - i64::from(n.leading_zeros());
         let field = (highest - least + 1).max(0);
         let unit = least + (field - 1).max(0) - digits + 1;
@@ -174,7 +179,8 @@ impl Exact {
             sign | (field as u64) << (digits - 1) | (significand - leading)
         };
 
-        // where there is no infinity but a NaN with every bit set, this takes the place of the greatest number with all digits
+        // where there is no infinity but a NaN with every bit set, this takes the place of the
+        // greatest number with all digits
         let is_less = f.kind == Kind::NoInf && kept == digits;
         let most = (((1 << kept) - 1) << (digits - kept)) - u64::from(is_less);
         if highest > greatest || (highest == greatest && significand > most) {
