@@ -24,7 +24,8 @@ static size_t read_months(void)
     size_t n = 0;
     while (fgets(line, sizeof line, stdin)) {
         uint64_t encoding;
-        if (n == MOST || strspn(line, "0123456789abcdef") != 16 || sscanf(line, "%16" SCNx64, &encoding) != 1) {
+        if (n == MOST || strspn(line, "0123456789abcdef") != 16
+            || sscanf(line, "%16" SCNx64, &encoding) != 1) {
             return MOST + 1;
         }
         memcpy(&months[n++], &encoding, sizeof encoding);

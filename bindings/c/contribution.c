@@ -28,7 +28,8 @@ static int read_months(void)
     size_t n;
     for (n = 0; n < PAID; n++) {
         uint64_t encoding;
-        if (!fgets(line, sizeof line, stdin) || strspn(line, "0123456789abcdef") != 16 || sscanf(line, "%16" SCNx64, &encoding) != 1) {
+        if (!fgets(line, sizeof line, stdin) || strspn(line, "0123456789abcdef") != 16
+            || sscanf(line, "%16" SCNx64, &encoding) != 1) {
             return 0;
         }
         memcpy(&months[n], &encoding, sizeof encoding);
@@ -54,7 +55,10 @@ static double before(double x)
     return x;
 }
 
-/* The total with so much in month 480. A list that a contribution was found for is accepted with one. */
+/*
+ * The total with so much in month 480. A list that a contribution was found for is accepted with
+ * one.
+ */
 static void show_with(const char *what, double last)
 {
     double total;

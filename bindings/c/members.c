@@ -43,8 +43,8 @@ static double added(const double *list, size_t count)
 int main(void)
 {
     double of_members[MEMBERS], of_months[MONTHS];
-    const totals_double_record all =
-        totals_table_double(paid, MEMBERS * MONTHS, MEMBERS, MONTHS, of_members, MEMBERS, of_months, MONTHS, NULL);
+    const totals_double_record all = totals_table_double(
+        paid, MEMBERS * MONTHS, MEMBERS, MONTHS, of_members, MEMBERS, of_months, MONTHS, NULL);
     size_t i;
 
     if (all.refusal != TOTALS_ACCEPTED) {

@@ -25,7 +25,8 @@ static size_t read_months(void)
     size_t n = 0;
     while (fgets(line, sizeof line, stdin)) {
         uint64_t encoding;
-        if (n == MOST || strspn(line, "0123456789abcdef") != 16 || sscanf(line, "%16" SCNx64, &encoding) != 1) {
+        if (n == MOST || strspn(line, "0123456789abcdef") != 16
+            || sscanf(line, "%16" SCNx64, &encoding) != 1) {
             return MOST + 1;
         }
         memcpy(&months[n++], &encoding, sizeof encoding);
@@ -44,7 +45,8 @@ static int is_accepted(unsigned refusal)
 
 static int show_span(const uint8_t *page, size_t size, size_t start, size_t end)
 {
-    const totals_double_record total = totals_page_sum_double(page, size, start, end, NULL, TOTALS_VALUE);
+    const totals_double_record total =
+        totals_page_sum_double(page, size, start, end, NULL, TOTALS_VALUE);
     if (is_accepted(total.refusal)) {
         printf("%016" PRIx64 " %.2f\n", total.bits, total.result);
     }

@@ -1,7 +1,9 @@
 /*
- * As many rows as a list may have: zeros, which are accepted, and of which one more is refused unread; and a mebibyte of amounts that lies
- * 2,048 times in a row. Its totals are 2,048 times those of the mebibyte, rounded once, and go to the standard output; examples/rows.py has
- * them from exact fractions. Neither list takes the 2 GiB that it is long: time and memory go to the standard error.
+ * As many rows as a list may have: zeros, which are accepted, and of which one more is refused
+ * unread; and a mebibyte of amounts that lies 2,048 times in a row. Its totals are 2,048 times
+ * those of the mebibyte, rounded once, and go to the standard output; examples/rows.py has them
+ * from exact fractions. Neither list takes the 2 GiB that it is long: time and memory go to the
+ * standard error.
  */
 #ifndef _GNU_SOURCE
 #define _GNU_SOURCE /* memfd_create; C++ has it already */
@@ -42,14 +44,16 @@ static const double *mapped_amounts(void)
 {
     const int file = memfd_create("amounts", 0);
     const size_t size = ROWS * sizeof(double) + BLOCK_BYTES;
-    char *rows = (char *)mmap(NULL, size, PROT_NONE, MAP_PRIVATE | MAP_ANONYMOUS | MAP_NORESERVE, -1, 0);
+    char *rows =
+        (char *)mmap(NULL, size, PROT_NONE, MAP_PRIVATE | MAP_ANONYMOUS | MAP_NORESERVE, -1, 0);
     size_t at;
 
     if (file < 0 || rows == MAP_FAILED || ftruncate(file, BLOCK_BYTES) != 0) {
         return NULL;
     }
     for (at = 0; at < size; at += BLOCK_BYTES) {
-        if (mmap(rows + at, BLOCK_BYTES, PROT_READ | PROT_WRITE, MAP_SHARED | MAP_FIXED, file, 0) == MAP_FAILED) {
+        if (mmap(rows + at, BLOCK_BYTES, PROT_READ | PROT_WRITE, MAP_SHARED | MAP_FIXED, file, 0)
+            == MAP_FAILED) {
             return NULL;
         }
     }
@@ -74,7 +78,8 @@ static long figure_of(const char *file, const char *format)
 
 static int is_bounded(const char *what, long memory)
 {
-    fprintf(stderr, "rows.c: %s: %ld KiB of memory, %.1f s in all\n", what, memory, (double)clock() / CLOCKS_PER_SEC);
+    fprintf(stderr, "rows.c: %s: %ld KiB of memory, %.1f s in all\n", what, memory,
+            (double)clock() / CLOCKS_PER_SEC);
     return memory < MOST_MEMORY;
 }
 
@@ -82,24 +87,29 @@ static int is_bounded(const char *what, long memory)
 static int are_zeros_counted(void)
 {
     const size_t size = (ROWS + (size_t)1) * sizeof(double);
-    double *zeros = (double *)mmap(NULL, size, PROT_READ, MAP_PRIVATE | MAP_ANONYMOUS | MAP_NORESERVE, -1, 0);
+    double *zeros =
+        (double *)mmap(NULL, size, PROT_READ, MAP_PRIVATE | MAP_ANONYMOUS | MAP_NORESERVE, -1, 0);
     totals_double_record sum;
 
     if (zeros == MAP_FAILED) {
         return 0;
     }
     sum = totals_sum_double(zeros, ROWS, NULL);
-    if (sum.refusal != TOTALS_ACCEPTED || sum.bits != 0 || sum.flags != 0 || sum.passes != 0 || sum.side != TOTALS_EQUAL) {
+    if (sum.refusal != TOTALS_ACCEPTED || sum.bits != 0 || sum.flags != 0 || sum.passes != 0
+        || sum.side != TOTALS_EQUAL) {
         return 0;
     }
     /* the peak: a page that was never written takes no memory of its own */
-    if (!is_bounded("zeros", figure_of("/proc/self/status", "VmHWM: %ld")) || mprotect(zeros, size, PROT_NONE) != 0) {
+    if (!is_bounded("zeros", figure_of("/proc/self/status", "VmHWM: %ld"))
+        || mprotect(zeros, size, PROT_NONE) != 0) {
         return 0;
     }
     return totals_sum_double(zeros, ROWS + 1, NULL).refusal == TOTALS_TOO_MANY_ELEMENTS
            && totals_square_sum_double(zeros, ROWS + 1, NULL).refusal == TOTALS_TOO_MANY_ELEMENTS
-           && totals_dot_double(zeros, ROWS + 1, zeros, ROWS + 1, NULL).refusal == TOTALS_TOO_MANY_ELEMENTS
-           && totals_sum(TOTALS_BINARY64, TOTALS_DEFAULTS, TOTALS_VALUE, (const uint8_t *)zeros, size, (uint8_t *)&sum, sizeof sum)
+           && totals_dot_double(zeros, ROWS + 1, zeros, ROWS + 1, NULL).refusal
+                  == TOTALS_TOO_MANY_ELEMENTS
+           && totals_sum(TOTALS_BINARY64, TOTALS_DEFAULTS, TOTALS_VALUE, (const uint8_t *)zeros,
+                         size, (uint8_t *)&sum, sizeof sum)
                   == TOTALS_TOO_MANY_ELEMENTS
            && munmap(zeros, size) == 0;
 }
@@ -109,7 +119,8 @@ static void show(const char *what, totals_double_record total)
     if (total.refusal != TOTALS_ACCEPTED) {
         printf("%s refused: %s\n", what, totals_strerror(total.refusal));
     } else {
-        printf("%s %016" PRIx64 " %02x %" PRIu64 " %u\n", what, total.bits, total.flags, total.passes, total.side);
+        printf("%s %016" PRIx64 " %02x %" PRIu64 " %u\n", what, total.bits, total.flags,
+               total.passes, total.side);
     }
 }
 
@@ -131,6 +142,9 @@ int main(void)
     show("square sum", totals_square_sum_double(rows, ROWS, NULL));
     /* each amount times the next */
     show("dot", totals_dot_double(rows, ROWS, rows + 1, ROWS, NULL));
-    /* not the peak, which counts a page of the mebibyte once for each of the 2,048 places where it lies */
+    /*
+     * not the peak, which counts a page of the mebibyte once for each of the 2,048 places where it
+     * lies
+     */
     return !is_bounded("amounts", figure_of("/proc/self/smaps_rollup", "Pss: %ld"));
 }

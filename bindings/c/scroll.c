@@ -22,7 +22,8 @@ int main(void)
     unsigned allowance;
 
     for (allowance = 1; allowance <= 4; allowance++) {
-        const totals_estimate e = totals_sum_within_double(TOTALS_VALUE, amounts, 6, allowance, NULL);
+        const totals_estimate e =
+            totals_sum_within_double(TOTALS_VALUE, amounts, 6, allowance, NULL);
         double total;
 
         if (e.refusal != TOTALS_ACCEPTED) {
@@ -31,10 +32,12 @@ int main(void)
         }
         printf("allowed %u: ", allowance);
         if (e.mark == 1) {
-            printf("%016" PRIx64 " to %016" PRIx64 ": %.2f\n", encoding(totals_lower(&e)), encoding(totals_upper(&e)), totals_figure(&e));
+            printf("%016" PRIx64 " to %016" PRIx64 ": %.2f\n", encoding(totals_lower(&e)),
+                   encoding(totals_upper(&e)), totals_figure(&e));
         } else {
             memcpy(&total, &e.result, sizeof total);
-            printf("%016" PRIx64 " flags %02x passes %" PRIu64 ": %.2f\n", e.result, e.flags, e.passes, total);
+            printf("%016" PRIx64 " flags %02x passes %" PRIu64 ": %.2f\n", e.result, e.flags,
+                   e.passes, total);
         }
     }
     return 0;

@@ -31,7 +31,8 @@ static size_t read_months(void)
     size_t n = 0;
     while (fgets(line, sizeof line, stdin)) {
         uint64_t encoding;
-        if (n == MOST || strspn(line, "0123456789abcdef") != 16 || sscanf(line, "%16" SCNx64, &encoding) != 1) {
+        if (n == MOST || strspn(line, "0123456789abcdef") != 16
+            || sscanf(line, "%16" SCNx64, &encoding) != 1) {
             return MOST + 1;
         }
         memcpy(&months[n++], &encoding, sizeof encoding);
@@ -88,7 +89,8 @@ int main(void)
     }
     for (i = 0; i < FORMATS; i++) {
         const int width = (int)targets[i].format.width;
-        printf("binary%d %0*" PRIx64 " flags %02x side %u %.2f\n", width, width / 4, records[i].result, records[i].flags, records[i].side,
+        printf("binary%d %0*" PRIx64 " flags %02x side %u %.2f\n", width, width / 4,
+               records[i].result, records[i].flags, records[i].side,
                pounds(targets[i].format.width, records[i].result));
     }
     return 0;

@@ -37,7 +37,8 @@ static int show(const char *what, totals_x87_record total)
         return 0;
     }
     memcpy(&result, total.result, TOTALS_X87_BYTES);
-    printf("%s %04x %016" PRIx64 " flags %02x side %u %.2Lf\n", what, total.head, total.significand, total.flags, total.side, result);
+    printf("%s %04x %016" PRIx64 " flags %02x side %u %.2Lf\n", what, total.head, total.significand,
+           total.flags, total.side, result);
     return 1;
 }
 
@@ -55,7 +56,8 @@ int main(void)
     pack(list, amounts, AMOUNTS);
     pack(reversed, backwards, AMOUNTS);
     printf("added one after the other: %.2Lf, and backwards: %.2Lf\n", forth, back);
-    return show("sum", totals_sum_x87(list, AMOUNTS, NULL)) && show("sum backwards", totals_sum_x87(reversed, AMOUNTS, NULL))
+    return show("sum", totals_sum_x87(list, AMOUNTS, NULL))
+                   && show("sum backwards", totals_sum_x87(reversed, AMOUNTS, NULL))
                    && show("magnitude sum", totals_magnitude_sum_x87(list, AMOUNTS, NULL))
                    && show("square sum", totals_square_sum_x87(list, AMOUNTS, NULL))
                    && show("dot", totals_dot_x87(list, AMOUNTS, reversed, AMOUNTS, NULL))
@@ -67,7 +69,8 @@ int main(void)
 
 int main(void)
 {
-    fprintf(stderr, "the long double of this machine is not the x87's: there is nothing to hand over\n");
+    fprintf(stderr,
+            "the long double of this machine is not the x87's: there is nothing to hand over\n");
     return 0;
 }
 
