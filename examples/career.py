@@ -1,7 +1,8 @@
 #!/usr/bin/env python3
-"""One career of 480 months, made up, what the program `total` prints for it, its years, and its statement.
+"""One career of 480 months, made up, what is printed of it, its years, and its statement.
 
-    career.py          writes career.txt, career.expected, pages.expected and statement.expected beside this file
+    career.py          writes career.txt and career.expected, what the program `total` prints,
+                       pages.expected and statement.expected beside this file
     career.py --check  says whether the four files are what it would write
 
 A line of career.txt is the amount paid in one month, in pounds, as the 16 hex
@@ -79,7 +80,8 @@ def expected(months):
     result = float(exact)  # to the nearest, ties to even
     rounded = Fraction(result)
     flags = 0 if rounded == exact else 16 + (64 if abs(rounded) > abs(exact) else 0)
-    # The highest bit of all lies less than 702 positions above the lowest, so the first pass drops nothing and is the only one.
+    # The highest bit of all lies less than 702 positions above the lowest, so the first pass drops
+    # nothing and is the only one.
     highest = max(map(abs, months))
     units = [Fraction(x) * 2 ** 1074 for x in months]
     lowest = min(int(u) & -int(u) for u in units)
@@ -113,7 +115,8 @@ def statement(months):
     exact = sum(map(Fraction, months))
     for letter, width, digits in (('d', 64, 53), ('f', 32, 24), ('e', 16, 11)):
         result = nearest_even(exact, digits)
-        # a number of the format, and not one below its least normal number: struct packs it as it is
+        # a number of the format, and not one below its least normal number: struct packs it as it
+        # is
         encoding = struct.pack('>' + letter, result)
         assert Fraction(struct.unpack('>' + letter, encoding)[0]) == result and abs(result) >= 1
         flags = 0 if result == exact else 16 + (64 if abs(result) > abs(exact) else 0)
@@ -134,8 +137,8 @@ def main():
     # What the example is for: three different totals, one of them right.
     assert len({hex_of(running(months)), hex_of(running(months[::-1])), answer[0]}) == 3
     same = True
-    for name, lines in (('career.txt', map(hex_of, months)), ('career.expected', answer), ('pages.expected', years(months)),
-                        ('statement.expected', statement(months))):
+    for name, lines in (('career.txt', map(hex_of, months)), ('career.expected', answer),
+                        ('pages.expected', years(months)), ('statement.expected', statement(months))):
         text = ''.join(line + '\n' for line in lines)
         if sys.argv[1:] == ['--check']:
             if (HERE / name).read_text() != text:

@@ -1,5 +1,5 @@
 #!/usr/bin/env python3
-"""What the example `contribution` of both bindings prints: what must be paid in month 480 of the career.
+"""What the example `contribution` of both bindings prints: what is to be paid in month 480.
 
     contribution.py          writes contribution.expected beside this file
     contribution.py --check  says whether the file is what it would write
@@ -59,11 +59,14 @@ def lines():
     contribution, before = at(rank), at(rank - 1)
     assert total(paid, contribution) == WANTED and contribution > 0
     assert total(paid, before) < WANTED and total(paid, contribution - PENNY) < WANTED
-    for name, amount in (('paid', total(paid, 0)), ('wanted', WANTED), ('contribution', contribution)):
+    for name, amount in (('paid', total(paid, 0)), ('wanted', WANTED),
+                         ('contribution', contribution)):
         yield f'{name} {hex_of(amount)} {amount:.2f}'
-    for name, amount in (('it', contribution), ('the number before', before), ('a penny less', contribution - PENNY)):
+    for name, amount in (('it', contribution), ('the number before', before),
+                         ('a penny less', contribution - PENNY)):
         result = total(paid, amount)
-        yield f'with {name} {hex_of(result)} {result:.2f} {"reached" if result == WANTED else "missed"}'
+        met = 'reached' if result == WANTED else 'missed'
+        yield f'with {name} {hex_of(result)} {result:.2f} {met}'
 
 
 def main():

@@ -38,7 +38,8 @@ def line_of(name, terms):
     rounded = Fraction(result)
     flags = 0 if rounded == exact else 16 + (64 if abs(rounded) > abs(exact) else 0)
     side = 1 if rounded < exact else 2 if rounded > exact else 0
-    # The highest bit of all lies less than 702 positions above the lowest, so the first pass drops nothing and is the only one.
+    # The highest bit of all lies less than 702 positions above the lowest, so the first pass drops
+    # nothing and is the only one.
     assert exact != 0 and max(map(abs, terms)) < 2 ** 702 * min(t & -t for t in terms if t)
     return f'{name} {struct.pack(">d", result).hex()} {flags:02x} 1 {side}\n'
 

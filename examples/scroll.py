@@ -1,5 +1,5 @@
 #!/usr/bin/env python3
-"""What the example `scroll` of both bindings prints: a list of six amounts within 1, 2, 3 and 4 passes.
+"""What the example `scroll` of both bindings prints: six amounts within 1, 2, 3 and 4 passes.
 
     scroll.py          writes scroll.expected beside this file
     scroll.py --check  says whether the file is what it would write
@@ -26,7 +26,7 @@ def hex_of(x):
 
 
 def position(x):
-    """The position of the highest set bit of a fraction above 0 whose denominator is a power of two."""
+    """The position of the highest set bit of a fraction above 0, over a power of two."""
     return x.numerator.bit_length() - x.denominator.bit_length()
 
 
@@ -41,7 +41,8 @@ def passes(amounts):
         s = sum(parts) - int(boundary / unit)
         assert -2 ** 767 <= s < 2 ** 767
         yield edge, s, boundary
-        lost = [position(abs(x)) if part == 0 else edge - 1 for x, part in zip(terms, parts) if part * unit != x]
+        lost = [position(abs(x)) if part == 0 else edge - 1
+                for x, part in zip(terms, parts) if part * unit != x]
         n = abs(s).bit_length()
         if not lost or (boundary and n >= 66):
             return
@@ -80,7 +81,8 @@ def lines():
     result = float(exact)
     flags = 0 if result == exact else 16 + (64 if abs(Fraction(result)) > abs(exact) else 0)
     for allowed in (len(chain), len(chain) + 1):
-        yield f'allowed {allowed}: {hex_of(result)} flags {flags:02x} passes {len(chain)}: {result:.2f}'
+        yield (f'allowed {allowed}: {hex_of(result)} flags {flags:02x} passes {len(chain)}: '
+               f'{result:.2f}')
 
 
 def main():

@@ -18,7 +18,7 @@ EXPECTED = pathlib.Path(__file__).resolve().with_name('x87.expected')
 
 
 def rounded(exact):
-    """The nearest number with 64 digits, a tie to the even one; none of the totals is too large or too small for it."""
+    """The nearest number with 64 digits, a tie to the even one; no total is beyond its range."""
     if exact == 0:
         return exact
     unit = Fraction(1)
@@ -49,7 +49,8 @@ def line_of(name, exact):
     flags = 0 if result == exact else 16 + (64 if abs(result) > abs(exact) else 0)
     side = 1 if result < exact else 2 if result > exact else 0
     head, significand = parts(result)
-    return f'{name} {head:04x} {significand:016x} flags {flags:02x} side {side} {in_pence(result)}\n'
+    return (f'{name} {head:04x} {significand:016x} flags {flags:02x} side {side} '
+            f'{in_pence(result)}\n')
 
 
 def added(amounts):

@@ -11,7 +11,7 @@ use fermuzhai::{
 const KINDS: [Kind; 5] = [Kind::Ieee, Kind::NoInf, Kind::Fnuz, Kind::Finite, Kind::X87];
 
 #[test]
-fn enums_have_the_numbers_of_document_01() {
+fn enums_have_the_numbers_of_the_specification() {
     assert_eq!(KINDS.map(|kind| kind as u64), [0, 1, 2, 3, 4]);
     assert_eq!(
         ROUNDINGS.map(|rounding| rounding as u64),

@@ -1,6 +1,6 @@
 //! Values of ten bytes, through the entries and through the lists of `X87`. The expectations are
-//! those of document 02, or come from exact arithmetic: by hand, where a row says how, and in whole
-//! numbers of 128 bits.
+//! those of the specification, or come from exact arithmetic: by hand, where a row says how, and in
+//! whole numbers of 128 bits.
 
 mod common;
 mod draw;

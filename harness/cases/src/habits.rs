@@ -1,4 +1,4 @@
-//! Mirror and square: a call on the negated list, the two directed modes exchanged, has the negated record; a square sum has that of the
+//! Two habits of the specification: a call on the negated list, the two directed modes exchanged, has the negated record; a square sum has that of the
 //! dot product of the list with itself. Each call is compared with the original, and then with its other.
 
 use std::fmt;

@@ -1,4 +1,4 @@
-//! Calls that break one or more rows of the specification's table of refusals, by as little as possible or by a lot.
+//! Calls that break one or more rows of the specification's table, by as little as possible or by a lot.
 
 use crate::case::{Case, Format, Operation};
 use crate::lists::random;

@@ -33,7 +33,7 @@ impl Table {
         rows * columns == self.sum.left.len() as u128
     }
 
-    /// The first condition, in the order of a table, that holds: of the sum of the cells all but the stray bits come before the table's own.
+    /// The first condition of the specification's order that holds: of the sum of the cells all but the stray bits come before the table's own.
     pub fn expected(&self) -> Expected {
         let short = self.shape.iter().zip(self.lent).any(|(&side, lent)| (lent as u64) < side);
         match refusals::expected_of_values(&self.sum) {
