@@ -340,9 +340,87 @@ mod tests {
                 "the element at index 2 of the left list does not fit the format's width",
             ),
             (
+                Refusal::UnevenLength { list: None },
+                "the length in bytes is not that of whole values: each takes 8 bytes, one of \
+                 X87 10, and three targets take 312",
+            ),
+            (
+                Refusal::ShortBuffer,
+                "the buffer is too short: an answer takes 24 bytes, one of X87 32, of three \
+                 targets 96, within an allowance 144, a contribution 8, the pair of a range two \
+                 words, and a page what Page::length_of says",
+            ),
+            (
+                Refusal::NoSuchFormat,
+                "the call has no such format: exponent bits are 2 to 28, the width these + 2 to \
+                 64, a named bias within 268,435,456 of 0; X87 is for totals of ten-byte values, \
+                 and a contribution is for the kind IEEE",
+            ),
+            (
+                Refusal::SettingOutOfRange,
+                "a setting or the summand is out of its range: each is one of its numbers, the \
+                 precision at most the digits of the format, and of a contribution flush to zero \
+                 and denormals-are-zero are off",
+            ),
+            (
+                Refusal::DifferentLengths,
+                "the lists differ in length: they must have the same number of elements",
+            ),
+            (
+                Refusal::TooManyElements,
+                "there are too many elements: a list has at most 268,435,456, and one fewer where\
+                  a contribution is added to it",
+            ),
+            (
+                Refusal::NoPence,
+                "the list has no pence: it holds a NaN or an infinity, or its sum is 2^63 pence \
+                 or more, of either sign",
+            ),
+            (
+                Refusal::BadShape,
+                "rows times columns is not the number of cells: each row has a cell for each \
+                 column",
+            ),
+            (
+                Refusal::NoRoom,
+                "there is no room for the totals: their lists need a place for each row and each \
+                 column",
+            ),
+            (
+                Refusal::BadAmount,
+                "an amount or the ceiling is a bad one: tags are 0 to 2, figures finite, a low at\
+                  most its high, and the ceiling finite and not below zero",
+            ),
+            (
+                Refusal::NotAPage,
+                "the bytes are not a page: they must be the page of the values in them, to the \
+                 last bit, and hold at most 268,435,456 values",
+            ),
+            (
+                Refusal::BadSpan,
+                "the span is not one of the page: it starts at most at its end, and ends at most \
+                 at the number of values",
+            ),
+            (
+                Refusal::NoContribution,
+                "no finite number brings the sum to the wanted total: another total may have one",
+            ),
+            (
+                Refusal::NotFinite,
+                "the list holds a NaN or an infinity, or the wanted total is one: a contribution \
+                 is for finite numbers",
+            ),
+            (
                 Refusal::TargetOutOfReach,
                 "the target is out of reach: it has at most the digits of the list's format, and \
                  the list no NaN and no infinity",
+            ),
+            (
+                Refusal::StrayBit {
+                    place: 1,
+                    list: None,
+                },
+                "the element at index 1 does not fit the format's width",
             ),
         ] {
             assert_eq!(refusal.to_string(), words);
