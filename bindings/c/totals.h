@@ -197,9 +197,8 @@ enum {
  */
 enum {
     TOTALS_ACCEPTED = 0,
-    /*
-     * a length in bytes that is not a multiple of 8, of TOTALS_X87 of 10; targets not of 312 bytes
-     */
+    /* a length in bytes that is not a multiple of 8, of TOTALS_X87 of 10; targets that are not 312
+       bytes. A page may have any length */
     TOTALS_UNEVEN_LENGTH = 1,
     /* an answer of fewer bytes than it takes, a pair of fewer than two words, a page of fewer bytes
        than the values need */

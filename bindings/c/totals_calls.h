@@ -273,8 +273,8 @@ static inline const char *totals_strerror(uint64_t refusal)
         return "there is no room for the totals: their lists need a place for each row and each "
                "column";
     case TOTALS_BAD_AMOUNT:
-        return "an amount or the ceiling is a bad one: tags are 0 to 2, figures finite, a low at "
-               "most its high, and the ceiling finite and not below zero";
+        return "an amount or the ceiling is a bad one: tags are 0 to 2, used figures finite, a "
+               "low at most its high, and the ceiling finite and not below zero";
     case TOTALS_NOT_A_PAGE:
         return "the bytes are not a page: they must be the page of the values in them, to the "
                "last bit, and hold at most 268,435,456 values";

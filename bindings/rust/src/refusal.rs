@@ -212,8 +212,8 @@ impl Display for Refusal {
                 "the lists differ in length: they must have the same number of elements",
             ),
             Self::TooManyElements => out.write_str(
-                "there are too many elements: a list has at most 268,435,456, and one fewer where\
-                  a contribution is added to it",
+                "there are too many elements: a list has at most 268,435,456, and one fewer where \
+                 a contribution is added to it",
             ),
             Self::StrayBit { place, list } => write!(
                 out,
@@ -233,8 +233,8 @@ impl Display for Refusal {
                  column",
             ),
             Self::BadAmount => out.write_str(
-                "an amount or the ceiling is a bad one: tags are 0 to 2, figures finite, a low at\
-                  most its high, and the ceiling finite and not below zero",
+                "an amount or the ceiling is a bad one: tags are 0 to 2, used figures finite, a low at \
+                 most its high, and the ceiling finite and not below zero",
             ),
             Self::NotAPage => out.write_str(
                 "the bytes are not a page: they must be the page of the values in them, to the \
@@ -368,8 +368,8 @@ mod tests {
             ),
             (
                 Refusal::TooManyElements,
-                "there are too many elements: a list has at most 268,435,456, and one fewer where\
-                  a contribution is added to it",
+                "there are too many elements: a list has at most 268,435,456, and one fewer where \
+                 a contribution is added to it",
             ),
             (
                 Refusal::NoPence,
@@ -388,8 +388,8 @@ mod tests {
             ),
             (
                 Refusal::BadAmount,
-                "an amount or the ceiling is a bad one: tags are 0 to 2, figures finite, a low at\
-                  most its high, and the ceiling finite and not below zero",
+                "an amount or the ceiling is a bad one: tags are 0 to 2, used figures finite, a low at \
+                 most its high, and the ceiling finite and not below zero",
             ),
             (
                 Refusal::NotAPage,
@@ -414,6 +414,10 @@ mod tests {
                 Refusal::TargetOutOfReach,
                 "the target is out of reach: it has at most the digits of the list's format, and \
                  the list no NaN and no infinity",
+            ),
+            (
+                Refusal::NoPassAllowed,
+                "the allowance is of no pass at all: it must be at least 1",
             ),
             (
                 Refusal::StrayBit {
