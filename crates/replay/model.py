@@ -1,8 +1,8 @@
-"""What document 01 says of a total, and document 02 of which way its result leans, of a named bias, of a list's pence, of a table, of amounts known
+"""What the specification says of a total, of which way its result leans, of a named bias, of a list's pence, of a table, of amounts known
 within a range, of career pages, of the most elements of a list, of values of ten bytes, of one total in several formats, of a total within an allowance of
 passes and of the contribution that reaches a total, in whole numbers of any length.
 
-Written from the text of document 01, and from the Rust's where document 01
+Written from the text of the specification, and from the Rust's where that
 names a function of it (the choice among NaNs, overflow, the largest number).
 A sum is added up exactly, as a whole number times a power of two, and rounded
 once. The chain of passes is walked beside that, for the passes and the last

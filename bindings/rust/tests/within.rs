@@ -1,5 +1,5 @@
 //! A first figure within an allowance of passes, through `raw`, `Totals` and the free functions.
-//! The expectations are rows that the request gives or that were worked out by hand, and a chain
+//! The expectations are rows that the specification gives or that were worked out by hand, and a chain
 //! that is run pass by pass in exact arithmetic; of a full answer, the record of the plain total.
 
 mod chain;
@@ -327,7 +327,7 @@ fn unfinished(totals: Totals<u64>, values: &[u64], allowance: u64) -> Unfinished
     estimate.unfinished().unwrap()
 }
 
-/// The rows of the request, and those beside them: S as powers of two, the edge, the boundary.
+/// The rows of the specification, and those beside them: S as powers of two, the edge, the boundary.
 #[test]
 fn rows() {
     let b64 = Totals::of(Format::BINARY64);
