@@ -8,9 +8,9 @@ stdin is the number of cases in 4 hex digits and a line end, then the cases. A c
 the first P, over and over, make the A bytes of input, 64 of which the first T are the text expected and the others 0, and a line AAAAA PPP TT in hex.
 Behind the cases stands the negative control, laid out in the same way: cases whose text is wrong.
 
-The expected texts follow document 01, and in the fourth line document 02. The sums of the good inputs are worked out in exact fractions, and so
+The expected texts follow docs/SPECIFICATION.md ("The program"). The sums of the good inputs are worked out in exact fractions, and so
 are their pence, which are those of the exact sum; the few sums that are no finite numbers or none above zero, and the passes, are written out by hand
-from document 01's table of careers and its rule of the passes.
+from the specification's table of careers and its rule of the passes.
 """
 
 import math
@@ -69,7 +69,7 @@ def minus(line):
 
 def good():
     """Name, times (or, from 10,000 on, bytes of input), piece, text expected."""
-    yield 'the example of document 01', 1, text([ONE, QUARTER]), '3ff4000000000000\n00\n1\n125\n'
+    yield 'one and a quarter', 1, text([ONE, QUARTER]), '3ff4000000000000\n00\n1\n125\n'
     yield 'no last line end', 1, text([ONE, QUARTER], ''), '3ff4000000000000\n00\n1\n125\n'
     yield 'empty input', 1, '', EMPTY
     yield 'minus zero', 1, text([MINUS_ZERO]), f'{MINUS_ZERO}\n00\n0\n0\n'
@@ -88,7 +88,7 @@ def good():
         yield f'pence of {x}', 1, text([hexed(x)]), summed([hexed(x)], 1)
     for lines in ([hexed(0.1)] * 10, [hexed(x) for x in (0.1, 0.2, 0.3)], [hexed(1e16), ONE, hexed(-1e16), QUARTER]):
         yield 'a sum', 1, text(lines), summed(lines, 1)
-    # document 02's list, whose rounded sum is 0.125 and has 13; what decides between 12 and 13 lies above or below, near or far, either way
+    # a list whose rounded sum is 0.125 and has 13; what decides between 12 and 13 lies above or below, near or far, either way
     for x, sign in product((2.0 ** -60, 2.0 ** -500), (1, -1)):
         for lines in ([hexed(0.125), hexed(-x)], [hexed(0.125), hexed(x)]):
             lines = lines if sign > 0 else [minus(line) for line in lines]

@@ -16,7 +16,7 @@ abbrev pub later_lines : List (List ℕ) → List (List ℕ)
 later_lines [] = []
 later_lines (l ∷ ls) = ls
 
-first-onto : (b : ℕ) (ls : List (List ℕ)) → first_line (onto b ls) ≡ b ∷ first_line ls
+pub first-onto : (b : ℕ) (ls : List (List ℕ)) → first_line (onto b ls) ≡ b ∷ first_line ls
 first-onto b [] = refl
 first-onto b (l ∷ ls) = refl
 

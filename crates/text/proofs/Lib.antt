@@ -5,4 +5,7 @@ pub mod Numbers
 pub mod Pieces
 pub mod Spelt
 pub mod Sums
+pub mod Lines
+pub mod Reasons
+pub mod Told
 pub mod Streams

@@ -59,9 +59,12 @@ prefix-from (suc k) n h l =
     seventeen : (k : ℕ) → 17 * suc k + 1 ≡ 17 + (17 * k + 1)
     seventeen k = omega arith
 
-by_lines : (input : List ℕ) → program_text (take (17 * 8192 + 1) input) ≡ program_text input
+pub same_read : (input : List ℕ) → read_from 1 (lines (take 139265 input)) ≡ read_from 1 (lines input)
+same_read input = prefix-from 8192 1 refl input
+
+by_lines : (input : List ℕ) → program_text (take 139265 input) ≡ program_text input
 unfolding program_text
-by_lines input = ap text_of (prefix-from 8192 1 refl input)
+by_lines input = ap text_of (same_read input)
 
 pub prefix : Prefix
 prefix input = by_lines input

@@ -1,3 +1,5 @@
 pub mod Reading
 pub mod FourLines
 pub mod Streams
+pub mod Reasons
+pub mod Answered

@@ -1,4 +1,5 @@
--- How the program ends: what is left of its input, and what of the text is written, failures included.
+-- How the program ends: what is left of its input, and what of the text is written, failures
+-- included.
 use Rattle.std.specs.Prelude.{◌≡◌, ◌<◌, ℕ, List, length, take, drop, Option, Some, Result, Ok, Err}
 use Rattle.std.specs.Io.KnownBytes.{Appends, Consumes, Keeps}
 use Rattle.text.specs.declared.stream.Failure.{Failure}
@@ -12,14 +13,18 @@ ConsumesFewer old new most = (bytes : List ℕ) × (length bytes < most) × Cons
 abbrev pub AppendsPart : Option (List ℕ) → Option (List ℕ) → List ℕ → Type 0
 AppendsPart old new bytes = (n : ℕ) × (n < length bytes) × Appends old new (take n bytes)
 
--- what is left of an input: all behind the bytes that decide its text. Where it failed, some of these are left too
-abbrev pub IsLeft : {U : Type 0} → Result U Failure → (input : List ℕ) → (left : Option (List ℕ)) → Type 0
+-- what is left of an input: all behind the bytes that decide its text. Where it failed, some of
+-- these are left too
+abbrev pub IsLeft : {U : Type 0} → Result U Failure → (input : List ℕ) → (left : Option (List ℕ))
+    → Type 0
 IsLeft (Ok u) input left = left ≡ Some (drop 139265 input)
 IsLeft (Err (Input e)) input left = ConsumesFewer (Some input) left 139265
 IsLeft (Err (Output e)) input left = left ≡ Some (drop 139265 input)
 
--- what is written of a text: all of it. Where the input failed, nothing; where the output did, a part
-abbrev pub IsWritten : {U : Type 0} → Result U Failure → (text : List ℕ) → (before after : Option (List ℕ)) → Type 0
+-- what is written of a text: all of it. Where the input failed, nothing; where the output did, a
+-- part
+abbrev pub IsWritten : {U : Type 0} → Result U Failure → (text : List ℕ)
+    → (before after : Option (List ℕ)) → Type 0
 IsWritten (Ok u) text before after = Appends before after text
 IsWritten (Err (Input e)) text before after = Keeps before after
 IsWritten (Err (Output e)) text before after = AppendsPart before after text

@@ -1,5 +1,7 @@
-// Reading: a number a line, in 16 hex digits with small letters; the last line may lack its byte 10. A good line is 17 bytes with its line end, so
-// up to the first bad one the input is in pieces of 17 bytes.
+//! Reading: a number a line, in 16 lower-case hex digits; the last line may lack its byte 10. A
+//! good line is 17 bytes with its line end, so up to the first bad one the input is in pieces of 17
+//! bytes.
+
 ghost use Rattle.std.specs.Prelude.{◌≡◌, ◌≤◌, length};
 ghost use Rattle.std.proofs.Math.Option.{some};
 ghost use Rattle.totals_spec.specs.Program.{lines, hex_from, line_value, read_from};
@@ -9,9 +11,9 @@ ghost use Rattle.text.specs.Reading.{first_line, result_of};
 use arrayvec::ArrayVec;
 use hexadecimal::digit;
 
-// The first line that is bad, counted from 1.
+/// The first line that is refused, counted from 1.
 #[derive(Clone, Copy, Debug)]
-pub struct BadLine {
+pub(crate) struct BadLine {
     pub line: usize,
 }
 
@@ -20,11 +22,11 @@ fn number(digits: &[u8]) -> Option<u64>
     requires { length digits.now ≤ 16 }
     ensures { result ≡ option_of (hex_from digits.now (some 0)) }
 {
-    let mut x: u64 = 0;
-    for b in digits {
-        x = x * 16 + digit(*b)?;
+    let mut value: u64 = 0;
+    for byte in digits {
+        value = value * 16 + digit(*byte)?;
     }
-    Some(x)
+    Some(value)
 }
 
 // The value of the line that some bytes begin with: 16 digits, and then a line end or the input's.
@@ -32,7 +34,7 @@ fn value(bytes: &[u8]) -> Option<u64>
     ensures { result ≡ option_of (line_value (first_line (lines bytes.now))) }
 {
     let (digits, rest) = bytes.split_at_checked(16)?;
-    if rest.first().is_some_and(|b| *b != b'\n') {
+    if rest.first().is_some_and(|byte| *byte != b'\n') {
         return None;
     }
     number(digits)

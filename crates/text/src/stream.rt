@@ -1,11 +1,13 @@
-// Reading the input as far as it decides the text, and writing the text, through any reader and any
-// writer.
+//! Reading the input as far as it decides the text, and writing the text, through any reader and
+//! any writer.
+
 ghost use Rattle.std.specs.Prelude.{◌≡◌, ◌<◌, ◌≤◌, take, length, IfOk, IfSome, OnOk, OnErr};
 ghost use Rattle.std.specs.Io.KnownBytes.{Appends, Consumes, IsAtEnd};
 ghost use Rattle.totals_spec.specs.Program.{program_text};
 ghost use Rattle.text.specs.Streams.{ConsumesFewer, AppendsPart, IsLeft, IsWritten};
+ghost use Rattle.text.specs.Answered.{IsAnswered};
 
-use crate::answer_text;
+use crate::answer::{Answered, answer_to};
 use std::io;
 use std::io::{ErrorKind, Read, Write};
 use thiserror::Error;
@@ -20,8 +22,8 @@ pub enum Failure {
 }
 
 // Reads until the buffer is full or the input ends, and tells how many bytes there are. std's
-// `read_to_end` does so with a Vec, and the program has no heap; its `read_exact` takes an input that
-// ends early for an error.
+// `read_to_end` does so with a Vec, and no heap is needed here; its `read_exact` takes an input
+// that ends early for an error.
 fn read_full<R: Read>(reader: &mut R, buffer: &mut [u8]) -> io::Result<usize>
     ensures within { IfOk result (λ n. n ≤ length buffer.new) }
     ensures bytes { IfOk result (λ n.
@@ -41,8 +43,8 @@ fn read_full<R: Read>(reader: &mut R, buffer: &mut [u8]) -> io::Result<usize>
     Ok(done)
 }
 
-// Writes all of some bytes. std's `write_all` does so too, and does not say what is written where it
-// fails.
+// Writes all of some bytes. std's `write_all` does so too, and does not say what is written where
+// it fails.
 fn write_full<W: Write>(writer: &mut W, bytes: &[u8]) -> io::Result<()>
     ensures ok { OnOk result (Appends (W.contents writer.old) (W.contents writer.new) bytes.now) }
     ensures err { OnErr result
@@ -59,22 +61,26 @@ fn write_full<W: Write>(writer: &mut W, bytes: &[u8]) -> io::Result<()>
     Ok(())
 }
 
-/// Reads an input as far as it decides its text, and writes the text of the whole input. 8,192 lines
-/// of 17 bytes and one byte more decide it: no more is read.
-pub fn answer<R: Read, W: Write>(reader: &mut R, writer: &mut W) -> Result<(), Failure>
+/// Reads an input as far as it decides its text, and writes the text of the whole input
+/// (docs/SPECIFICATION.md, "The program"). 8,192 lines of 17 bytes and one byte more decide it: no
+/// more is read. Tells whether the text is that of a total, or refuses a line, and then why. An
+/// `Err` says which end failed.
+pub fn answer<R: Read, W: Write>(reader: &mut R, writer: &mut W) -> Result<Answered, Failure>
     ensures written { IfSome (R.remaining reader.old) (λ input.
         IsWritten result (program_text input) (W.contents writer.old) (W.contents writer.new)) }
     ensures left { IfSome (R.remaining reader.old) (λ input.
         IsLeft result input (R.remaining reader.new)) }
+    ensures answered { IfSome (R.remaining reader.old) (λ input.
+        IfOk result (λ answered. IsAnswered answered input)) }
 {
     let mut input = [0u8; 139265];
     let n = match read_full(reader, &mut input) {
         Ok(n) => n,
         Err(error) => return Err(Failure::Input(error)),
     };
-    let text = answer_text(&input[..n]);
+    let (text, answered) = answer_to(&input[..n]);
     match write_full(writer, text.as_bytes()) {
-        Ok(()) => Ok(()),
+        Ok(()) => Ok(answered),
         Err(error) => Err(Failure::Output(error)),
     }
 }

@@ -1,8 +1,10 @@
-// A reader that gives few bytes at a time, and a writer that takes few. Each fails after some bytes,
-// or does not.
+//! A reader that gives few bytes at a time, and a writer that takes few. Each fails after some
+//! bytes, or does not.
+
 use arrayvec::ArrayVec;
 use std::io;
 use std::io::{Error, ErrorKind, Read, Write};
+use text::answer::Answered;
 use text::stream::{Failure, answer};
 
 // The bytes that are left, the most that one read gives, and whether it fails behind them.
@@ -66,11 +68,16 @@ fn reader_of(input: &[u8], fails: bool) -> ShortReader<'_> {
     }
 }
 
-// Whether a text is written for an input, whole, through short reads and short writes.
+// Whether a text is written for an input, whole, through short reads and short writes, and is told
+// as that of a total or as one that refuses a line.
 fn written(input: &[u8], text: &[u8]) -> bool {
     let mut writer = writer_with(64);
-    let ended = answer(&mut reader_of(input, false), &mut writer);
-    ended.is_ok() && writer.taken.as_slice() == text
+    let told = match answer(&mut reader_of(input, false), &mut writer) {
+        Ok(Answered::Total) => !text.starts_with(b"refused"),
+        Ok(Answered::Refused(_)) => text.starts_with(b"refused"),
+        Err(_) => false,
+    };
+    told && writer.taken.as_slice() == text
 }
 
 // Whether a reader that fails behind half of the input is told of, and nothing is written.
@@ -81,7 +88,7 @@ fn input_fails(input: &[u8]) -> bool {
         Err(Failure::Input(error)) => {
             error.kind() == ErrorKind::ConnectionReset && writer.taken.is_empty()
         }
-        Err(Failure::Output(_)) | Ok(()) => false,
+        Err(Failure::Output(_)) | Ok(_) => false,
     }
 }
 
@@ -93,11 +100,12 @@ fn output_fails(input: &[u8], text: &[u8]) -> bool {
         Err(Failure::Output(error)) => {
             error.kind() == ErrorKind::StorageFull && writer.taken.as_slice() == half
         }
-        Err(Failure::Input(_)) | Ok(()) => false,
+        Err(Failure::Input(_)) | Ok(_) => false,
     }
 }
 
-// Whether a text is that of an input, by way of readers and writers, and each end's failure is told.
+// Whether a text is that of an input, by way of readers and writers, and each end's failure is
+// told.
 pub fn agrees(input: &[u8], text: &[u8]) -> bool {
     written(input, text) && input_fails(input) && output_fails(input, text)
 }

@@ -1,11 +1,98 @@
-// Sums the binary64 numbers on standard input, one to a line in 16 lower-case hex digits, and writes result, flags, passes and pence.
+//! The program `total`: the sum of the binary64 numbers on standard input, one to a line in 16
+//! lower-case hex digits, as its result, its flags, its passes and its pence.
 #![tactic(auto)]
 
-use text::stream::answer;
+ghost use Rattle.std.specs.Prelude.{◌≡◌};
+ghost use Rattle.text.specs.Answered.{status_of};
 
-// Says on standard error which end failed. Where that fails too, there is nobody left to tell; the program ends with status 0 all the same.
-fn main(rt: HostRuntime) {
-    if let Err(failure) = answer(&mut rt.stdin(), &mut rt.stdout()) {
-        let _ = eprintln!(rt; "total: {failure}");
+use std::process::ExitCode;
+use std::{env, io};
+use text::answer::Answered;
+use text::stream::{Failure, answer};
+
+// The name and the version of the package (bindings/rust/Cargo.toml).
+const VERSION: &str = "total (fermuzhai) 0.10.0";
+
+const USAGE: &str = "\
+Sums the binary64 numbers on standard input, one to a line in 16 lower-case hex digits, and prints
+result, flags, passes and pence.
+
+    total < numbers.txt
+    total --help, -h
+    total --version
+
+The exit status is 1 where a line is refused, the input cannot be read or the answer cannot be
+written, and 2 where the arguments are wrong. Standard error says why.";
+
+// The status where the arguments are wrong.
+const WRONG_ARGUMENTS: u8 = 2;
+
+// What the arguments ask for.
+enum Request {
+    Total,
+    Help,
+    Version,
+}
+
+// What the arguments ask for, if they are right.
+fn asked(rt: &HostRuntime) -> io::Result<Option<Request>> {
+    let mut arguments = env::args(rt)?;
+    let _program = arguments.next();
+    let Some(first) = arguments.next() else {
+        return Ok(Some(Request::Total));
+    };
+    if arguments.next().is_some() {
+        return Ok(None);
     }
+    Ok(match first.as_str() {
+        "-h" | "--help" => Some(Request::Help),
+        "--version" => Some(Request::Version),
+        _ => None,
+    })
+}
+
+// The status that the program ends with after a total: 0, or 1 where there is none.
+fn status(ended: &Result<Answered, Failure>) -> u8
+    ensures { result ≡ status_of ended.now }
+{
+    match ended {
+        Ok(Answered::Total) => 0,
+        Ok(Answered::Refused(_)) | Err(_) => 1,
+    }
+}
+
+// Reads, sums and writes, and says on standard error why there is no total. Where that fails too,
+// the status alone tells.
+fn total(rt: &HostRuntime) -> u8 {
+    let ended = answer(&mut rt.stdin(), &mut rt.stdout());
+    let _said = match &ended {
+        Ok(Answered::Total) => Ok(()),
+        Ok(Answered::Refused(line)) => eprintln!(rt; "total: {line}"),
+        Err(failure) => eprintln!(rt; "total: {failure}"),
+    };
+    status(&ended)
+}
+
+fn say(rt: &HostRuntime, text: &str) -> u8 {
+    match println!(rt; "{text}") {
+        Ok(()) => 0,
+        Err(error) => {
+            let _said = eprintln!(rt; "total: {}", Failure::Output(error));
+            1
+        }
+    }
+}
+
+fn main(rt: HostRuntime) -> ExitCode {
+    ExitCode::from(match asked(&rt) {
+        Ok(Some(Request::Total)) => total(&rt),
+        Ok(Some(Request::Help)) => say(&rt, USAGE),
+        Ok(Some(Request::Version)) => say(&rt, VERSION),
+        Ok(None) | Err(_) => {
+            let _said = eprintln!(rt;
+                "total: the arguments are wrong; total --help says which there are"
+            );
+            WRONG_ARGUMENTS
+        }
+    })
 }

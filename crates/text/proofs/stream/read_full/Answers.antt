@@ -1,5 +1,4 @@
-use Rattle.std.proofs.Common.{◌≡◌, ◌<◌, ◌≤◌, ◌-◌, length, take, refl, sym, rules, arith, subst, le_refl, length-take-le}
-use Rattle.std.specs.Io.KnownBytes.{Consumes}
+use Rattle.std.proofs.Common.{◌<◌, ◌-◌, length, take, rules, arith, length-take-le}
 use Rattle.std.proofs.KnownBytes.{Consumes-kept}
 use borrow.Rule.Slice.PartMut.{put_mid, same_len_mid}
 use Rattle.text.proofs.Streams.{read_more, on_err}

@@ -11,15 +11,15 @@ use Rattle.format.specs.Joined.{format_of}
 use Rattle.reduction.specs.Answered.{answer_of}
 use Rattle.totals.specs.PenceRecord.{pence_record}
 use Rattle.text.proofs.Sums.{answer_is}
-use Rattle.text.proofs.sum_text.Goals as goal
+use Rattle.text.proofs.answer.sum_text.Goals as goal
 
 pub returns : goal.returns
 unfolding binary64
 returns c =
-    let a = c.sum-a in
-    let p = c.pence_of_sum-p in
+    let a = c.sum-answer in
+    let p = c.pence_of_sum-figure in
     let l = c.args.values.now in
-    let format : format_of c.binary64-f.result ≡ program_format = c.binary64-f.ensures in
+    let format : format_of c.binary64-format.result ≡ program_format = c.binary64-format.ensures in
     let figure = read p.result.figure (search rules) in
     c.answer_lines.ensures
     ∙ answer_is (answer_of a.result) (pence_record p.result) _ (c.then_some-pence.ensures ∙ ap (then_some (eqb p.result.refusal 0)) figure)
