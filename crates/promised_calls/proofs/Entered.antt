@@ -31,7 +31,7 @@ use Rattle.promised_calls.specs.Refusals.{RefusesExactly, PlacedAt, WritesNothin
 -- ---- an entry by its two tests and the record's: what is written where all three pass
 
 -- two of them, of which the first passes: so does the second, with the same first bytes
-two : {A : Type 0} (P : List ℕ → A) (a b d a' b' d' : Bool) (n n' : ℕ) (old old' new new' : List ℕ) → n ≢ 0 ⊎ d ≡ true → a' ≡ false → b' ≡ false
+pub two : {A : Type 0} (P : List ℕ → A) (a b d a' b' d' : Bool) (n n' : ℕ) (old old' new new' : List ℕ) → n ≢ 0 ⊎ d ≡ true → a' ≡ false → b' ≡ false
     → (a ≡ false → b ≡ false → d ≡ true → (d' ≡ true) × (P new ≡ P new')) → (by_tests a b d n old new).code ≡ 0
     → ((by_tests a' b' d' n' old' new').code ≡ 0) × (P (by_tests a b d n old new).buffer ≡ P (by_tests a' b' d' n' old' new').buffer)
 two P true b d a' b' d' n n' old old' new new' z ea eb h e = absurd (suc-ne-zero 0 e)
@@ -49,14 +49,14 @@ all-passed false false false n old new (inl z) e = absurd (z e)
 all-passed false false false n old new (inr z) e = z
 
 -- what holds of the buffer as it was, and of what is written into one with room, holds afterwards
-after : (P : List ℕ → Type 0) (a b d : Bool) (n : ℕ) (old new : List ℕ) → P old → (b ≡ false → P new) → P (by_tests a b d n old new).buffer
+pub after : (P : List ℕ → Type 0) (a b d : Bool) (n : ℕ) (old new : List ℕ) → P old → (b ≡ false → P new) → P (by_tests a b d n old new).buffer
 after P true b d n old new p q = p
 after P false true d n old new p q = p
 after P false false true n old new p q = q refl
 after P false false false n old new p q = p
 
 -- a number other than 0 is not lost beside its place
-told : (r : Answer) → (r.refusal + 256 * r.place ≢ 0) ⊎ (eqb r.refusal 0 ≡ true)
+pub told : (r : Answer) → (r.refusal + 256 * r.place ≢ 0) ⊎ (eqb r.refusal 0 ≡ true)
 told r = go (eqb r.refusal 0) refl
   where
     go : (t : Bool) → eqb r.refusal 0 ≡ t → (r.refusal + 256 * r.place ≢ 0) ⊎ (eqb r.refusal 0 ≡ true)
@@ -95,13 +95,13 @@ extended-first : (r : Answer) (old again : List ℕ) → take 32 (extended_writt
 unfolding extended_written
 extended-first r old again = refl
 
-even : (m n : ℕ) → m ≡ n → not (eqb m n) ≡ false
+pub even : (m n : ℕ) → m ≡ n → not (eqb m n) ≡ false
 even m n e = ap not (eq-eqb m n e)
 
-both-even : (a b : Bool) → a ≡ false → b ≡ false → (a || b) ≡ false
+pub both-even : (a b : Bool) → a ≡ false → b ≡ false → (a || b) ≡ false
 both-even a b e d = rw (e, d) refl
 
-no-nan : (a b : Bool) → (a || b) ≡ false → (a ≡ false) × (b ≡ false)
+pub no-nan : (a b : Bool) → (a || b) ≡ false → (a ≡ false) × (b ≡ false)
 no-nan false b e = (refl, e)
 no-nan true b e = absurd (true≢false e)
 

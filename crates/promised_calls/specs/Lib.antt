@@ -2,6 +2,7 @@
 -- passes, refusals, and what is rounded once.
 pub mod Order
 pub mod Entries
+pub mod Lent
 pub mod Passes
 pub mod Refusals
 pub mod Rounded

@@ -1,7 +1,8 @@
 -- Rearrangements, in the words of the contracts.
 use Rattle.std.specs.Prelude.{◌≡◌, false, List, ℕ, eqb, length}
+use Rattle.totals_spec.specs.Basics.{any}
 use Rattle.totals_spec.specs.Format.{Format}
-use Rattle.totals_spec.specs.Totals.{pairs}
+use Rattle.totals_spec.specs.Totals.{pairs, stray}
 use Rattle.totals_spec.specs.Ranges.{triples}
 use Rattle.totals_spec.specs.Allowed.{same_triple}
 use Rattle.totals_spec.specs.Rearranged.{AsOften, same_pair, holds_nan}
@@ -22,3 +23,7 @@ TriplesRearranged ts xs ys ts' xs' ys' =
 -- no encoding in the list is a NaN
 abbrev pub WithoutNan : Format → List ℕ → Type 0
 WithoutNan f l = holds_nan f l ≡ false
+
+-- no encoding in the list has a bit above the format's width
+abbrev pub WithoutStray : Format → List ℕ → Type 0
+WithoutStray f l = any (stray f) l ≡ false

@@ -1,6 +1,6 @@
 // The contribution that reaches a wanted total: when it is refused, and that the order of the list
 // does not matter.
-ghost use Rattle.std.specs.Prelude.{◌≡◌, ◌≢◌, [], ◌∷◌, ◌++◌, ◌%◌};
+ghost use Rattle.std.specs.Prelude.{◌≡◌, ◌≢◌, ◌≤◌, [], ◌∷◌, ◌++◌, ◌%◌, length};
 ghost use Rattle.totals_spec.specs.Places.{StrayAt};
 ghost use Rattle.totals_spec.specs.Words.{format_by};
 ghost use Rattle.further_spec.specs.Conditions.{contribution_conditions};
@@ -9,9 +9,12 @@ ghost use Rattle.further_spec.specs.Contribution as spec;
 ghost use Rattle.format.specs.Joined.{format_of, settings_of};
 ghost use Rattle.totals.specs.Contributions.{contribution_of};
 ghost use Rattle.totals.specs.Entered.{Enters};
+ghost use Rattle.promised_calls.specs.Lent.{contribution_call, contribution_size};
+ghost use Rattle.promised_calls.specs.Lent.{SameFirst, KeepsBehind};
 ghost use Rattle.promised_calls.specs.Order.{Rearranged};
 ghost use Rattle.promised_calls.specs.Refusals.{RefusesExactly, PlacedAt, WritesNothing};
 
+use crate::told::told_bias;
 use format::Format;
 use format::env::Settings;
 use totals::contribution::{Contribution, contribution_to};
@@ -91,5 +94,62 @@ pub fn contributions_to_both(
 {
     let first = contribution_to(f, c, one, wanted);
     let second = contribution_to(f, c, other, wanted);
+    (first, second)
+}
+
+/// The exported contribution, by the entry's numbers of a format.
+pub fn enter_contribution(
+    format: Format,
+    settings: Settings,
+    wanted: u64,
+    values: &[u64],
+    answer: &mut [u8],
+) -> u64
+    ensures { Enters
+        (contribution_call (format_of format) (settings_of settings) wanted values.now answer.old)
+        result answer.new }
+{
+    let (bias_named, bias) = told_bias(format);
+    contribution_entry_or_refusal(
+        format.kind,
+        format.exponent_bits,
+        format.width,
+        bias_named,
+        bias,
+        settings,
+        wanted,
+        values,
+        answer,
+    )
+}
+
+/// The exported contributions to a list and to a rearrangement of it, with a buffer each that has
+/// room: one number is returned, and the same bytes are written; only the place of a stray bit can
+/// be another. The bytes behind them are each buffer's own.
+pub fn contributions_entered(
+    format: Format,
+    settings: Settings,
+    wanted: u64,
+    one: &[u64],
+    other: &[u64],
+    answer: &mut [u8],
+    again: &mut [u8],
+) -> (u64, u64)
+    ensures first { Enters
+        (contribution_call (format_of format) (settings_of settings) wanted one.now answer.old)
+        result.0 answer.new }
+    ensures second { Enters
+        (contribution_call (format_of format) (settings_of settings) wanted other.now again.old)
+        result.1 again.new }
+    ensures alike { Rearranged one.now other.now
+        → contribution_size ≤ length answer.old → contribution_size ≤ length again.old
+        → result.0 % 256 ≢ 7
+        → (result.1 ≡ result.0)
+        × (result.0 ≡ 0 → SameFirst contribution_size answer.new again.new) }
+    ensures rest { KeepsBehind contribution_size answer.old answer.new
+        × KeepsBehind contribution_size again.old again.new }
+{
+    let first = enter_contribution(format, settings, wanted, one, answer);
+    let second = enter_contribution(format, settings, wanted, other, again);
     (first, second)
 }

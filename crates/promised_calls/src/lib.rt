@@ -13,4 +13,6 @@ pub mod refusals;
 pub mod rounded;
 pub mod tables;
 pub mod targets;
+pub mod told;
 pub mod within;
+pub mod within_entries;

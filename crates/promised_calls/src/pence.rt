@@ -8,9 +8,11 @@ ghost use Rattle.totals_spec.specs.Words.{format_by, pence_entry};
 ghost use Rattle.format.specs.Joined.{format_of};
 ghost use Rattle.totals.specs.Entered.{EntersFigure};
 ghost use Rattle.totals.specs.PenceRecord.{pence_record};
+ghost use Rattle.promised_calls.specs.Lent.{pence_call};
 ghost use Rattle.promised_calls.specs.Order.{Rearranged};
 ghost use Rattle.promised_calls.specs.Refusals.{RefusesExactly, PlacedAt, WritesNothing};
 
+use crate::told::told_bias;
 use format::Format;
 use totals::entry::totals_pence;
 use totals::pence::{Pence, pence_of, pence_of_sum};
@@ -66,5 +68,45 @@ pub fn pence_of_both(f: Format, one: &[u64], other: &[u64]) -> (Pence, Pence)
 {
     let first = pence_of_sum(f, one);
     let second = pence_of_sum(f, other);
+    (first, second)
+}
+
+/// The exported pence of a list, by the entry's numbers of a format.
+pub fn enter_pence(format: Format, values: &[u64], figure: &mut i64) -> u64
+    ensures { EntersFigure (pence_call (format_of format) values.now figure.old)
+        result figure.new }
+{
+    let (bias_named, bias) = told_bias(format);
+    totals_pence(
+        format.kind,
+        format.exponent_bits,
+        format.width,
+        bias_named,
+        bias,
+        values,
+        figure,
+    )
+}
+
+/// The exported pence of a list and of a rearrangement of it, with a place for each figure: one
+/// number is returned, and one figure written; only the place of a stray bit can be another.
+pub fn pence_entered(
+    format: Format,
+    one: &[u64],
+    other: &[u64],
+    figure: &mut i64,
+    again: &mut i64,
+) -> (u64, u64)
+    ensures first { EntersFigure (pence_call (format_of format) one.now figure.old)
+        result.0 figure.new }
+    ensures second { EntersFigure (pence_call (format_of format) other.now again.old)
+        result.1 again.new }
+    ensures alike { Rearranged one.now other.now → result.0 % 256 ≢ 7
+        → (result.1 ≡ result.0) × (result.0 ≡ 0 → again.new ≡ figure.new) }
+    ensures rest { WritesNothing result.0 figure.old figure.new
+        × WritesNothing result.1 again.old again.new }
+{
+    let first = enter_pence(format, one, figure);
+    let second = enter_pence(format, other, again);
     (first, second)
 }

@@ -1,14 +1,17 @@
 // One total in three formats: when a target is refused, and that the order does not matter.
-ghost use Rattle.std.specs.Prelude.{◌≡◌, ◌≢◌};
+ghost use Rattle.std.specs.Prelude.{◌≡◌, ◌≢◌, ◌≤◌, length};
 ghost use Rattle.totals_spec.specs.Bytes.{values_in};
 ghost use Rattle.further_spec.specs.Conditions.{target_entry_conditions};
 ghost use Rattle.further_spec.specs.Several.{target_entry};
 ghost use Rattle.format.specs.Joined.{format_of};
 ghost use Rattle.totals.specs.Entered.{Enters};
-ghost use Rattle.promised_calls.specs.Order.{Rearranged};
+ghost use Rattle.promised_calls.specs.Entries.{values_of, Whole};
+ghost use Rattle.promised_calls.specs.Lent.{target_call, targets_size, SameFirst, KeepsBehind};
+ghost use Rattle.promised_calls.specs.Order.{Rearranged, WithoutStray};
 ghost use Rattle.promised_calls.specs.Refusals.{RefusesExactly, WritesNothing};
 ghost use Rattle.promised_calls.specs.Targets.{Prints, PrintsOrRefuses, AllAlike};
 
+use crate::told::told_bias;
 use format::Format;
 use totals::entry::totals_sum_into;
 use totals::several::{Printed, Target, in_three};
@@ -79,5 +82,62 @@ pub fn targets_of_both(
 {
     let first = in_three(f, denormals_are_zero, one, a, b, c);
     let second = in_three(f, denormals_are_zero, other, a, b, c);
+    (first, second)
+}
+
+/// The exported sum in three targets, by the entry's numbers of the list's format.
+pub fn enter_targets(
+    format: Format,
+    denormals_are_zero: u64,
+    targets: &[u8],
+    values: &[u8],
+    answer: &mut [u8],
+) -> u64
+    ensures { Enters
+        (target_call (format_of format) denormals_are_zero targets.now values.now answer.old)
+        result answer.new }
+{
+    let (bias_named, bias) = told_bias(format);
+    target_entry_or_refusal(
+        format.kind,
+        format.exponent_bits,
+        format.width,
+        bias_named,
+        bias,
+        denormals_are_zero,
+        targets,
+        values,
+        answer,
+    )
+}
+
+/// The exported sums, in three targets, of the values in some bytes and of a rearrangement of them,
+/// with a buffer each: where no value has a stray bit and the first call is accepted, the second
+/// is, and writes the same bytes. The bytes behind them are each buffer's own.
+pub fn targets_entered(
+    format: Format,
+    denormals_are_zero: u64,
+    targets: &[u8],
+    one: &[u8],
+    other: &[u8],
+    answer: &mut [u8],
+    again: &mut [u8],
+) -> (u64, u64)
+    ensures first { Enters
+        (target_call (format_of format) denormals_are_zero targets.now one.now answer.old)
+        result.0 answer.new }
+    ensures second { Enters
+        (target_call (format_of format) denormals_are_zero targets.now other.now again.old)
+        result.1 again.new }
+    ensures alike { let f = format_of format in
+        Rearranged (values_of f one.now) (values_of f other.now)
+        → WithoutStray f (values_of f one.now)
+        → Whole f other.now → targets_size ≤ length again.old
+        → result.0 ≡ 0 → (result.1 ≡ 0) × SameFirst targets_size answer.new again.new }
+    ensures rest { KeepsBehind targets_size answer.old answer.new
+        × KeepsBehind targets_size again.old again.new }
+{
+    let first = enter_targets(format, denormals_are_zero, targets, one, answer);
+    let second = enter_targets(format, denormals_are_zero, targets, other, again);
     (first, second)
 }
