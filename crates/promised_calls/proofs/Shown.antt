@@ -1,4 +1,4 @@
--- Two calls of the entries of a total within an allowance, and of a total in three targets, each with a buffer of its own.
+-- Two calls of the entries of a total within an allowance, each with a buffer of its own.
 use Rattle.std.proofs.Common.{◌≡◌, ◌≢◌, ℕ, ◌+◌, ◌*◌, ◌%◌, ◌≤◌, ◌<◌, List, eqb, refl, sym, ap, ◌∙◌, subst, arith, ℤ}
 use Rattle.std.specs.Prelude.{Bool, true, false, not, ◌||◌, cond, ltb, length, take, drop}
 use Rattle.std.proofs.Math.Option.{Option, none, some}

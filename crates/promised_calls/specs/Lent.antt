@@ -1,4 +1,5 @@
--- The entries that are told a bias by two numbers, called with a format; and the buffers lent to them.
+-- The entries that are told a bias by two numbers, called with a format; and the buffers that they
+-- are lent.
 use Rattle.std.specs.Prelude.{◌≡◌, List, ℕ, length, take, drop, ℤ, pos}
 use Rattle.std.proofs.Math.Option.{Option, none, some}
 use Rattle.totals_spec.specs.Bytes.{Entry}
@@ -21,17 +22,27 @@ bias_told (some bias) = bias
 abbrev pub pence_call : Format → List ℕ → ℤ → FigureEntry
 pence_call f l old = pence_entry f.kind f.E f.W (names_bias f.named) (bias_told f.named) l old
 
-abbrev pub sum_within_call : Format → Settings → (summand allowance : ℕ) → (bytes old : List ℕ) → Entry
-sum_within_call f c u k bytes old = sum_within_entry f.kind f.E f.W (names_bias f.named) (bias_told f.named) c u k bytes old
+abbrev pub sum_within_call :
+    Format → Settings → (summand allowance : ℕ) → (bytes old : List ℕ) → Entry
+sum_within_call f c u k bytes old =
+    let named = names_bias f.named in
+    sum_within_entry f.kind f.E f.W named (bias_told f.named) c u k bytes old
 
 abbrev pub dot_within_call : Format → Settings → (allowance : ℕ) → (left right old : List ℕ) → Entry
-dot_within_call f c k left right old = dot_within_entry f.kind f.E f.W (names_bias f.named) (bias_told f.named) c k left right old
+dot_within_call f c k left right old =
+    let named = names_bias f.named in
+    dot_within_entry f.kind f.E f.W named (bias_told f.named) c k left right old
 
 abbrev pub contribution_call : Format → Settings → (wanted : ℕ) → (values old : List ℕ) → Entry
-contribution_call f c wanted l old = contribution_entry f.kind f.E f.W (names_bias f.named) (bias_told f.named) c wanted l old
+contribution_call f c wanted l old =
+    let named = names_bias f.named in
+    contribution_entry f.kind f.E f.W named (bias_told f.named) c wanted l old
 
-abbrev pub target_call : Format → (denormals_are_zero : ℕ) → (targets bytes old : List ℕ) → Entry
-target_call f d targets bytes old = target_entry f.kind f.E f.W (names_bias f.named) (bias_told f.named) d targets bytes old
+abbrev pub target_call :
+    Format → (denormals_are_zero : ℕ) → (targets bytes old : List ℕ) → Entry
+target_call f d targets bytes old =
+    let named = names_bias f.named in
+    target_entry f.kind f.E f.W named (bias_told f.named) d targets bytes old
 
 -- the bytes of a total within an allowance, of a contribution, and of a total in three targets
 abbrev pub estimate_size : ℕ
