@@ -1,5 +1,5 @@
 #!/usr/bin/env python3
-"""Expectations for the program `codec_test`, from the text of document 01 alone.
+"""Expectations for the program `codec_test`, from the text of the specification alone.
 
     vectors.py write FILE            writes the program's input
     vectors.py oracle BINARY SEED N  compares this model with the Rust oracle, N random lists
@@ -27,7 +27,7 @@ r  KEWqsi gggg pppp high low rrff*128
                            flush j / 16 % 2, saturate j / 32 % 2, sign j / 64
 f  k ee ww bias range depth origin origin grid grid
                            what follows from a format's widths
-s  k ee ww rtndfzs qq z a  a format, the settings in the document's order and a
+s  k ee ww rtndfzs qq z a  a format, the settings in the specification's order and a
                            precision; whether there are positive zeros (1) and
                            negative ones (2). a: 1 the format is valid, 2 so
                            are the settings, 4 the sum of these zeros is -0,
@@ -346,7 +346,7 @@ def write(path):
 # ---- against the Rust
 
 def expected(f, op, summand, lists, rule, default, daz, s):
-    """Result and flags of a sum or a dot whose terms are numbers, zeros and NaNs, by the document's text; None for what is not modelled."""
+    """Result and flags of a sum or a dot whose terms are numbers, zeros and NaNs, by the specification's text; None for what is not modelled."""
     mode, tininess, flush, saturate, precision = s
     flags = 0
     values = []

@@ -1864,7 +1864,7 @@ class List:
         return bool(self.rounded()[1] & OVERFLOW)
 
     def rounded_first(self):
-        """The pence of the rounded sum, which is the way of one record."""
+        """The pence of the rounded sum, which is the plain way."""
         return pence(*self.f[:3], self.rounded()[0], self.named)
 
     def without_subnormals(self):
@@ -1903,11 +1903,11 @@ def can_have(f, x):
 
 
 def pence_examples():
-    """Worked out by hand; the first is the specification's."""
+    """Worked out by hand; the first was given."""
     at = lambda n, negative=0: power(DOUBLE, n, negative)
     eighth, big, minus, inf = at(-3), 0x7fefffffffffffff, 1 << 63, 0x7ff0000000000000
     rows = [
-        (DOUBLE, [eighth, at(-60, 1)], 'an eighth', (12, 0, 0)),
+        (DOUBLE, [eighth, at(-60, 1)], '0.125 less a trace', (12, 0, 0)),
         (DOUBLE, [eighth], '0.125 alone', (13, 0, 0)),
         (DOUBLE, [eighth, at(-60)], '0.125 and 2^-60', (13, 0, 0)),
         (DOUBLE, [eighth + minus, at(-60)], '-0.125 and 2^-60', (-12, 0, 0)),
@@ -3571,7 +3571,7 @@ def in_threes(note, f, values, targets, **more):
 
 
 def into_examples():
-    """The specification's rows and others by hand: list, targets, and of each target refusal, result, flags, passes, side, last edge."""
+    """The rows of given ones and others by hand: list, targets, and of each target refusal, result, flags, passes, side, last edge."""
     at = lambda n: power(DOUBLE, n)
     f = DOUBLE.kind, DOUBLE.e, DOUBLE.w
     zero, down, up = {'rounding': TO_ZERO}, {'rounding': DOWN}, {'rounding': UP}
@@ -4135,7 +4135,7 @@ def at_ends(passes, *more):
 
 
 def within_examples():
-    """The specification's rows and others by hand. Of a full answer: result, flags, side, passes, last edge; of an unfinished one: last edge, the
+    """The rows of given ones and others by hand. Of a full answer: result, flags, side, passes, last edge; of an unfinished one: last edge, the
     boundary's whole number with its sign, the position of its unit, and S."""
     at = lambda n, negative=0: power(DOUBLE, n, negative)
     f, g = (0, 11, 64), (0, 13, 18)

@@ -1,4 +1,4 @@
-"""What the specification says of a total, of which way its result leans, of a named bias, of a list's pence, of a table, of amounts known
+"""What the specification says of a total, and of which way its result leans, of a named bias, of a list's pence, of a table, of amounts known
 within a range, of career pages, of the most elements of a list, of values of ten bytes, of one total in several formats, of a total within an allowance of
 passes and of the contribution that reaches a total, in whole numbers of any length.
 

@@ -27,11 +27,11 @@ impl<T: Word> Totals<T> {
     /// - [`Refusal::NotFinite`], of a NaN or an infinity among the values or for the wanted total
     /// - [`Refusal::NoContribution`], where no finite number does it
     ///
-    /// Proved: the contract of `totals_contribution` in `crates/totals/src/entry_contribution.rt`;
+    /// Proved: the contract of `totals_contribution` in `crates/targets/src/entry_contribution.rt`;
     /// `contribution-least` (it reaches the total, and no smaller number does),
     /// `contribution-none`, `contribution-rises`, `contribution-refusal`, `contribution-place`,
     /// `contribution-order` (every order of a list without a stray bit has one answer) in
-    /// `crates/further_spec/proofs/Promises.antt`.
+    /// `crates/targets_spec/proofs`.
     ///
     /// ```
     /// use fermuzhai::{Format, Refusal, Rounding, Settings, Totals};

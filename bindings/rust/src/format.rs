@@ -41,7 +41,7 @@ pub enum Kind {
 /// assert_eq!(Totals::of(named).square_sum(&[0x1234]), Totals::of(half).square_sum(&[0x1234]));
 /// ```
 ///
-/// Proved: `named-own` in `crates/totals_spec/proofs/Promises.antt`.
+/// Proved: `named-own` in `crates/totals_spec/proofs`.
 #[derive(Clone, Copy, Debug, PartialEq, Eq, Hash)]
 #[non_exhaustive]
 pub struct Format {

@@ -118,7 +118,7 @@ impl<T: Word> Totals<T> {
     ///
     /// Proved: the contract of `totals_sum_into` in `crates/totals/src/entry.rt`; `target-rounds`,
     /// `target-zero`, `target-exact`, `target-own`, `target-order`, `target-refusal` in
-    /// `crates/further_spec/proofs/Promises.antt`.
+    /// `crates/totals_spec/proofs` and `crates/targets_spec/proofs`.
     ///
     /// ```
     /// use fermuzhai::{Format, Refusal, Rounding, Settings, Target, Totals};

@@ -46,7 +46,7 @@ const MOST_ELEMENTS: usize = 1 << 28;
 /// [`Refusal::TooManyElements`] where there are more than 268,435,456 values.
 ///
 /// Proved: `sum-exact`, `sum-entry-order`, and of [`X87`] `extended-exact`, `extended-call-order`,
-/// in `crates/totals_spec/proofs/Promises.antt`.
+/// in `crates/totals_spec/proofs`.
 ///
 /// ```
 /// use fermuzhai::sum;
@@ -81,7 +81,7 @@ pub fn sum<T: Float>(values: &[T]) -> Result<Record<T>, Refusal> {
 /// [`Refusal::TooManyElements`] where there are more than 268,435,456 values.
 ///
 /// Proved: `sum-exact`, `sum-entry-order`, and of [`X87`] `extended-exact`, `extended-call-order`,
-/// in `crates/totals_spec/proofs/Promises.antt`.
+/// in `crates/totals_spec/proofs`.
 ///
 /// ```
 /// assert_eq!(fermuzhai::magnitude_sum(&[1.5, -2.0])?.result, 3.5);
@@ -98,7 +98,7 @@ pub fn magnitude_sum<T: Float>(values: &[T]) -> Result<Record<T>, Refusal> {
 /// [`Refusal::TooManyElements`] where there are more than 268,435,456 values.
 ///
 /// Proved: `sum-exact`, `sum-entry-order`, and of [`X87`] `extended-exact`, `extended-call-order`,
-/// in `crates/totals_spec/proofs/Promises.antt`.
+/// in `crates/totals_spec/proofs`.
 ///
 /// ```
 /// assert_eq!(fermuzhai::square_sum(&[3.0, -4.0])?.result, 25.0);
@@ -128,7 +128,7 @@ pub fn square_sum<T: Float>(values: &[T]) -> Result<Record<T>, Refusal> {
 /// [`Refusal::TooManyElements`] where there are more than 268,435,456 pairs.
 ///
 /// Proved: `dot-exact`, `dot-entry-order`, and of [`X87`] `extended-exact`, `extended-call-order`,
-/// in `crates/totals_spec/proofs/Promises.antt`.
+/// in `crates/totals_spec/proofs`.
 ///
 /// ```
 /// let (left, right) = ([1e200, 3.0, -1e200], [1e200, 0.5, 1e200]);
@@ -153,7 +153,7 @@ pub fn dot<T: Float>(left: &[T], right: &[T]) -> Result<Record<T>, Refusal> {
 /// more.
 ///
 /// Proved: `pence-by-chain`, `pence-order`, `one-pence` in
-/// `crates/totals_spec/proofs/Promises.antt`.
+/// `crates/totals_spec/proofs`.
 ///
 /// ```
 /// use fermuzhai::{pence, sum, Refusal};
@@ -187,7 +187,7 @@ pub fn pence<T: Float + Word>(values: &[T]) -> Result<i64, Refusal> {
 /// [`Totals::table_into`] lends lists of the caller's, and has no such bound.
 ///
 /// Proved: `table-row`, `table-column`, `table-grand`, `table-refused-exactly` in
-/// `crates/totals_spec/proofs/Promises.antt`.
+/// `crates/figures_spec/proofs`.
 ///
 /// ```
 /// use fermuzhai::{table, Refusal};
@@ -230,7 +230,7 @@ pub fn table<T: Float + Word>(
 ///
 /// Proved: the contract of `totals_sum_into` in `crates/totals/src/entry.rt`; `target-rounds`,
 /// `target-zero`, `target-exact`, `target-own`, `target-order`, `target-refusal` in
-/// `crates/further_spec/proofs/Promises.antt`.
+/// `crates/totals_spec/proofs` and `crates/targets_spec/proofs`.
 ///
 /// ```
 /// use fermuzhai::{sum, sum_into, Flags, Format, Refusal, Target};
@@ -275,9 +275,9 @@ pub fn sum_into<T: Float + Word>(
 /// or more, since one is added; [`Refusal::NotFinite`] where a value or the wanted total is a NaN
 /// or an infinity; [`Refusal::NoContribution`] where no finite number does it.
 ///
-/// Proved: the contract of `totals_contribution` in `crates/totals/src/entry_contribution.rt`;
+/// Proved: the contract of `totals_contribution` in `crates/targets/src/entry_contribution.rt`;
 /// `contribution-least`, `contribution-none`, `contribution-rises`, `contribution-refusal`,
-/// `contribution-order` in `crates/further_spec/proofs/Promises.antt`.
+/// `contribution-order` in `crates/targets_spec/proofs`.
 ///
 /// ```
 /// use fermuzhai::{contribution, sum, Refusal};
@@ -313,9 +313,9 @@ pub fn contribution<T: Float + Word>(values: &[T], wanted: T) -> Result<T, Refus
 /// [`Refusal::NoPassAllowed`] where the allowance is 0, else [`Refusal::TooManyElements`] where
 /// there are more than 268,435,456 values.
 ///
-/// Proved: the contract of `totals_sum_within` in `crates/totals/src/entry_within.rt`;
+/// Proved: the contract of `totals_sum_within` in `crates/targets/src/entry_within.rt`;
 /// `within-in-time`, `within-same`, `within-unfinished`, `within-near`, `within-narrower`,
-/// `within-order` in `crates/further_spec/proofs/Promises.antt`.
+/// `within-order` in `crates/targets_spec/proofs`.
 ///
 /// ```
 /// use fermuzhai::{sum, sum_within, Estimate, Refusal};
@@ -342,7 +342,7 @@ pub fn sum_within<T: Float + Word>(values: &[T], allowance: u64) -> Result<Estim
 /// [`Refusal::DifferentLengths`] where the lists have two lengths; [`Refusal::TooManyElements`]
 /// where there are more than 268,435,456 pairs.
 ///
-/// Proved: the contract of `totals_dot_within` in `crates/totals/src/entry_within.rt`, and the
+/// Proved: the contract of `totals_dot_within` in `crates/targets/src/entry_within.rt`, and the
 /// theorems of [`sum_within`].
 ///
 /// ```

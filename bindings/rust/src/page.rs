@@ -52,7 +52,7 @@ impl<'a> Page<'a> {
     ///
     /// Proved: the contract of `totals_page_sum` in `crates/totals/src/entry.rt`; `page-opens`,
     /// `page-only`, `page-range`, `page-both`, `page-earlier`, `page-span-refused-exactly` in
-    /// `crates/totals_spec/proofs/Promises.antt`.
+    /// `crates/pages_spec/proofs`.
     ///
     /// ```
     /// use fermuzhai::{Page, Refusal};
@@ -146,7 +146,7 @@ impl<'a> Page<'a> {
     ///
     /// Proved: the contract of `totals_page_write` in `crates/totals/src/entry.rt`; `page-opens`,
     /// `page-length`, `page-summary`, `page-summarizes`, `page-as-before`, `page-longer` in
-    /// `crates/totals_spec/proofs/Promises.antt`.
+    /// `crates/pages_spec/proofs`.
     ///
     /// ```
     /// let page = fermuzhai::Page::write(&[3.0])?;
@@ -177,7 +177,7 @@ impl<'a> Page<'a> {
     ///
     /// Proved: the contract of `totals_page_write` in `crates/totals/src/entry.rt`; `page-opens`,
     /// `page-beyond`, `page-refused`, `page-refused-exactly`, `page-length` in
-    /// `crates/totals_spec/proofs/Promises.antt`.
+    /// `crates/pages_spec/proofs`.
     ///
     /// ```
     /// use fermuzhai::{Page, Refusal};
@@ -199,7 +199,7 @@ impl<'a> Page<'a> {
     /// fewer, and 16 for the trailer, or 24 where there are more than 1,048,576 values. `None` of
     /// more than 268,435,456, of which there is no page.
     ///
-    /// Proved: `page-length` in `crates/totals_spec/proofs/Promises.antt`.
+    /// Proved: `page-length` in `crates/pages_spec/proofs`.
     ///
     /// ```
     /// use fermuzhai::Page;

@@ -49,7 +49,7 @@ impl Amount {
 ///
 /// Proved: the contract of `totals_range` in `crates/totals/src/entry.rt`; `range-holds`,
 /// `range-narrowest`, `range-zero`, `range-order`, `range-refused-exactly` in
-/// `crates/totals_spec/proofs/Promises.antt`.
+/// `crates/figures_spec/proofs`.
 ///
 /// ```
 /// use fermuzhai::{range, Amount::*, Refusal};

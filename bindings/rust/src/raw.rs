@@ -323,7 +323,7 @@ pub fn dot(f: Format, c: Settings, left: &[u8], right: &[u8], answer: &mut [u8])
 /// refused with 3, and so is any of kind 4.
 ///
 /// Proved: the contract of `totals_sum_biased` in `crates/totals/src/entry.rt`; `named-own` in
-/// `crates/totals_spec/proofs/Promises.antt`: naming the kind's own bias is the same as naming
+/// `crates/totals_spec/proofs`: naming the kind's own bias is the same as naming
 /// none.
 ///
 /// ```
@@ -359,7 +359,7 @@ pub fn sum_biased(
 /// [`dot`] in a format that names its bias, as in [`sum_biased`].
 ///
 /// Proved: the contract of `totals_dot_biased` in `crates/totals/src/entry.rt`; `named-own` in
-/// `crates/totals_spec/proofs/Promises.antt`.
+/// `crates/totals_spec/proofs`.
 ///
 /// ```
 /// use fermuzhai::raw;
@@ -401,7 +401,7 @@ pub fn dot_biased(
 ///
 /// Proved: the contract of `totals_pence` in `crates/totals/src/entry.rt`; `pence-by-chain`,
 /// `pence-order`, `one-pence`, `sum-pence-refused-exactly`, `pence-place` in
-/// `crates/totals_spec/proofs/Promises.antt`.
+/// `crates/totals_spec/proofs`.
 ///
 /// ```
 /// use fermuzhai::raw;
@@ -449,7 +449,7 @@ pub fn pence(f: Format, bias: Option<i64>, values: &[u64]) -> Result<i64, u64> {
 ///
 /// Proved: the contract of `totals_table` in `crates/totals/src/entry.rt`; `table-row`,
 /// `table-column`, `table-grand`, `table-untouched`, `table-refused-exactly`, `table-entry-refused`
-/// in `crates/totals_spec/proofs/Promises.antt`.
+/// in `crates/figures_spec/proofs`.
 ///
 /// ```
 /// use fermuzhai::raw;
@@ -506,7 +506,7 @@ pub fn table(
 ///
 /// Proved: the contract of `totals_range` in `crates/totals/src/entry.rt`; `range-holds`,
 /// `range-narrowest`, `range-zero`, `range-order`, `range-refused-exactly`, `range-entry-refused`,
-/// `range-entries-kept` in `crates/totals_spec/proofs/Promises.antt`.
+/// `range-entries-kept` in `crates/figures_spec/proofs`.
 ///
 /// ```
 /// use fermuzhai::raw;
@@ -561,7 +561,7 @@ pub fn range(
 ///
 /// Proved: the contract of `totals_page_sum` in `crates/totals/src/entry.rt`; `page-span`,
 /// `page-span-read`, `page-empty`, `page-entry-refused-exactly`, `page-entry-refused`,
-/// `page-entry-read-back` in `crates/totals_spec/proofs/Promises.antt`.
+/// `page-entry-read-back` in `crates/pages_spec/proofs`.
 ///
 /// ```
 /// use fermuzhai::raw;
@@ -604,7 +604,7 @@ pub fn page_sum(
 ///
 /// Proved: the contract of `totals_page_write` in `crates/totals/src/entry.rt`; `page-opens`,
 /// `page-beyond`, `page-refused`, `page-refused-exactly`, `page-length` in
-/// `crates/totals_spec/proofs/Promises.antt`.
+/// `crates/pages_spec/proofs`.
 ///
 /// ```
 /// use fermuzhai::raw;
@@ -645,7 +645,7 @@ pub fn page_write(values: &[u64], page: &mut [u8]) -> Result<usize, u64> {
 ///
 /// Proved: the contract of `totals_sum_into` in `crates/totals/src/entry.rt`; `target-rounds`,
 /// `target-entry-refusal`, `target-entry-refused`, `target-entry-order`, `target-entry-read-back`
-/// in `crates/further_spec/proofs/Promises.antt`.
+/// in `crates/totals_spec/proofs` and `crates/targets_spec/proofs`.
 ///
 /// ```
 /// use fermuzhai::{raw, Format, Target};
@@ -712,10 +712,10 @@ pub fn sum_into(
 /// of ten, 2 under 144 bytes of answer, 16 of an allowance of 0, and then those of [`sum`], the
 /// first that holds in this order. 3 is also kind 4.
 ///
-/// Proved: the contract of `totals_sum_within` in `crates/totals/src/entry_within.rt`;
+/// Proved: the contract of `totals_sum_within` in `crates/targets/src/entry_within.rt`;
 /// `within-in-time`, `within-unfinished`, `within-near`, `within-entry-refusal`,
 /// `within-entry-refused`, `within-entry-read-back`, `within-entry-plain` in
-/// `crates/further_spec/proofs/Promises.antt`.
+/// `crates/targets_spec/proofs`.
 ///
 /// ```
 /// use fermuzhai::raw;
@@ -759,7 +759,7 @@ pub fn sum_within(
 /// [`dot`] within an allowance of passes. Returns and writes as [`sum_within`] does, with 5 behind
 /// 4.
 ///
-/// Proved: the contract of `totals_dot_within` in `crates/totals/src/entry_within.rt`, and the
+/// Proved: the contract of `totals_dot_within` in `crates/targets/src/entry_within.rt`, and the
 /// theorems named there.
 ///
 /// ```
@@ -803,10 +803,10 @@ pub fn dot_within(
 /// order. What they mean is said at [`Totals::contribution`](crate::Totals::contribution). 3 is
 /// also any kind but 0, and 4 a flush to zero or a denormals-are-zero that is not 0.
 ///
-/// Proved: the contract of `totals_contribution` in `crates/totals/src/entry_contribution.rt`;
+/// Proved: the contract of `totals_contribution` in `crates/targets/src/entry_contribution.rt`;
 /// `contribution-least`, `contribution-none`, `contribution-entry-refusal`,
 /// `contribution-entry-refused`, `contribution-entry-read-back`, `contribution-entry-order` in
-/// `crates/further_spec/proofs/Promises.antt`.
+/// `crates/targets_spec/proofs`.
 ///
 /// ```
 /// use fermuzhai::raw;

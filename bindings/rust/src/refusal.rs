@@ -33,8 +33,8 @@ impl Display for OfList {
 /// Proved: `sum-refusal`, `dot-refusal`, `extended-call-refused-exactly`,
 /// `sum-pence-refused-exactly`, `table-refused-exactly`, `range-refused-exactly`,
 /// `page-refused-exactly`, `page-span-refused-exactly` in
-/// `crates/totals_spec/proofs/Promises.antt`; `target-refusal`, `within-refusal`,
-/// `contribution-refusal` in `crates/further_spec/proofs/Promises.antt`.
+/// `crates/totals_spec/proofs` and `crates/figures_spec/proofs` and `crates/pages_spec/proofs`; `target-refusal`, `within-refusal`,
+/// `contribution-refusal` in `crates/targets_spec/proofs`.
 ///
 /// ```
 /// use fermuzhai::{dot, Refusal};

@@ -72,7 +72,7 @@ impl Totals<f64> {
     ///
     /// Proved: the contract of `totals_sum` in `crates/totals/src/entry.rt`; `page-only`,
     /// `span-values`, `page-span-read`, `page-span` (the total of a span is that of its values as a
-    /// list) in `crates/totals_spec/proofs/Promises.antt`.
+    /// list) in `crates/pages_spec/proofs`.
     ///
     /// ```
     /// use fermuzhai::{Page, Refusal, Rounding, Settings, Summand, Totals};
@@ -160,7 +160,7 @@ impl<T: Value> Totals<T> {
     ///
     /// Proved: `sum-exact`, `sum-entry-order`, `sum-mirror`, and of [`X87`](crate::X87)
     /// `extended-exact`, `extended-call-order`, `extended-mirror`, in
-    /// `crates/totals_spec/proofs/Promises.antt`.
+    /// `crates/totals_spec/proofs` and `crates/mirror_spec/proofs`.
     pub fn sum(&self, values: &[T]) -> Result<Record<T>, Refusal> {
         self.sum_of(Summand::Value, values)
     }
@@ -172,7 +172,7 @@ impl<T: Value> Totals<T> {
     /// Those of [`Totals::sum`].
     ///
     /// Proved: `sum-exact`, `sum-entry-order`, and of [`X87`](crate::X87) `extended-exact`,
-    /// `extended-call-order`, in `crates/totals_spec/proofs/Promises.antt`.
+    /// `extended-call-order`, in `crates/totals_spec/proofs`.
     pub fn magnitude_sum(&self, values: &[T]) -> Result<Record<T>, Refusal> {
         self.sum_of(Summand::Magnitude, values)
     }
@@ -186,7 +186,7 @@ impl<T: Value> Totals<T> {
     /// Without a NaN it is the dot product of the list with itself, record for record.
     ///
     /// Proved: `sum-exact`, `sum-entry-order`, `square-dot`, and of [`X87`](crate::X87)
-    /// `extended-exact`, `extended-call-order`, in `crates/totals_spec/proofs/Promises.antt`.
+    /// `extended-exact`, `extended-call-order`, in `crates/totals_spec/proofs`.
     pub fn square_sum(&self, values: &[T]) -> Result<Record<T>, Refusal> {
         self.sum_of(Summand::Square, values)
     }
@@ -213,7 +213,7 @@ impl<T: Value> Totals<T> {
     ///
     /// Proved: `dot-exact`, `dot-entry-order`, `dot-mirror`, and of [`X87`](crate::X87)
     /// `extended-exact`, `extended-call-order`, `extended-mirror`, in
-    /// `crates/totals_spec/proofs/Promises.antt`.
+    /// `crates/totals_spec/proofs` and `crates/mirror_spec/proofs`.
     pub fn dot(&self, left: &[T], right: &[T]) -> Result<Record<T>, Refusal> {
         self.dot_bytes(&T::bytes(left), &T::bytes(right))
     }
@@ -225,7 +225,7 @@ impl<T: Value> Totals<T> {
     /// Those of [`Totals::sum`].
     ///
     /// Proved: `sum-exact`, `sum-entry-order`, and of [`X87`](crate::X87) `extended-exact`,
-    /// `extended-call-order`, in `crates/totals_spec/proofs/Promises.antt`.
+    /// `extended-call-order`, in `crates/totals_spec/proofs`.
     pub fn sum_of(&self, summand: Summand, values: &[T]) -> Result<Record<T>, Refusal> {
         self.sum_bytes(summand, &T::bytes(values))
     }
@@ -239,7 +239,7 @@ impl<T: Value> Totals<T> {
     /// [`Totals::sum`].
     ///
     /// Proved: `sum-exact`, `sum-entry-order`, and of [`X87`](crate::X87) `extended-exact`,
-    /// `extended-call-order`, in `crates/totals_spec/proofs/Promises.antt`.
+    /// `extended-call-order`, in `crates/totals_spec/proofs`.
     ///
     /// ```
     /// use fermuzhai::{Refusal, Summand, Totals};
@@ -269,7 +269,7 @@ impl<T: Value> Totals<T> {
     /// [`Totals::dot`].
     ///
     /// Proved: `dot-exact`, `dot-entry-order`, and of [`X87`](crate::X87) `extended-exact`,
-    /// `extended-call-order`, in `crates/totals_spec/proofs/Promises.antt`.
+    /// `extended-call-order`, in `crates/totals_spec/proofs`.
     pub fn dot_bytes(&self, left: &[u8], right: &[u8]) -> Result<Record<T>, Refusal> {
         self.answer(|f, c, answer| match self.format.named_bias {
             None => raw::dot(f, c, left, right, answer),
@@ -364,7 +364,7 @@ impl<T: Word> Totals<T> {
     ///
     /// Proved: the contract of `totals_pence` in `crates/totals/src/entry.rt`; `pence-by-chain`,
     /// `pence-order` (every order of a list without a stray bit has one answer), `one-pence` in
-    /// `crates/totals_spec/proofs/Promises.antt`.
+    /// `crates/totals_spec/proofs`.
     ///
     /// ```
     /// use fermuzhai::{Format, Refusal, Totals};
@@ -399,7 +399,7 @@ impl<T: Word> Totals<T> {
     /// more of either is refused with [`Refusal::NoRoom`], and no memory is taken for it.
     ///
     /// Proved: `table-row`, `table-column`, `table-grand`, `table-refused-exactly` in
-    /// `crates/totals_spec/proofs/Promises.antt`.
+    /// `crates/figures_spec/proofs`.
     ///
     /// ```
     /// use fermuzhai::{Format, Refusal, Totals};
@@ -456,7 +456,7 @@ impl<T: Word> Totals<T> {
     ///
     /// Proved: the contract of `totals_table` in `crates/totals/src/entry.rt`; `table-row`,
     /// `table-column`, `table-grand`, `table-untouched`, `table-refused-exactly`,
-    /// `table-entry-refused` in `crates/totals_spec/proofs/Promises.antt`.
+    /// `table-entry-refused` in `crates/figures_spec/proofs`.
     ///
     /// ```
     /// use fermuzhai::{Refusal, Totals};

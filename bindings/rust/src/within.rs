@@ -113,7 +113,7 @@ impl<T: Value> Display for Estimate<T> {
 /// the elements of the list. [`Unfinished::bounds`] has the exact sum between two doubles.
 ///
 /// Proved: `within-near`, `within-narrower`, `within-order`, `within-fits` in
-/// `crates/further_spec/proofs/Promises.antt`. The doubles are worked out by this crate.
+/// `crates/targets_spec/proofs`. The doubles are worked out by this crate.
 #[derive(Clone, Copy, Debug, PartialEq, Eq, Hash)]
 #[non_exhaustive]
 pub struct Unfinished {
@@ -477,10 +477,10 @@ impl<T: Word> Totals<T> {
     ///
     /// [`Refusal::NoPassAllowed`] where the allowance is 0, else those of [`Totals::sum`].
     ///
-    /// Proved: the contract of `totals_sum_within` in `crates/totals/src/entry_within.rt`;
+    /// Proved: the contract of `totals_sum_within` in `crates/targets/src/entry_within.rt`;
     /// `within-in-time`, `within-limit`, `within-same`, `within-unfinished`, `within-near`,
     /// `within-narrower`, `within-refusal`, `within-order` in
-    /// `crates/further_spec/proofs/Promises.antt`.
+    /// `crates/targets_spec/proofs`.
     ///
     /// ```
     /// use fermuzhai::{Format, Kind, Refusal, Totals};
@@ -533,7 +533,7 @@ impl<T: Word> Totals<T> {
     ///
     /// [`Refusal::NoPassAllowed`] where the allowance is 0, else those of [`Totals::dot`].
     ///
-    /// Proved: the contract of `totals_dot_within` in `crates/totals/src/entry_within.rt`, and the
+    /// Proved: the contract of `totals_dot_within` in `crates/targets/src/entry_within.rt`, and the
     /// theorems of [`Totals::sum_within`].
     pub fn dot_within(
         &self,

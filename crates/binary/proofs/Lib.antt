@@ -1,6 +1,9 @@
 pub mod Blank
-mod Cases
+pub mod Cases
+pub mod Elements
 pub mod Encodable
+pub mod Given
+pub mod Held
+pub mod Pairs
 pub mod Plain
 pub mod Tens
-pub mod Held

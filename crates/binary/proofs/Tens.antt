@@ -1,11 +1,11 @@
 -- Values of ten bytes: whether one is subnormal, and the fields of what is written.
 use Rattle.std.proofs.Common.{◌≡◌, ℕ, ◌+◌, ◌^◌, ◌<◌, Bool, not, ◌&&◌, eqb, sym, ◌∙◌}
 use Rattle.totals_spec.specs.Basics.{flag}
-use Rattle.totals_spec.specs.Encode.{assembled}
-use Rattle.totals_spec.specs.Extended.{extended, field_in, subnormal_extended, spread}
-use Rattle.totals_spec.specs.Halves.{joined}
-use Rattle.totals_spec.proofs.Halves.{halves-field, halves-subnormal, bits-joined}
-use Rattle.totals_spec.proofs.Spread.{spread-assembled}
+use Rattle.totals_spec.specs.formats.Encode.{assembled}
+use Rattle.totals_spec.specs.ten_bytes.Extended.{extended, field_in, subnormal_extended, spread}
+use Rattle.totals_spec.specs.ten_bytes.TwoWords.{joined}
+use Rattle.totals_spec.proofs.ten_bytes.TwoWords.{halves-field, halves-subnormal, bits-joined}
+use Rattle.totals_spec.proofs.ten_bytes.WrittenOut.{spread-assembled}
 
 -- whether a value is subnormal, by its field and its significand
 pub subnormal_field : (h m : ℕ) → h < 65536 → m < 2 ^ 64 → subnormal_extended (joined h m) ≡ (eqb (field_in (joined h m)) 0 && not (eqb m 0))

@@ -1,18 +1,19 @@
-// Encodings of ten bytes (kind 4). The leading bit of a significand is written out, so that some encodings stand for nothing, and some numbers have two.
+// Encodings of ten bytes (kind 4). The leading bit of a significand is written out, so that some
+// encodings stand for nothing, and some numbers have two.
 ghost use Rattle.std.specs.Prelude.{◌≡◌, ◌+◌, ◌^◌, ◌<◌, not, ◌==◌};
 ghost use Rattle.totals_spec.specs.Basics.{flag};
-ghost use Rattle.totals_spec.specs.Decode as dec;
-ghost use Rattle.totals_spec.specs.Encode as enc;
-ghost use Rattle.totals_spec.specs.Extended as spec;
+ghost use Rattle.totals_spec.specs.formats.Decode as dec;
+ghost use Rattle.totals_spec.specs.formats.Encode as enc;
+ghost use Rattle.totals_spec.specs.ten_bytes.Extended as spec;
 ghost use Rattle.format.specs.Shapes.{shape_of};
 ghost use Rattle.format.specs.Environments.{env_of};
-ghost use Rattle.format.specs.Joined.{unpacked_of};
+ghost use Rattle.format.specs.Unpacked.{unpacked_of};
 ghost use Rattle.format.specs.Fits.{Encodes};
 ghost use Rattle.values.specs.Tens.{ten_of};
 
 use crate::Read;
-use format::env::flag;
-use format::environment::Env;
+use format::env::Env;
+use format::flags::flag;
 use format::kind::Kind;
 use format::shape::Shape;
 use format::unpacked::Unpacked;
@@ -28,8 +29,8 @@ const LEADING: u64 = 9223372036854775808;
 
 const QUIET: u64 = 4611686018427387904;
 
-// The format whose numbers these are: Ieee with 64 digits.
-#[tactic(auto, unfolding(totals_spec::specs::Extended::extended))]
+/// The format whose numbers these are: Ieee with 64 digits.
+#[tactic(auto, unfolding(totals_spec::specs::ten_bytes::Extended::extended))]
 pub fn extended() -> Shape
     ensures { shape_of result ≡ spec.extended }
 {
@@ -41,24 +42,24 @@ pub fn extended() -> Shape
     }
 }
 
-fn sign_of(b: Ten) -> bool
-    ensures { result ≡ spec.sign_in (ten_of b) }
+fn sign_of(ten: Ten) -> bool
+    ensures { result ≡ spec.sign_in (ten_of ten) }
 {
-    b.head >= SIGN
+    ten.head >= SIGN
 }
 
-fn field_of(b: Ten) -> u16
-    ensures { result ≡ spec.field_in (ten_of b) }
+fn field_of(ten: Ten) -> u16
+    ensures { result ≡ spec.field_in (ten_of ten) }
 {
-    b.head % SIGN
+    ten.head % SIGN
 }
 
-// A field above 0 over a leading bit of 0.
-#[tactic(auto, unfolding(totals_spec::specs::Extended::unsupported))]
-pub fn is_unsupported(b: Ten) -> bool
-    ensures { result ≡ spec.unsupported (ten_of b) }
+/// A field above 0 over a leading bit of 0.
+#[tactic(auto, unfolding(totals_spec::specs::ten_bytes::Extended::unsupported))]
+pub fn is_unsupported(ten: Ten) -> bool
+    ensures { result ≡ spec.unsupported (ten_of ten) }
 {
-    field_of(b) != 0 && b.significand < LEADING
+    field_of(ten) != 0 && ten.significand < LEADING
 }
 
 // A field of all ones: the leading bit alone is an infinity.
@@ -94,43 +95,46 @@ fn decode_number(negative: bool, field: u16, significand: u64) -> Unpacked
     }
 }
 
-#[tactic(auto, unfolding(totals_spec::specs::Extended::decode_extended, totals_spec::specs::Extended::unsupported))]
-pub fn decode(b: Ten) -> Unpacked
-    ensures { unpacked_of result ≡ spec.decode_extended (ten_of b) }
+/// What an encoding of ten bytes stands for (docs/SPECIFICATION.md, Eighty-bit values).
+#[tactic(auto, unfolding(totals_spec::specs::ten_bytes::Extended::decode_extended, totals_spec::specs::ten_bytes::Extended::unsupported,))]
+pub fn decode(ten: Ten) -> Unpacked
+    ensures { unpacked_of result ≡ spec.decode_extended (ten_of ten) }
 {
-    let negative = sign_of(b);
-    let field = field_of(b);
-    if is_unsupported(b) {
+    let negative = sign_of(ten);
+    let field = field_of(ten);
+    if is_unsupported(ten) {
         Unpacked::Nan {
             negative,
             signaling: false,
             payload: 0,
         }
     } else if field == FIELD_MAX {
-        decode_top(negative, b.significand)
+        decode_top(negative, ten.significand)
     } else {
-        decode_number(negative, field, b.significand)
+        decode_number(negative, field, ten.significand)
     }
 }
 
 // A pseudo-denormal counts as a subnormal number.
 #[tactic(auto, using(crate::proofs::Tens::subnormal_field))]
-fn is_subnormal(b: Ten) -> bool
-    ensures { result ≡ spec.subnormal_extended (ten_of b) }
+fn is_subnormal(ten: Ten) -> bool
+    ensures { result ≡ spec.subnormal_extended (ten_of ten) }
 {
-    field_of(b) == 0 && b.significand != 0
+    field_of(ten) == 0 && ten.significand != 0
 }
 
-// An operand: the decoded number, or under denormals-are-zero a signed zero in place of a subnormal one.
-#[tactic(auto, unfolding(totals_spec::specs::Extended::extended_operand))]
-pub fn operand(c: Env, b: Ten) -> Read
-    ensures { (unpacked_of result.value ≡ spec.extended_operand (env_of c) (ten_of b)) × (result.subnormal ≡ spec.subnormal_extended (ten_of b)) }
+/// An operand: the decoded number, or under denormals-are-zero a signed zero in place of a
+/// subnormal one.
+#[tactic(auto, unfolding(totals_spec::specs::ten_bytes::Extended::extended_operand))]
+pub fn operand(env: Env, ten: Ten) -> Read
+    ensures { (unpacked_of result.value ≡ spec.extended_operand (env_of env) (ten_of ten))
+        × (result.subnormal ≡ spec.subnormal_extended (ten_of ten)) }
 {
-    let subnormal = is_subnormal(b);
-    let value = if subnormal && c.denormals_are_zero {
-        Unpacked::Zero(sign_of(b))
+    let subnormal = is_subnormal(ten);
+    let value = if subnormal && env.denormals_are_zero {
+        Unpacked::Zero(sign_of(ten))
     } else {
-        decode(b)
+        decode(ten)
     };
     Read { value, subnormal }
 }
@@ -160,10 +164,11 @@ fn assemble(negative: bool, field: u16, fraction: u64) -> Ten
 }
 
 // A significand without its leading bit is a subnormal's.
-#[tactic(auto, unfolding(totals_spec::specs::Encode::encode, totals_spec::specs::Extended::extended))]
+#[tactic(auto, unfolding(totals_spec::specs::formats::Encode::encode, totals_spec::specs::ten_bytes::Extended::extended))]
 fn encode_finite(negative: bool, shift: u64, significand: u64) -> Ten
     requires { shift + 1 < 2 ^ 15 }
-    ensures { ten_of result ≡ spec.spread (enc.encode spec.extended (dec.finite negative shift significand)) }
+    ensures { ten_of result ≡ spec.spread
+        (enc.encode spec.extended (dec.finite negative shift significand)) }
 {
     if significand < LEADING {
         assemble(negative, 0, significand)
@@ -172,20 +177,22 @@ fn encode_finite(negative: bool, shift: u64, significand: u64) -> Ten
     }
 }
 
-#[tactic(auto, unfolding(totals_spec::specs::Extended::extended, totals_spec::specs::Encode::encode))]
+#[tactic(auto, unfolding(totals_spec::specs::ten_bytes::Extended::extended, totals_spec::specs::formats::Encode::encode))]
 fn encode_nan(negative: bool, signaling: bool, payload: u64) -> Ten
     requires { payload < 2 ^ 62 }
-    ensures { ten_of result ≡ spec.spread (enc.encode spec.extended (dec.nan negative signaling payload)) }
+    ensures { ten_of result ≡ spec.spread
+        (enc.encode spec.extended (dec.nan negative signaling payload)) }
 {
     assemble(negative, FIELD_MAX, flag(QUIET, !signaling) + payload)
 }
 
-#[tactic(auto, unfolding(totals_spec::specs::Encode::encode, totals_spec::specs::Extended::extended))]
-pub fn encode(v: Unpacked) -> Ten
-    requires { Encodes spec.extended (unpacked_of v) }
-    ensures { ten_of result ≡ spec.spread (enc.encode spec.extended (unpacked_of v)) }
+/// The encoding in ten bytes of a value that has one.
+#[tactic(auto, unfolding(totals_spec::specs::formats::Encode::encode, totals_spec::specs::ten_bytes::Extended::extended))]
+pub fn encode(value: Unpacked) -> Ten
+    requires { Encodes spec.extended (unpacked_of value) }
+    ensures { ten_of result ≡ spec.spread (enc.encode spec.extended (unpacked_of value)) }
 {
-    match v {
+    match value {
         Unpacked::Zero(negative) => assemble(negative, 0, 0),
         Unpacked::Finite {
             negative,

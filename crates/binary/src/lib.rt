@@ -1,52 +1,67 @@
 // Encodings: decode, operand, encode; and the choice among NaNs.
 #![tactic(auto)]
 
+/// The terms of elements and of pairs.
+pub mod element;
+/// Encodings of ten bytes.
 pub mod extended;
+/// The choice among NaNs.
 pub mod nan;
+/// What the elements of a list are summed as.
+pub mod summand;
+/// The terms of values of ten bytes.
+pub mod ten;
+/// Terms, and the arithmetic that makes them of operands.
+pub mod term;
 
 ghost use Rattle.std.specs.Prelude.{◌≡◌, ◌+◌, ◌-◌, ◌^◌, ◌<◌, ◌&&◌, ◌==◌};
-ghost use Rattle.totals_spec.specs.Format as spec;
-ghost use Rattle.totals_spec.specs.Decode as dec;
-ghost use Rattle.totals_spec.specs.Encode as enc;
+ghost use Rattle.totals_spec.specs.formats.Format as spec;
+ghost use Rattle.totals_spec.specs.formats.Decode as dec;
+ghost use Rattle.totals_spec.specs.formats.Encode as enc;
 ghost use Rattle.format.specs.Kinds.{number_of};
 ghost use Rattle.format.specs.Layouts.{layout_of};
 ghost use Rattle.format.specs.Environments.{env_of};
-ghost use Rattle.format.specs.Joined.{unpacked_of};
+ghost use Rattle.format.specs.Unpacked.{unpacked_of};
 ghost use Rattle.format.specs.Fits.{Encodes};
-ghost use Rattle.binary.specs.Joined.{top_field_of, nan_pattern, is_blank, is_plain};
+ghost use Rattle.binary.specs.Encodings.{top_field_of, nan_pattern, is_blank, is_plain};
 
-use format::env::flag;
-use format::environment::Env;
+use format::env::Env;
+use format::flags::flag;
 use format::kind::Kind;
 use format::layout::Layout;
 use format::unpacked::Unpacked;
 use limbs::word::{low_bits, ones, power, scaled};
 
-// The sign bit.
-pub fn sign_of(f: Layout, b: u64) -> bool
-    ensures { result ≡ dec.sign_bit (layout_of f) b }
+/// The sign bit of an encoding: true for a negative sign.
+pub fn sign_of(layout: Layout, bits: u64) -> bool
+    ensures { result ≡ dec.sign_bit (layout_of layout) bits }
 {
-    (b >> (f.shape.width - 1)) % 2 == 1
+    (bits >> (layout.shape.width - 1)) % 2 == 1
 }
 
-// The exponent field.
-pub fn field_of(f: Layout, b: u64) -> u64
-    ensures { result ≡ dec.field_of (layout_of f) b }
+/// The exponent field of an encoding.
+pub fn field_of(layout: Layout, bits: u64) -> u64
+    ensures { result ≡ dec.field_of (layout_of layout) bits }
 {
-    low_bits(b >> f.shape.fraction_bits(), f.shape.exponent_bits as usize)
+    low_bits(
+        bits >> layout.shape.fraction_bits(),
+        layout.shape.exponent_bits as usize,
+    )
 }
 
-// The fraction.
-pub fn fraction_of(f: Layout, b: u64) -> u64
-    ensures { (result ≡ dec.fraction_of (layout_of f) b) × (result < 2 ^ spec.fraction_bits (layout_of f)) }
+/// The fraction field of an encoding.
+pub fn fraction_of(layout: Layout, bits: u64) -> u64
+    ensures { (result ≡ dec.fraction_of (layout_of layout) bits)
+        × (result < 2 ^ spec.fraction_bits (layout_of layout)) }
 {
-    low_bits(b, f.shape.fraction_bits() as usize)
+    low_bits(bits, layout.shape.fraction_bits() as usize)
 }
 
-// A number of t fraction bits. Above an exponent field of 0 it has a leading bit that is not in the encoding.
-fn decode_finite(t: u64, negative: bool, field: u64, fraction: u64) -> Unpacked
-    requires { (t < 64) × (fraction < 2 ^ t) }
-    ensures { unpacked_of result ≡ dec.number t negative field fraction }
+// A number by its field and its fraction. Above an exponent field of 0 it has a leading bit that is
+// not in the encoding.
+fn decode_finite(fraction_bits: u64, negative: bool, field: u64, fraction: u64) -> Unpacked
+    requires { (fraction_bits < 64) × (fraction < 2 ^ fraction_bits) }
+    ensures { unpacked_of result ≡ dec.number fraction_bits negative field fraction }
 {
     match (field, fraction) {
         (0, 0) => Unpacked::Zero(negative),
@@ -58,177 +73,192 @@ fn decode_finite(t: u64, negative: bool, field: u64, fraction: u64) -> Unpacked
         _ => Unpacked::Finite {
             negative,
             shift: field - 1,
-            significand: power(t) + fraction,
+            significand: power(fraction_bits) + fraction,
         },
     }
 }
 
-// An exponent field of all ones, in Ieee: an infinity, or a NaN whose first fraction bit says that it is quiet.
-fn decode_top(t: u64, negative: bool, fraction: u64) -> Unpacked
-    requires { (0 < t) × (t < 64) }
-    ensures { unpacked_of result ≡ top_field_of t negative fraction }
+// An exponent field of all ones, in Ieee: an infinity, or a NaN whose first fraction bit says that
+// it is quiet.
+fn decode_top(fraction_bits: u64, negative: bool, fraction: u64) -> Unpacked
+    requires { (0 < fraction_bits) × (fraction_bits < 64) }
+    ensures { unpacked_of result ≡ top_field_of fraction_bits negative fraction }
 {
     if fraction == 0 {
         Unpacked::Infinity(negative)
     } else {
         Unpacked::Nan {
             negative,
-            signaling: fraction < power(t - 1),
-            payload: low_bits(fraction, (t - 1) as usize),
+            signaling: fraction < power(fraction_bits - 1),
+            payload: low_bits(fraction, (fraction_bits - 1) as usize),
         }
     }
 }
 
 // Whether the fields are those of a NaN, in a kind other than Ieee.
-fn is_nan_pattern(f: Layout, negative: bool, field: u64, fraction: u64) -> bool
-    ensures { result ≡ nan_pattern (spec.kind_of (number_of f.shape.kind)) (layout_of f) negative field fraction }
+fn is_nan_pattern(layout: Layout, negative: bool, field: u64, fraction: u64) -> bool
+    ensures { result ≡ nan_pattern (spec.kind_of (number_of layout.shape.kind))
+        (layout_of layout) negative field fraction }
 {
-    match f.shape.kind {
-        Kind::NoInf => field == f.shape.field_max() && fraction == ones(f.shape.fraction_bits()),
+    match layout.shape.kind {
+        Kind::NoInf => field == layout.shape.field_max()
+            && fraction == ones(layout.shape.fraction_bits()),
         Kind::Fnuz => negative && field == 0 && fraction == 0,
         Kind::Ieee | Kind::Finite => false,
     }
 }
 
-#[tactic(auto, unfolding(totals_spec::specs::Decode::decode))]
-pub fn decode(f: Layout, b: u64) -> Unpacked
-    ensures { unpacked_of result ≡ dec.decode (layout_of f) b }
+/// What an encoding stands for (docs/SPECIFICATION.md, Decoding).
+#[tactic(auto, unfolding(totals_spec::specs::formats::Decode::decode))]
+pub fn decode(layout: Layout, bits: u64) -> Unpacked
+    ensures { unpacked_of result ≡ dec.decode (layout_of layout) bits }
 {
-    let negative = sign_of(f, b);
-    let field = field_of(f, b);
-    let fraction = fraction_of(f, b);
-    if f.shape.kind == Kind::Ieee && field == f.shape.field_max() {
-        decode_top(f.shape.fraction_bits(), negative, fraction)
-    } else if is_nan_pattern(f, negative, field, fraction) {
+    let negative = sign_of(layout, bits);
+    let field = field_of(layout, bits);
+    let fraction = fraction_of(layout, bits);
+    if layout.shape.kind == Kind::Ieee && field == layout.shape.field_max() {
+        decode_top(layout.shape.fraction_bits(), negative, fraction)
+    } else if is_nan_pattern(layout, negative, field, fraction) {
         Unpacked::Nan {
             negative,
             signaling: false,
             payload: 0,
         }
     } else {
-        decode_finite(f.shape.fraction_bits(), negative, field, fraction)
+        decode_finite(layout.shape.fraction_bits(), negative, field, fraction)
     }
 }
 
-// Whether the exponent field alone says, in every kind, that an encoding is a normal number: it is neither 0 nor all ones. One test tells, since 0 less 1
-// wraps to the greatest word.
-pub fn is_plain(f: Layout, b: u64) -> bool
-    ensures { result ≡ is_plain (layout_of f) b }
+/// Whether the exponent field alone says, in every kind, that an encoding is a normal number: it is
+/// neither 0 nor all ones. One test tells, since 0 less 1 wraps to the greatest word.
+pub fn is_plain(layout: Layout, bits: u64) -> bool
+    ensures { result ≡ is_plain (layout_of layout) bits }
 {
-    field_of(f, b).wrapping_sub(1) < f.shape.field_max() - 1
+    field_of(layout, bits).wrapping_sub(1) < layout.shape.field_max() - 1
 }
 
-// Whether all bits but the sign are 0: a zero, or Fnuz's NaN.
-pub fn is_blank(f: Layout, b: u64) -> bool
-    ensures { result ≡ is_blank (layout_of f) b }
+/// Whether all bits but the sign are 0: a zero, or Fnuz's NaN.
+pub fn is_blank(layout: Layout, bits: u64) -> bool
+    ensures { result ≡ is_blank (layout_of layout) bits }
 {
-    field_of(f, b) == 0 && fraction_of(f, b) == 0
+    field_of(layout, bits) == 0 && fraction_of(layout, bits) == 0
 }
 
-// Whether an encoding, decoded as v, is a subnormal number.
-fn is_subnormal(f: Layout, b: u64, v: Unpacked) -> bool
-    ensures { result ≡ (dec.is_finite (unpacked_of v) && dec.field_of (layout_of f) b == 0) }
+// Whether an encoding, with the value that it is decoded as, is a subnormal number.
+fn is_subnormal(layout: Layout, bits: u64, value: Unpacked) -> bool
+    ensures { result
+        ≡ (dec.is_finite (unpacked_of value) && dec.field_of (layout_of layout) bits == 0) }
 {
-    matches!(v, Unpacked::Finite { .. }) && field_of(f, b) == 0
+    matches!(value, Unpacked::Finite { .. }) && field_of(layout, bits) == 0
 }
 
-// What an encoding stands for as an operand, and whether it is subnormal, which denormals-are-zero does not hide.
+/// What an encoding stands for as an operand, and whether it is subnormal, which denormals-are-zero
+/// does not hide.
 #[derive(Clone, Copy)]
 pub struct Read {
     pub value: Unpacked,
     pub subnormal: bool,
 }
 
-// An operand: the decoded number, or under denormals-are-zero a signed zero in place of a subnormal one. Inlined by name into scans: of dots with many zeros
-// a call for each takes half again as long.
-#[tactic(auto, unfolding(totals_spec::specs::Decode::operand, totals_spec::specs::Decode::is_subnormal))]
+/// An operand: the decoded number, or under denormals-are-zero a signed zero in place of a
+/// subnormal one. Inlined by name into scans: of dots with many zeros a call for each takes half
+/// again as long.
+#[tactic(auto, unfolding(totals_spec::specs::formats::Decode::operand, totals_spec::specs::formats::Decode::is_subnormal))]
 #[inline(always)]
-pub fn operand(f: Layout, c: Env, b: u64) -> Read
-    ensures { (unpacked_of result.value ≡ dec.operand (layout_of f) (env_of c) b) × (result.subnormal ≡ dec.is_subnormal (layout_of f) b) }
+pub fn operand(layout: Layout, env: Env, bits: u64) -> Read
+    ensures { (unpacked_of result.value ≡ dec.operand (layout_of layout) (env_of env) bits)
+        × (result.subnormal ≡ dec.is_subnormal (layout_of layout) bits) }
 {
-    let v = decode(f, b);
-    let subnormal = is_subnormal(f, b, v);
-    let value = if subnormal && c.denormals_are_zero {
-        Unpacked::Zero(sign_of(f, b))
+    let decoded = decode(layout, bits);
+    let subnormal = is_subnormal(layout, bits, decoded);
+    let value = if subnormal && env.denormals_are_zero {
+        Unpacked::Zero(sign_of(layout, bits))
     } else {
-        v
+        decoded
     };
     Read { value, subnormal }
 }
 
 // The sign, the exponent field and the fraction in their places.
-fn assemble(f: Layout, negative: bool, field: u64, fraction: u64) -> u64
-    requires { (field < 2 ^ f.shape.exponent_bits) × (fraction < 2 ^ spec.fraction_bits (layout_of f)) }
-    ensures { result ≡ enc.assembled (layout_of f) negative field fraction }
+fn assemble(layout: Layout, negative: bool, field: u64, fraction: u64) -> u64
+    requires { (field < 2 ^ layout.shape.exponent_bits)
+        × (fraction < 2 ^ spec.fraction_bits (layout_of layout)) }
+    ensures { result ≡ enc.assembled (layout_of layout) negative field fraction }
 {
-    flag(power(f.shape.width - 1), negative) + scaled(field, f.shape.fraction_bits()) + fraction
+    flag(power(layout.shape.width - 1), negative)
+        + scaled(field, layout.shape.fraction_bits())
+        + fraction
 }
 
 // Fnuz has no -0: its pattern is the NaN.
-fn encode_zero(f: Layout, negative: bool) -> u64
-    ensures { result ≡ enc.zero_bits (spec.kind_of (number_of f.shape.kind)) (layout_of f) negative }
+fn encode_zero(layout: Layout, negative: bool) -> u64
+    ensures { result ≡ enc.zero_bits (spec.kind_of (number_of layout.shape.kind))
+        (layout_of layout) negative }
 {
-    match f.shape.kind {
+    match layout.shape.kind {
         Kind::Fnuz => 0,
-        _ => assemble(f, negative, 0, 0),
+        _ => assemble(layout, negative, 0, 0),
     }
 }
 
 // Finite has no NaN, and gives +0.
-fn encode_nan(f: Layout, negative: bool, signaling: bool, payload: u64) -> u64
-    requires { payload < 2 ^ (spec.fraction_bits (layout_of f) - 1) }
-    ensures { result ≡ enc.nan_bits (spec.kind_of (number_of f.shape.kind)) (layout_of f) negative signaling payload }
+fn encode_nan(layout: Layout, negative: bool, signaling: bool, payload: u64) -> u64
+    requires { payload < 2 ^ (spec.fraction_bits (layout_of layout) - 1) }
+    ensures { result ≡ enc.nan_bits (spec.kind_of (number_of layout.shape.kind))
+        (layout_of layout) negative signaling payload }
 {
-    match f.shape.kind {
-        Kind::Ieee if signaling => assemble(f, negative, f.shape.field_max(), payload),
+    match layout.shape.kind {
+        Kind::Ieee if signaling => assemble(layout, negative, layout.shape.field_max(), payload),
         Kind::Ieee => assemble(
-            f,
+            layout,
             negative,
-            f.shape.field_max(),
-            power(f.shape.fraction_bits() - 1) + payload,
+            layout.shape.field_max(),
+            power(layout.shape.fraction_bits() - 1) + payload,
         ),
         Kind::NoInf => assemble(
-            f,
+            layout,
             negative,
-            f.shape.field_max(),
-            ones(f.shape.fraction_bits()),
+            layout.shape.field_max(),
+            ones(layout.shape.fraction_bits()),
         ),
-        Kind::Fnuz => assemble(f, true, 0, 0),
+        Kind::Fnuz => assemble(layout, true, 0, 0),
         Kind::Finite => 0,
     }
 }
 
 // The leading bit of a normal number stays out; a significand without it is a subnormal's.
-#[tactic(auto, unfolding(totals_spec::specs::Encode::encode))]
-fn encode_finite(f: Layout, negative: bool, shift: u64, significand: u64) -> u64
-    requires { (shift + 1 < 2 ^ f.shape.exponent_bits) × (significand < 2 ^ spec.digits (layout_of f)) }
-    ensures { result ≡ enc.encode (layout_of f) (dec.finite negative shift significand) }
+#[tactic(auto, unfolding(totals_spec::specs::formats::Encode::encode))]
+fn encode_finite(layout: Layout, negative: bool, shift: u64, significand: u64) -> u64
+    requires { (shift + 1 < 2 ^ layout.shape.exponent_bits)
+        × (significand < 2 ^ spec.digits (layout_of layout)) }
+    ensures { result ≡ enc.encode (layout_of layout) (dec.finite negative shift significand) }
 {
-    let hidden = power(f.shape.fraction_bits());
+    let hidden = power(layout.shape.fraction_bits());
     if significand < hidden {
-        assemble(f, negative, 0, significand)
+        assemble(layout, negative, 0, significand)
     } else {
-        assemble(f, negative, shift + 1, significand - hidden)
+        assemble(layout, negative, shift + 1, significand - hidden)
     }
 }
 
-#[tactic(auto, unfolding(totals_spec::specs::Encode::encode))]
-pub fn encode(f: Layout, v: Unpacked) -> u64
-    requires { Encodes (layout_of f) (unpacked_of v) }
-    ensures { result ≡ enc.encode (layout_of f) (unpacked_of v) }
+/// The encoding of a value that has one in this format (docs/SPECIFICATION.md, Encoding).
+#[tactic(auto, unfolding(totals_spec::specs::formats::Encode::encode))]
+pub fn encode(layout: Layout, value: Unpacked) -> u64
+    requires { Encodes (layout_of layout) (unpacked_of value) }
+    ensures { result ≡ enc.encode (layout_of layout) (unpacked_of value) }
 {
-    match v {
-        Unpacked::Zero(negative) => encode_zero(f, negative),
+    match value {
+        Unpacked::Zero(negative) => encode_zero(layout, negative),
         Unpacked::Finite {
             negative,
             shift,
             significand,
-        } => encode_finite(f, negative, shift, significand),
-        Unpacked::Infinity(negative) => assemble(f, negative, f.shape.field_max(), 0),
+        } => encode_finite(layout, negative, shift, significand),
+        Unpacked::Infinity(negative) => assemble(layout, negative, layout.shape.field_max(), 0),
         Unpacked::Nan {
             negative,
             signaling,
             payload,
-        } => encode_nan(f, negative, signaling, payload),
+        } => encode_nan(layout, negative, signaling, payload),
     }
 }

@@ -9,11 +9,11 @@ use lib.Dec.{T, leb, ltb, eqb, ltb→lt, nltb→le}
 use lib.Pow.{pow_pos, pow_mono}
 use lib.Ieee.{size}
 use borrow.Author.Tests.{eqb-true, eqb-false, eq-eqb, le-leb, lt-leb, ne_eqb}
-use Rattle.totals_spec.specs.Format.{Format, kind_of, digits, emax_at, exponent_range}
-use Rattle.totals_spec.specs.Settings.{Settings, rounding_of}
-use Rattle.totals_spec.specs.Decode.{Unpacked, finite, infinity, nan}
-use Rattle.totals_spec.specs.Round.{is_no_inf, overflows, overflow, Rounded, largest, to_infinity, beyond}
-use Rattle.totals_spec.proofs.Powers.{pow-next, pow-join, eqb-scaled, scaled-lt, digits_lt, digits-ge}
+use Rattle.totals_spec.specs.formats.Format.{Format, kind_of, digits, emax_at, exponent_range}
+use Rattle.totals_spec.specs.formats.Settings.{Settings, rounding_of}
+use Rattle.totals_spec.specs.formats.Decode.{Unpacked, finite, infinity, nan}
+use Rattle.totals_spec.specs.rounding.Round.{is_no_inf, overflows, overflow, Rounded, largest, to_infinity, beyond}
+use Rattle.totals_spec.proofs.numbers.Powers.{pow-next, pow-join, eqb-scaled, scaled-lt, digits_lt, digits-ge}
 use Rattle.format.specs.declared.kind.Kind.{Kind}
 use Rattle.format.specs.declared.kind.Kind.TheVariants.{NoInf, Fnuz}
 use Rattle.format.specs.Kinds.{number_of}

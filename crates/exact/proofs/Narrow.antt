@@ -12,8 +12,8 @@ use lib.Ieee.{size}
 use lib.Ieee.Digits.{size-lt}
 use Rattle.limbs.specs.Value.{value}
 use Rattle.limbs.proofs.Digits.{word-digit}
-use Rattle.totals_spec.proofs.Powers.{size_exact}
-use Rattle.exact.specs.Joined.{Narrows}
+use Rattle.totals_spec.proofs.numbers.Powers.{size_exact}
+use Rattle.exact.specs.Unrounded.{Narrows}
 use Rattle.exact.proofs.Standing.{stands-without}
 use Rattle.exact.proofs.Once.{kept-lt, kept-ge}
 
@@ -40,7 +40,8 @@ module _ (w : List ℕ) (fit : (k : ℕ) → get_or w k 0 < 2 ^ 64) where
           long = λ _. rw e (omega arith);
         }
 
-    -- n bits, more than 128: those in the highest word that is not 0 and in the one under it are kept
+    -- n bits, more than 128: those in the highest word that is not 0 and in the one under it are
+    -- kept
     module _ {n : ℕ} (top : ℕ) (is : n ≡ size (value w)) (more : 128 < n) (low_end : 64 * top < n) (high_end : n ≤ 64 * top + 64) where
       abbrev under : ℕ
       under = 64 * (top - 1)

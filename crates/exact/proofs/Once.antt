@@ -9,18 +9,18 @@ use lib.Pow.{pow_pos, pow_mono, pow-lt, shl-shr, shr_lt, shr_mono}
 use lib.Ieee.{size}
 use lib.Ieee.Digits.{size-lt, size_reaches, size-le}
 use borrow.Author.Tests.{eq-eqb, lt-ltb, le-ltb, lt-leb, ne_eqb}
-use Rattle.totals_spec.proofs.Same.{ltb-size}
+use Rattle.totals_spec.proofs.rounding.BetweenNeighbours.{ltb-size}
 use Rattle.totals_spec.specs.Basics.{flag, is_set}
-use Rattle.totals_spec.specs.Bounds.{RangeBounds}
-use Rattle.totals_spec.specs.Format.{Format, kind_of, digits, emin_at, emax_at}
-use Rattle.totals_spec.specs.Settings.{Settings, rounding_of, precision_of}
-use Rattle.totals_spec.specs.Decode.{zero_of, finite}
-use Rattle.totals_spec.specs.Round.{dropped, inexact, is_no_inf, overflows, overflow, number_of, finished, tiny_sum, rounded_at, round_to, round, rounds_up}
-use Rattle.exact.specs.Joined.{small_of}
+use Rattle.totals_spec.specs.formats.Bounds.{RangeBounds}
+use Rattle.totals_spec.specs.formats.Format.{Format, kind_of, digits, emin_at, emax_at}
+use Rattle.totals_spec.specs.formats.Settings.{Settings, rounding_of, precision_of}
+use Rattle.totals_spec.specs.formats.Decode.{zero_of, finite}
+use Rattle.totals_spec.specs.rounding.Round.{dropped, inexact, is_no_inf, overflows, overflow, number_of, finished, tiny_sum, rounded_at, round_to, round, rounds_up}
+use Rattle.exact.specs.Unrounded.{small_of}
 use Rattle.exact.proofs.Rules.{flag-le}
-use Rattle.totals_spec.proofs.Powers.{pow-join, size-scaled, scaled-lt, digits-pos}
+use Rattle.totals_spec.proofs.numbers.Powers.{pow-join, size-scaled, scaled-lt, digits-pos}
 use Rattle.exact.proofs.Standing.{exact-kept}
-use Rattle.totals_spec.proofs.Range.{range-pos}
+use Rattle.totals_spec.proofs.formats.ExponentRange.{range-pos}
 use Rattle.exact.proofs.Beyond.{ones-ge, all_ones, made}
 
 -- ---- the first q of n digits

@@ -1,4 +1,5 @@
--- From what a value to round has to meet to what its rounding is: the laws of numbers, joined to the code's contracts.
+-- From what a value to round has to meet to what its rounding is: the laws of numbers, joined to
+-- the code's contracts.
 use mathlib.Core.Path.{◌≡◌, refl, sym, ◌∙◌, subst}
 use mathlib.Core.Bool.{Bool, true, false, ◌&&◌, cond}
 use Prim.Native.Nat.{ℕ, ◌+◌, ◌-◌, ◌*◌, ◌/◌, ◌^◌, ◌≤◌, ◌<◌}
@@ -9,18 +10,18 @@ use lib.Pow.{pow_mono, pow_pos}
 use lib.Ieee.{size}
 use Rattle.limbs.specs.Value.{bit_length}
 use Rattle.totals_spec.specs.Basics.{flag, is_set}
-use Rattle.totals_spec.specs.Format.{Format, digits, emin_at}
-use Rattle.totals_spec.specs.Settings.{Settings, Rounding, rounding_of, precision_of}
-use Rattle.totals_spec.specs.Decode.{zero_of, finite}
-use Rattle.totals_spec.specs.Round.{Dropped, dropped, inexact, rounds_up, rounded_at, overflows, overflow, round}
+use Rattle.totals_spec.specs.formats.Format.{Format, digits, emin_at}
+use Rattle.totals_spec.specs.formats.Settings.{Settings, Rounding, rounding_of, precision_of}
+use Rattle.totals_spec.specs.formats.Decode.{zero_of, finite}
+use Rattle.totals_spec.specs.rounding.Round.{Dropped, dropped, inexact, rounds_up, rounded_at, overflows, overflow, round}
 use Rattle.format.specs.Fits.{Encodes}
-use Rattle.exact.specs.Joined.{significand_of, Stands, Measured, RoundedTo, EndsAt, Begins, small_of}
+use Rattle.exact.specs.Unrounded.{significand_of, Stands, Measured, RoundedTo, EndsAt, Begins, small_of}
 use Rattle.exact.specs.declared.Unrounded.{Unrounded}
 use Rattle.exact.specs.declared.Digits.{Digits}
 use Rattle.exact.proofs.Rules.{flag-le}
-use Rattle.totals_spec.proofs.Powers.{pow-next, size_above, size_exact, scaled-lt, digits_lt}
+use Rattle.totals_spec.proofs.numbers.Powers.{pow-next, size_above, size_exact, scaled-lt, digits_lt}
 use Rattle.exact.proofs.Standing.{stands-size, stands-some, some_number}
-use Rattle.totals_spec.proofs.Range.{range-fits}
+use Rattle.totals_spec.proofs.formats.ExponentRange.{range-fits}
 use Rattle.exact.proofs.Beyond.{made, over-not}
 use Rattle.exact.proofs.Once.{kept-lt, kept-ge, normal-is, number-normal, tiny-is, kept_small, small_is}
 

@@ -5,7 +5,7 @@ use Prim.Native.Nat.{ℕ, suc, ◌+◌, ◌*◌, ◌^◌}
 use native.Mathlib.Nat.{mul_assoc, mul-lt-mul_of_pos_right}
 use lib.Pow.{pow-add, pow_pos}
 use Rattle.exact.specs.declared.Unrounded.{Unrounded}
-use Rattle.exact.specs.Joined.{significand_of, StandsAt, Stands, raised_by}
+use Rattle.exact.specs.Unrounded.{significand_of, StandsAt, Stands, raised_by}
 
 units : (m p n : ℕ) → m * 2 ^ p * 2 ^ n ≡ m * 2 ^ (p + n)
 units m p n = mul_assoc m (2 ^ p) (2 ^ n) ∙ ap (λ (z : ℕ). m * z) (sym (pow-add 2 p n))

@@ -5,7 +5,7 @@ use Prim.Native.Nat.{ℕ, zero, suc, ◌+◌, ◌≤◌}
 use native.Mathlib.Nat.{le_refl}
 use native.Mathlib.Omega.{arith}
 use Rattle.totals_spec.specs.Basics.{flag, is_set}
-use Rattle.exact.specs.Joined.{underflow_of}
+use Rattle.exact.specs.Unrounded.{underflow_of}
 use Rattle.exact.specs.declared.rounding.Underflow.TheVariants.{Flushed, Kept}
 
 pub set_on : (n : ℕ) → (n ≡ 0 → ⊥) → is_set n ≡ true

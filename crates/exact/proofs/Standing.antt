@@ -1,4 +1,5 @@
--- Cutting a value at a position: the digits kept and the part dropped are those of every number that the value stands for.
+-- Cutting a value at a position: the digits kept and the part dropped are those of every number
+-- that the value stands for.
 use mathlib.Core.Path.{◌≡◌, refl, sym, ap, ap₂, ◌∙◌}
 use mathlib.Core.Bool.{Bool, true, false, not, ◌||◌, cond}
 use Prim.Native.Nat.{ℕ, zero, suc, ◌+◌, ◌-◌, ◌*◌, ◌/◌, ◌%◌, ◌^◌, ◌≤◌, ◌<◌}
@@ -10,10 +11,10 @@ use lib.Pow.{pow-add, pow_pos, pow_mono, shr-shr, shl-shr, shr_lt, mod-pow-add, 
 use lib.Ieee.{size}
 use lib.Ieee.Digits.{size-lt}
 use borrow.Author.Tests.{eq-eqb, lt-ltb, le-ltb, ne_eqb}
-use Rattle.totals_spec.proofs.Bits.{size-pos, pow-split, multiple-mod}
-use Rattle.totals_spec.specs.Round.{nothing, compared, dropped}
-use Rattle.exact.specs.Joined.{dropped_by, StandsAt}
-use Rattle.totals_spec.proofs.Powers.{size-over, scaled-lt}
+use Rattle.totals_spec.proofs.numbers.Bits.{size-pos, pow-split, multiple-mod}
+use Rattle.totals_spec.specs.rounding.Round.{nothing, compared, dropped}
+use Rattle.exact.specs.Unrounded.{dropped_by, StandsAt}
+use Rattle.totals_spec.proofs.numbers.Powers.{size-over, scaled-lt}
 
 -- ---- the dropped part: b is the first dropped bit, t what lies below it
 
@@ -77,7 +78,7 @@ module _ (v a e : ℕ) (e1 : e < 2 ^ a) where
       below : v % 2 ^ i * 2 ^ a + e < 2 ^ i * 2 ^ a
       below = omega (arith, fit, e1, suc-mul (v % 2 ^ i) (2 ^ a))
 
--- ---- a number that v units of 2^a stand for: v × 2^a, and less than 2^a more just where there is a sticky bit
+-- ---- a number that v units of 2^a stand for: v × 2^a, and with a sticky bit less than 2^a more
 
 record Over (s : Bool) (v a x : ℕ) : Type 0 where
   more : ℕ
@@ -119,7 +120,8 @@ stands-over : (v a e x : ℕ) → x ≡ v * 2 ^ a + e → e < 2 ^ a → StandsAt
 stands-over v a zero x is h = is ∙ add-zero (v * 2 ^ a)
 stands-over v a (suc e) x is h = rw (ne_eqb (suc e) 0 (λ z. omega (arith, z))) (omega arith, omega (arith, suc-mul v (2 ^ a)))
 
--- without its lowest d bits, and with a sticky bit where one of them is set, it stands for the same numbers
+-- without its lowest d bits, and with a sticky bit where one of them is set, it stands for the same
+-- numbers
 pub stands-without : (s : Bool) (v a d x : ℕ) → StandsAt s v (2 ^ a) x → StandsAt (s || not (eqb (v % 2 ^ d) 0)) (v / 2 ^ d) (2 ^ (a + d)) x
 stands-without s v a d x st =
     let o = over s v a x st in

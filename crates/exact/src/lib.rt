@@ -1,5 +1,5 @@
-// Exact values, and their one rounding into a format. Positions are counted in units, from 0 (totals_spec, Format). Significands of the
-// formats have up to 64 digits.
+// Exact values, and their one rounding into a format. Positions are counted in units, from 0
+// (totals_spec, Format). Significands of the formats have up to 64 digits.
 #![tactic(auto)]
 
 pub mod rounding;
@@ -7,19 +7,21 @@ pub mod rounding;
 ghost use Rattle.std.specs.Prelude.{◌≡◌, true, cond, ℕ, ◌+◌, ◌*◌, ◌/◌, ◌^◌, ◌<◌, ◌≤◌, leb, eqb};
 ghost use Rattle.limbs.specs.Value.{bit_length};
 ghost use Rattle.totals_spec.specs.Basics as basics;
-ghost use Rattle.totals_spec.specs.Format as spec;
-ghost use Rattle.totals_spec.specs.Settings as env;
-ghost use Rattle.totals_spec.specs.Round as round;
+ghost use Rattle.totals_spec.specs.formats.Format as spec;
+ghost use Rattle.totals_spec.specs.formats.Settings as settings;
+ghost use Rattle.totals_spec.specs.rounding.Round as round;
 ghost use Rattle.format.specs.Modes.{rounding_number, tininess_number};
 ghost use Rattle.format.specs.Shapes.{shape_of};
 ghost use Rattle.format.specs.Environments.{env_of};
-ghost use Rattle.format.specs.Joined.{unpacked_of};
+ghost use Rattle.format.specs.Unpacked.{unpacked_of};
 ghost use Rattle.format.specs.Fits.{Encodes};
-ghost use Rattle.exact.specs.Joined.{dropped_of, small_of, rounded_of, significand_of, Stands, end_of, Narrows, Measured, RoundedTo, Rounds, Begins, RoundedOnce};
+ghost use Rattle.exact.specs.Unrounded.{dropped_of, small_of, rounded_of, significand_of, Stands};
+ghost use Rattle.exact.specs.Unrounded.{end_of, Narrows, Measured, RoundedTo, Rounds, Begins};
+ghost use Rattle.exact.specs.Unrounded.{RoundedOnce};
 
 use crate::rounding::{Dropped, Underflow, overflows_to_infinity, rounds_up};
-use format::env::{INEXACT, OVERFLOW, ROUNDED_UP, flag};
-use format::environment::Env;
+use format::env::Env;
+use format::flags::{INEXACT, OVERFLOW, ROUNDED_UP, flag};
 use format::kind::Kind;
 use format::modes::{Rounding, Tininess};
 use format::shape::Shape;
@@ -27,7 +29,8 @@ use format::unpacked::Unpacked;
 use limbs::pair;
 use limbs::word::{ones, power, scaled, split};
 
-// A magnitude to round: the significand times 2^position units, or with a sticky bit any number between that and significand + 1 of these.
+/// A magnitude to round: the significand times 2^position units, or with a sticky bit any number
+/// between that and significand + 1 of these.
 #[derive(Clone, Copy)]
 pub struct Unrounded {
     pub negative: bool,
@@ -36,14 +39,14 @@ pub struct Unrounded {
     pub significand: u128,
 }
 
-// A magnitude cut at a position: the digits at and above it, and what is dropped.
+/// A magnitude cut at a position: the digits at and above it, and what is dropped.
 #[derive(Clone, Copy)]
 pub struct Cut {
     pub kept: u64,
     pub dropped: Dropped,
 }
 
-// Rounded digits: kept * 2^lowest, whether the magnitude went up, and whether it changed.
+/// Rounded digits: `kept` times 2^lowest, whether the magnitude went up, and whether it changed.
 #[derive(Clone, Copy)]
 pub struct Digits {
     pub kept: u64,
@@ -52,39 +55,45 @@ pub struct Digits {
     pub inexact: bool,
 }
 
+/// A rounded value, and the flags of its rounding.
 #[derive(Clone, Copy)]
 pub struct Rounded {
     pub value: Unpacked,
     pub flags: u64,
 }
 
-// A window to round, in two words: those from its highest on, with a sticky bit for what is dropped below them. They keep at least 65 bits, one more than
-// a result can have. Inlined by name: a call hands the window over in memory, which for a list of one element is a fifth.
+// The bits of the two words of a significand.
+const TWO_WORDS: usize = 128;
+
+/// A window to round, in two words: those from its highest on, with a sticky bit for what is
+/// dropped below them. They keep at least 65 bits, one more than a result can have.
+// Inlined by name: a call hands the window over in memory, which for a list of one element is a
+// fifth.
 #[inline(always)]
-pub fn narrowed(negative: bool, sticky: bool, position: u64, w: [u64; 12]) -> Unrounded
+pub fn narrowed(negative: bool, sticky: bool, position: u64, window: [u64; 12]) -> Unrounded
     requires { position < 2 ^ 63 }
-    ensures { Narrows negative sticky position w result }
+    ensures { Narrows negative sticky position window result }
 {
-    let n = limbs_window::bit_length(w);
-    if n <= 128 {
+    let length = limbs::window::bit_length(window);
+    if length <= TWO_WORDS {
         return Unrounded {
             negative,
             sticky,
             position,
-            significand: pair::joined(w[0], w[1]),
+            significand: pair::joined(window[0], window[1]),
         };
     }
-    let top = split(n - 1).word;
+    let top = split(length - 1).word;
     let under = top - 1;
     Unrounded {
         negative,
-        sticky: sticky || limbs_window::any_below(w, 64 * under),
+        sticky: sticky || limbs::window::any_below(window, 64 * under),
         position: position + 64 * (under as u64),
-        significand: pair::joined(w[under], w[top]),
+        significand: pair::joined(window[under], window[top]),
     }
 }
 
-// Nothing to round.
+/// Nothing to round.
 pub fn nothing() -> Unrounded
     ensures { significand_of result ≡ 0 }
 {
@@ -97,24 +106,27 @@ pub fn nothing() -> Unrounded
 }
 
 impl Unrounded {
+    /// Whether there is nothing to round.
     pub fn is_nothing(self) -> bool
         ensures { result ≡ eqb (significand_of self) 0 }
     {
         self.significand == 0
     }
 
-    // The digits of the significand.
+    /// The number of digits of the significand.
     pub fn length(self) -> u64
         ensures { (result ≡ bit_length (significand_of self)) × (result ≤ 128) }
     {
         pair::bit_length(self.significand) as u64
     }
 
-    // Cuts at a position from which the digits fit a word, and below which all lies that the sticky bit stands for.
+    /// Cuts at a position from which the digits fit a word, and below which all lies that the
+    /// sticky bit stands for.
     pub fn cut(self, lowest: u64) -> Cut
         requires self_nonzero { (0 < significand_of self) × (end_of self ≤ lowest + 64) }
         requires position_lt_lowest { self.sticky ≡ true → self.position < lowest }
-        ensures { (x : ℕ) → Stands self x → (result.kept ≡ x / 2 ^ lowest) × (dropped_of result.dropped ≡ round.dropped x lowest) }
+        ensures { (x : ℕ) → Stands self x → (result.kept ≡ x / 2 ^ lowest)
+            × (dropped_of result.dropped ≡ round.dropped x lowest) }
     {
         if lowest <= self.position {
             return Cut {
@@ -132,17 +144,19 @@ impl Unrounded {
     }
 }
 
-// The first q digits of a value whose highest bit lies just below `end`, rounded as if the exponent had no limit. Where they round up to
-// 2^q, they are one half of it, one position higher.
-fn first_digits(rounding: Rounding, v: Unrounded, end: u64, q: u64) -> Digits
-    requires { Measured v end q }
-    ensures { RoundedTo (env.rounding_of (rounding_number rounding)) v end q result }
+// The first digits, as many as `precision` says, of a value whose highest bit lies just below
+// `end`, rounded as if the exponent had no limit. Where they round up to 2^precision, they are one
+// half of it, one position higher.
+fn first_digits(rounding: Rounding, value: Unrounded, end: u64, precision: u64) -> Digits
+    requires { Measured value end precision }
+    ensures { RoundedTo (settings.rounding_of (rounding_number rounding)) value end precision
+        result }
 {
-    let lowest = end - q;
-    let first = v.cut(lowest);
-    let d = first.dropped;
-    let up = rounds_up(rounding, v.negative, first.kept, d);
-    let inexact = d.is_inexact();
+    let lowest = end - precision;
+    let first = value.cut(lowest);
+    let dropped = first.dropped;
+    let up = rounds_up(rounding, value.negative, first.kept, dropped);
+    let inexact = dropped.is_inexact();
     if !up {
         Digits {
             kept: first.kept,
@@ -150,7 +164,7 @@ fn first_digits(rounding: Rounding, v: Unrounded, end: u64, q: u64) -> Digits
             up,
             inexact,
         }
-    } else if first.kept < ones(q) {
+    } else if first.kept < ones(precision) {
         Digits {
             kept: first.kept + 1,
             lowest,
@@ -159,7 +173,7 @@ fn first_digits(rounding: Rounding, v: Unrounded, end: u64, q: u64) -> Digits
         }
     } else {
         Digits {
-            kept: power(q - 1),
+            kept: power(precision - 1),
             lowest: lowest + 1,
             up,
             inexact,
@@ -167,31 +181,34 @@ fn first_digits(rounding: Rounding, v: Unrounded, end: u64, q: u64) -> Digits
     }
 }
 
-// Whether q digits, kept * 2^lowest, are above the largest finite number. In NoInf the largest pattern of all is the NaN.
-fn overflows(f: Shape, q: u64, g: u64, kept: u64, lowest: u64) -> bool
-    requires range_bounds { (g < 2 ^ 62) × (lowest < 2 ^ 63) }
-    requires le_q { (1 ≤ q) × (q ≤ spec.digits (shape_of f)) × (bit_length kept ≡ q) }
-    ensures { result ≡ round.overflows (shape_of f) q g (kept * 2 ^ lowest) }
+// Whether so many digits, kept * 2^lowest, are above the largest finite number. In NoInf the
+// largest pattern of all is the NaN.
+fn overflows(shape: Shape, precision: u64, grid: u64, kept: u64, lowest: u64) -> bool
+    requires range_bounds { (grid < 2 ^ 62) × (lowest < 2 ^ 63) }
+    requires le_q { (1 ≤ precision) × (precision ≤ spec.digits (shape_of shape))
+        × (bit_length kept ≡ precision) }
+    ensures { result ≡ round.overflows (shape_of shape) precision grid (kept * 2 ^ lowest) }
 {
-    let top = lowest + (q - 1);
-    let most = f.emax(g);
+    let top = lowest + (precision - 1);
+    let most = shape.emax(grid);
     if top != most {
         return top > most;
     }
-    f.kind.is_no_inf() && q == f.digits() && kept == ones(q)
+    shape.kind.is_no_inf() && precision == shape.digits() && kept == ones(precision)
 }
 
-// The largest finite number of q digits.
-fn largest(f: Shape, q: u64, negative: bool) -> Unpacked
-    requires { (1 ≤ q) × (q ≤ spec.digits (shape_of f)) }
-    ensures { (unpacked_of result ≡ round.largest (shape_of f) q negative) × Encodes (shape_of f) (unpacked_of result) }
+// The largest finite number of so many digits.
+fn largest(shape: Shape, precision: u64, negative: bool) -> Unpacked
+    requires { (1 ≤ precision) × (precision ≤ spec.digits (shape_of shape)) }
+    ensures { (unpacked_of result ≡ round.largest (shape_of shape) precision negative)
+        × Encodes (shape_of shape) (unpacked_of result) }
 {
-    let p = f.digits();
-    let all = scaled(ones(q), p - q);
+    let digits = shape.digits();
+    let all = scaled(ones(precision), digits - precision);
     Unpacked::Finite {
         negative,
-        shift: f.exponent_range(),
-        significand: if f.kind.is_no_inf() && q == p {
+        shift: shape.exponent_range(),
+        significand: if shape.kind.is_no_inf() && precision == digits {
             all - 1
         } else {
             all
@@ -203,20 +220,22 @@ const OVERFLOWED: u64 = OVERFLOW + INEXACT;
 
 const OVERFLOWED_UP: u64 = OVERFLOWED + ROUNDED_UP;
 
-// What an overflow gives: an infinity or, in a kind without one, the NaN; the largest number where the mode or `saturate` says so, and in a
-// kind that has neither. Only the infinity is above the exact value.
-fn overflow(f: Shape, c: Env, q: u64, negative: bool) -> Rounded
-    requires { (1 ≤ q) × (q ≤ spec.digits (shape_of f)) }
-    ensures { (rounded_of result ≡ round.overflow (shape_of f) (env_of c) q negative) × Encodes (shape_of f) (unpacked_of result.value) × (result.flags < 128) }
+// What an overflow gives: an infinity or, in a kind without one, the NaN; the largest number where
+// the mode or `saturate` says so, and in a kind that has neither. Only the infinity is above the
+// exact value.
+fn overflow(shape: Shape, env: Env, precision: u64, negative: bool) -> Rounded
+    requires { (1 ≤ precision) × (precision ≤ spec.digits (shape_of shape)) }
+    ensures { (rounded_of result ≡ round.overflow (shape_of shape) (env_of env) precision negative)
+        × Encodes (shape_of shape) (unpacked_of result.value) × (result.flags < 128) }
 {
     let most = Rounded {
-        value: largest(f, q, negative),
+        value: largest(shape, precision, negative),
         flags: OVERFLOWED,
     };
-    if c.saturate || !overflows_to_infinity(c.rounding, negative) {
+    if env.saturate || !overflows_to_infinity(env.rounding, negative) {
         return most;
     }
-    match f.kind {
+    match shape.kind {
         Kind::Ieee => Rounded {
             value: Unpacked::Infinity(negative),
             flags: OVERFLOWED_UP,
@@ -233,36 +252,45 @@ fn overflow(f: Shape, c: Env, q: u64, negative: bool) -> Rounded
     }
 }
 
-// A magnitude of at least 2^emin: its first q digits.
-fn round_normal(f: Shape, c: Env, g: u64, v: Unrounded, q: u64, d: Digits) -> Rounded
-    requires { Begins (shape_of f) (env_of c) g v q d × (spec.emin_at (shape_of f) g < end_of v) }
-    ensures { RoundedOnce (shape_of f) (env_of c) g v result }
+// A magnitude of at least 2^emin: its first digits.
+fn round_normal(
+    shape: Shape,
+    env: Env,
+    grid: u64,
+    value: Unrounded,
+    precision: u64,
+    first: Digits,
+) -> Rounded
+    requires { Begins (shape_of shape) (env_of env) grid value precision first
+        × (spec.emin_at (shape_of shape) grid < end_of value) }
+    ensures { RoundedOnce (shape_of shape) (env_of env) grid value result }
 {
-    let p = f.digits();
-    if overflows(f, q, g, d.kept, d.lowest) {
-        return overflow(f, c, q, v.negative);
+    let digits = shape.digits();
+    if overflows(shape, precision, grid, first.kept, first.lowest) {
+        return overflow(shape, env, precision, value.negative);
     }
     Rounded {
         value: Unpacked::Finite {
-            negative: v.negative,
-            shift: d.lowest + q - (g + p),
-            significand: scaled(d.kept, p - q),
+            negative: value.negative,
+            shift: first.lowest + precision - (grid + digits),
+            significand: scaled(first.kept, digits - precision),
         },
-        flags: flag(INEXACT, d.inexact) + flag(ROUNDED_UP, d.up),
+        flags: flag(INEXACT, first.inexact) + flag(ROUNDED_UP, first.up),
     }
 }
 
-// Whether a magnitude below 2^emin is tiny: before rounding it is; after rounding, while its rounded digits, up to `end`, stay below emin.
+// Whether a magnitude below 2^emin is tiny: before rounding it is; after rounding, while its
+// rounded digits, up to `end`, stay below emin.
 fn is_tiny(tininess: Tininess, end: u64, least: u64) -> bool
     ensures { result ≡ cond (basics.is_set (tininess_number tininess)) (leb end least) true }
 {
     tininess == Tininess::BeforeRounding || end <= least
 }
 
-// Digits on the subnormal grid.
-fn small_number(negative: bool, kept: u64, n: u64) -> Unpacked
-    requires { (n < 64) × (kept * 2 ^ n < 2 ^ 64) }
-    ensures { unpacked_of result ≡ small_of negative kept n }
+// Digits on the subnormal grid, `up` places above its unit.
+fn small_number(negative: bool, kept: u64, up: u64) -> Unpacked
+    requires { (up < 64) × (kept * 2 ^ up < 2 ^ 64) }
+    ensures { unpacked_of result ≡ small_of negative kept up }
 {
     if kept == 0 {
         Unpacked::Zero(negative)
@@ -270,24 +298,32 @@ fn small_number(negative: bool, kept: u64, n: u64) -> Unpacked
         Unpacked::Finite {
             negative,
             shift: 0,
-            significand: scaled(kept, n),
+            significand: scaled(kept, up),
         }
     }
 }
 
-// A magnitude below 2^emin: the digits down to the subnormal grid. They are cut from the value itself; the first q digits decide only
-// whether it is tiny.
-fn round_small(f: Shape, c: Env, g: u64, v: Unrounded, q: u64, unlimited: Digits) -> Rounded
-    requires { Begins (shape_of f) (env_of c) g v q unlimited × (end_of v ≤ spec.emin_at (shape_of f) g) }
-    ensures { RoundedOnce (shape_of f) (env_of c) g v result }
+// A magnitude below 2^emin: the digits down to the subnormal grid. They are cut from the value
+// itself; the first digits, as if the exponent had no limit, decide only whether it is tiny.
+fn round_small(
+    shape: Shape,
+    env: Env,
+    grid: u64,
+    value: Unrounded,
+    precision: u64,
+    unlimited: Digits,
+) -> Rounded
+    requires { Begins (shape_of shape) (env_of env) grid value precision unlimited
+        × (end_of value ≤ spec.emin_at (shape_of shape) grid) }
+    ensures { RoundedOnce (shape_of shape) (env_of env) grid value result }
 {
-    let negative = v.negative;
-    let p = f.digits();
-    let tiny = is_tiny(c.tininess, unlimited.lowest + q, f.emin(g));
-    let first = v.cut(g + (p - q));
-    let d = first.dropped;
-    let up = rounds_up(c.rounding, negative, first.kept, d);
-    match Underflow::new(tiny, d.is_inexact(), c.flush_to_zero) {
+    let negative = value.negative;
+    let digits = shape.digits();
+    let tiny = is_tiny(env.tininess, unlimited.lowest + precision, shape.emin(grid));
+    let first = value.cut(grid + (digits - precision));
+    let dropped = first.dropped;
+    let up = rounds_up(env.rounding, negative, first.kept, dropped);
+    match Underflow::new(tiny, dropped.is_inexact(), env.flush_to_zero) {
         Underflow::Flushed(flags) => Rounded {
             value: Unpacked::Zero(negative),
             flags,
@@ -296,24 +332,25 @@ fn round_small(f: Shape, c: Env, g: u64, v: Unrounded, q: u64, unlimited: Digits
             let kept = first.kept + flag(1, up);
             let raised = flags + flag(ROUNDED_UP, up);
             Rounded {
-                value: small_number(negative, kept, p - q),
+                value: small_number(negative, kept, digits - precision),
                 flags: raised,
             }
         }
     }
 }
 
-// One rounding of a non-zero magnitude, where g is the position of the format's least non-zero number.
-pub fn round(f: Shape, c: Env, g: u64, v: Unrounded) -> Rounded
-    requires { Rounds (shape_of f) (env_of c) g v }
-    ensures { RoundedOnce (shape_of f) (env_of c) g v result }
+/// One rounding of a non-zero magnitude, where `grid` is the position of the format's least
+/// non-zero number (docs/SPECIFICATION.md, The one rounding).
+pub fn round(shape: Shape, env: Env, grid: u64, value: Unrounded) -> Rounded
+    requires { Rounds (shape_of shape) (env_of env) grid value }
+    ensures { RoundedOnce (shape_of shape) (env_of env) grid value result }
 {
-    let end = v.position + v.length();
-    let q = c.digits(f);
-    let d = first_digits(c.rounding, v, end, q);
-    if end > f.emin(g) {
-        round_normal(f, c, g, v, q, d)
+    let end = value.position + value.length();
+    let precision = env.digits(shape);
+    let first = first_digits(env.rounding, value, end, precision);
+    if end > shape.emin(grid) {
+        round_normal(shape, env, grid, value, precision, first)
     } else {
-        round_small(f, c, g, v, q, d)
+        round_small(shape, env, grid, value, precision, first)
     }
 }

@@ -1,14 +1,15 @@
-// The rounding rules: the dropped part against half a unit, which way each direction goes, and the flags of a result that may be tiny.
+// The rounding rules: the dropped part against half a unit, which way each direction goes, and the
+// flags of a result that may be tiny.
 ghost use Rattle.std.specs.Prelude.{◌≡◌};
-ghost use Rattle.totals_spec.specs.Settings as env;
-ghost use Rattle.totals_spec.specs.Round as spec;
+ghost use Rattle.totals_spec.specs.formats.Settings as settings;
+ghost use Rattle.totals_spec.specs.rounding.Round as spec;
 ghost use Rattle.format.specs.Modes.{rounding_number};
-ghost use Rattle.exact.specs.Joined.{dropped_of, dropped_by, nearest_up, underflow_of};
+ghost use Rattle.exact.specs.Unrounded.{dropped_of, dropped_by, nearest_up, underflow_of};
 
-use format::env::{INEXACT, TINY, UNDERFLOW};
+use format::flags::{INEXACT, TINY, UNDERFLOW};
 use format::modes::Rounding;
 
-// The dropped part of a magnitude, against half a unit of the last kept digit.
+/// The dropped part of a magnitude, against half a unit of the last kept digit.
 #[derive(Clone, Copy)]
 pub enum Dropped {
     Nothing,
@@ -18,7 +19,7 @@ pub enum Dropped {
 }
 
 impl Dropped {
-    // From the first dropped bit, and whether anything lies below it.
+    /// From the first dropped bit, and whether anything lies below it.
     pub fn new(first: bool, rest: bool) -> Self
         ensures { dropped_of result ≡ dropped_by first rest }
     {
@@ -30,6 +31,7 @@ impl Dropped {
         }
     }
 
+    /// Whether anything is dropped.
     pub fn is_inexact(self) -> bool
         ensures { result ≡ spec.inexact (dropped_of self) }
     {
@@ -38,35 +40,38 @@ impl Dropped {
 }
 
 // Whether a rounding to nearest adds a unit, where a tie does as told.
-fn nearest(d: Dropped, tie: bool) -> bool
-    ensures { result ≡ nearest_up (dropped_of d) tie }
+fn nearest(dropped: Dropped, tie: bool) -> bool
+    ensures { result ≡ nearest_up (dropped_of dropped) tie }
 {
-    match d {
+    match dropped {
         Dropped::Nothing | Dropped::BelowHalf => false,
         Dropped::Half => tie,
         Dropped::AboveHalf => true,
     }
 }
 
-// Whether a rounding adds one unit to the kept digits.
-pub fn rounds_up(rounding: Rounding, negative: bool, kept: u64, d: Dropped) -> bool
-    ensures { result ≡ spec.rounds_up (env.rounding_of (rounding_number rounding)) negative kept (dropped_of d) }
+/// Whether a rounding adds one unit to the kept digits (docs/SPECIFICATION.md, The one rounding).
+pub fn rounds_up(rounding: Rounding, negative: bool, kept: u64, dropped: Dropped) -> bool
+    ensures { let mode = settings.rounding_of (rounding_number rounding) in
+        result ≡ spec.rounds_up mode negative kept (dropped_of dropped) }
 {
     match rounding {
-        Rounding::TiesToEven => nearest(d, kept % 2 == 1),
-        Rounding::TiesToAway => nearest(d, true),
-        Rounding::TiesTowardZero => nearest(d, false),
-        Rounding::TowardPositive => d.is_inexact() && !negative,
-        Rounding::TowardNegative => d.is_inexact() && negative,
+        Rounding::TiesToEven => nearest(dropped, kept % 2 == 1),
+        Rounding::TiesToAway => nearest(dropped, true),
+        Rounding::TiesTowardZero => nearest(dropped, false),
+        Rounding::TowardPositive => dropped.is_inexact() && !negative,
+        Rounding::TowardNegative => dropped.is_inexact() && negative,
         Rounding::TowardZero => false,
-        Rounding::AwayFromZero => d.is_inexact(),
-        Rounding::ToOdd => d.is_inexact() && kept % 2 == 0,
+        Rounding::AwayFromZero => dropped.is_inexact(),
+        Rounding::ToOdd => dropped.is_inexact() && kept % 2 == 0,
     }
 }
 
-// Whether an overflow gives an infinity, and not the largest finite number.
+/// Whether an overflow gives an infinity, and not the largest finite number
+/// (docs/SPECIFICATION.md, The one rounding).
 pub fn overflows_to_infinity(rounding: Rounding, negative: bool) -> bool
-    ensures { result ≡ spec.to_infinity (env.rounding_of (rounding_number rounding)) negative }
+    ensures { result
+        ≡ spec.to_infinity (settings.rounding_of (rounding_number rounding)) negative }
 {
     match rounding {
         Rounding::TiesToEven
@@ -81,7 +86,7 @@ pub fn overflows_to_infinity(rounding: Rounding, negative: bool) -> bool
 
 const TINY_INEXACT: u64 = UNDERFLOW + INEXACT + TINY;
 
-// The flags of a result by whether it is tiny and inexact. Flushed: a zero takes its place.
+/// The flags of a result by whether it is tiny and inexact. Flushed: a zero takes its place.
 #[derive(Clone, Copy)]
 pub enum Underflow {
     Flushed(u64),
@@ -89,8 +94,9 @@ pub enum Underflow {
 }
 
 impl Underflow {
+    /// From whether a result is tiny, whether it is inexact, and whether such a one is flushed.
     pub fn new(tiny: bool, inexact: bool, flush_to_zero: bool) -> Self
-        ensures { result ≡ underflow_of tiny inexact (flush_to_zero) }
+        ensures { result ≡ underflow_of tiny inexact flush_to_zero }
     {
         if tiny && flush_to_zero {
             return Underflow::Flushed(TINY_INEXACT);

@@ -11,8 +11,8 @@ use mir.Syntax.{w64}
 use mir.Val.{to_z, of_z}
 use borrow.Author.Tests.{ltb-true}
 use Rattle.limbs.proofs.Signs.{read, test_read}
-use Rattle.totals_spec.specs.Bounds.{Offered}
-use Rattle.totals_spec.specs.Format.{offered, bias_part, lift_part}
+use Rattle.totals_spec.specs.formats.Bounds.{Offered}
+use Rattle.totals_spec.specs.formats.Format.{offered, bias_part, lift_part}
 
 -- ---- by its sign
 

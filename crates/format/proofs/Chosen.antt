@@ -4,7 +4,7 @@ use Prim.Native.Nat.{ℕ, zero, suc}
 use lib.Dec.{eqb}
 use native.Mathlib.Omega.{arith}
 use borrow.Author.Tests.{ne_eqb}
-use Rattle.totals_spec.specs.Settings.{chosen, rounding_of, is_toward_negative}
+use Rattle.totals_spec.specs.formats.Settings.{chosen, rounding_of, is_toward_negative}
 
 pub chosen-some : (q p : ℕ) → (q ≡ 0 → ⊥) → chosen q p ≡ q
 chosen-some zero p h = absurd (h refl)

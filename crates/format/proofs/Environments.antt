@@ -4,8 +4,8 @@ use Rattle.std.specs.Option.{ForSome, unwrap_or}
 use lib.Dec.{leb}
 use borrow.Author.Tests.{le-leb, lt-leb}
 use Rattle.totals_spec.specs.Basics.{is_set}
-use Rattle.totals_spec.specs.Format.{Format, digits}
-use Rattle.totals_spec.specs.Settings.{Settings, valid_settings, chosen}
+use Rattle.totals_spec.specs.formats.Format.{Format, digits}
+use Rattle.totals_spec.specs.formats.Settings.{Settings, valid_settings, chosen}
 use Rattle.format.specs.declared.modes.Rounding.{Rounding}
 use Rattle.format.specs.declared.modes.Rounding.TheVariants.{TiesToEven, TiesToAway, TiesTowardZero}
 use Rattle.format.specs.declared.modes.Rounding.TheVariants.{TowardPositive, TowardNegative, TowardZero, AwayFromZero, ToOdd}
@@ -13,7 +13,7 @@ use Rattle.format.specs.declared.modes.Tininess.{Tininess}
 use Rattle.format.specs.declared.modes.Tininess.TheVariants.{BeforeRounding, AfterRounding}
 use Rattle.format.specs.declared.modes.NanPropagation.{NanPropagation}
 use Rattle.format.specs.declared.modes.NanPropagation.TheVariants.{SignalingFirst, FirstOperand, LargerSignificand, DefaultNan}
-use Rattle.format.specs.declared.environment.Env.{Env}
+use Rattle.format.specs.declared.env.Env.{Env}
 use Rattle.format.specs.Modes.{rounding_number, tininess_number, propagation_number, switch_number}
 use Rattle.format.specs.Environments.{env_of, are_modes, precision_number}
 use Rattle.format.proofs.Chosen.{chosen-some}
@@ -54,20 +54,20 @@ modes_in e =
       switch_in e.saturate,
     ) refl
 
-module _ (f : Format) (s : Settings) where
-  pub bad_modes : are_modes s ≡ false → valid_settings f s ≡ false
+module _ (format : Format) (settings : Settings) where
+  pub bad_modes : are_modes settings ≡ false → valid_settings format settings ≡ false
   unfolding valid_settings
   bad_modes h = rw h refl
 
-  module _ (e : Env) (is : env_of e ≡ s) where
-    modes : are_modes s ≡ true
+  module _ (e : Env) (is : env_of e ≡ settings) where
+    modes : are_modes settings ≡ true
     modes = subst (λ (x : Settings). are_modes x ≡ true) is (modes_in e)
 
-    pub all_valid : s.precision ≤ digits f → valid_settings f s ≡ true
+    pub all_valid : settings.precision ≤ digits format → valid_settings format settings ≡ true
     unfolding valid_settings
     all_valid h = rw (modes, le-leb _ _ h) refl
 
-    pub bad_precision : digits f < s.precision → valid_settings f s ≡ false
+    pub bad_precision : digits format < settings.precision → valid_settings format settings ≡ false
     unfolding valid_settings
     bad_precision h = rw (modes, lt-leb _ _ h) refl
 

@@ -1,5 +1,5 @@
 -- What a layout keeps to.
-use Rattle.totals_spec.specs.Bounds.{FormatBounds}
+use Rattle.totals_spec.specs.formats.Bounds.{FormatBounds}
 use Rattle.format.specs.declared.layout.Layout.{Layout}
 use Rattle.format.specs.Layouts.{layout_of}
 use Rattle.format.proofs.Shapes.{range_bounds}

@@ -8,10 +8,10 @@ use lib.Pow.{pow_mono}
 use mir.Syntax.{w64}
 use mir.Val.{to_z, of_z}
 use borrow.Author.Tests.{le-leb}
-use Rattle.totals_spec.specs.Bounds.{Offered, RangeBounds, FormatBounds}
-use Rattle.totals_spec.specs.Format as spec
-use Rattle.totals_spec.specs.Format.{valid_format, offered, bias_of, range_of, kind_of, bias, lift}
-use Rattle.totals_spec.proofs.Valid.{and_left, and_right, offered-le, format-bounds}
+use Rattle.totals_spec.specs.formats.Bounds.{Offered, RangeBounds, FormatBounds}
+use Rattle.totals_spec.specs.formats.Format as spec
+use Rattle.totals_spec.specs.formats.Format.{valid_format, offered, bias_of, range_of, kind_of, bias, lift}
+use Rattle.totals_spec.proofs.formats.Valid.{and_left, and_right, offered-le, format-bounds}
 use Rattle.format.specs.declared.kind.Kind.{Kind}
 use Rattle.format.specs.declared.kind.Kind.TheVariants.{Ieee, NoInf, Fnuz, Finite}
 use Rattle.format.specs.declared.shape.Shape.{Shape}
@@ -66,18 +66,18 @@ held : (b : Bool) → T b → b ≡ true
 held true t = refl
 held false t = elim t [ ]
 
-module _ (f : spec.Format) (h : valid_format f ≡ true) where
-  valid : FormatBounds f
-  valid = format-bounds f (subst T (sym h) tt)
+module _ (format : spec.Format) (h : valid_format format ≡ true) where
+  valid : FormatBounds format
+  valid = format-bounds format (subst T (sym h) tt)
 
-  named_offered : offered f.named ≡ true
+  named_offered : offered format.named ≡ true
   unfolding valid_format
-  named_offered = held _ (and_right (leb f.kind 3 && leb 2 f.E && leb f.E 28 && leb (f.E + 2) f.W && leb f.W 64) (offered f.named) (subst T (sym h) tt))
+  named_offered = held _ (and_right (leb format.kind 3 && leb 2 format.E && leb format.E 28 && leb (format.E + 2) format.W && leb format.W 64) (offered format.named) (subst T (sym h) tt))
 
-  pub valid_range : test_range f.E f.W f.named ≡ true
+  pub valid_range : test_range format.E format.W format.named ≡ true
   valid_range = rw (le-leb _ _ valid.e-ge, le-leb _ _ valid.e-le, le-leb _ _ valid.w-ge, le-leb _ _ valid.range.p-le, named_offered) refl
 
-  pub valid_narrow : f.W ≤ 64
+  pub valid_narrow : format.W ≤ 64
   valid_narrow = valid.w_le
 
 -- ---- by the kind

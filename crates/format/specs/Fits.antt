@@ -1,2 +1,2 @@
 -- What can be encoded.
-pub use Rattle.totals_spec.specs.Fits.{Encodes}
+pub use Rattle.totals_spec.specs.formats.Encodes.{Encodes}

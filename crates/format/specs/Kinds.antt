@@ -1,12 +1,12 @@
 -- The kinds of encodings, and the numbers of a format.
 use Rattle.std.specs.Prelude.{◌≡◌, ℕ, ◌+◌, ◌<◌, Bool, ◌&&◌, leb, ℤ, Option, Some, None, Result, MatchResult}
 use Rattle.std.proofs.Math.Option as math
-use Rattle.totals_spec.specs.Format as spec
+use Rattle.totals_spec.specs.formats.Format as spec
 use Rattle.format.specs.declared.kind.Kind.{Kind}
 use Rattle.format.specs.declared.kind.Kind.TheVariants.{Ieee, NoInf, Fnuz, Finite}
 use Rattle.format.specs.declared.kind.UnknownKind.{UnknownKind}
 
--- document 01's number of a kind
+-- the specification's number of a kind
 abbrev pub number_of : Kind → ℕ
 number_of Ieee = 0
 number_of NoInf = 1

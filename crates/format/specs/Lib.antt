@@ -1,4 +1,6 @@
-pub mod Joined
+pub mod Formats
+pub mod Settings
+pub mod Unpacked
 pub mod Fits
 pub mod Kinds
 pub mod Shapes

@@ -1,12 +1,14 @@
--- The modes, and their numbers in document 01.
+-- The modes, and their numbers in the specification.
 use Rattle.std.specs.Prelude.{◌≡◌, ℕ, ◌<◌, Bool, true, false, Result, MatchResult}
 use Rattle.format.specs.declared.modes.Rounding.{Rounding}
 use Rattle.format.specs.declared.modes.Rounding.TheVariants.{TiesToEven, TiesToAway, TiesTowardZero}
-use Rattle.format.specs.declared.modes.Rounding.TheVariants.{TowardPositive, TowardNegative, TowardZero, AwayFromZero, ToOdd}
+use Rattle.format.specs.declared.modes.Rounding.TheVariants.{TowardPositive, TowardNegative, TowardZero}
+use Rattle.format.specs.declared.modes.Rounding.TheVariants.{AwayFromZero, ToOdd}
 use Rattle.format.specs.declared.modes.Tininess.{Tininess}
 use Rattle.format.specs.declared.modes.Tininess.TheVariants.{BeforeRounding, AfterRounding}
 use Rattle.format.specs.declared.modes.NanPropagation.{NanPropagation}
-use Rattle.format.specs.declared.modes.NanPropagation.TheVariants.{SignalingFirst, FirstOperand, LargerSignificand, DefaultNan}
+use Rattle.format.specs.declared.modes.NanPropagation.TheVariants.{SignalingFirst, FirstOperand}
+use Rattle.format.specs.declared.modes.NanPropagation.TheVariants.{LargerSignificand, DefaultNan}
 use Rattle.format.specs.declared.modes.UnknownMode.{UnknownMode}
 
 abbrev pub rounding_number : Rounding → ℕ

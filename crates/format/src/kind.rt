@@ -1,10 +1,10 @@
 // The kinds of encodings (totals_spec, Format).
 ghost use Rattle.std.specs.Prelude.{◌≡◌};
-ghost use Rattle.totals_spec.specs.Format.{kind_of};
-ghost use Rattle.totals_spec.specs.Round.{is_no_inf};
+ghost use Rattle.totals_spec.specs.formats.Format.{kind_of};
+ghost use Rattle.totals_spec.specs.rounding.Round.{is_no_inf};
 ghost use Rattle.format.specs.Kinds.{number_of, Names};
 
-// What an exponent field of all ones and the other patterns stand for.
+/// What an exponent field of all ones and the other patterns stand for.
 #[derive(Clone, Copy, Debug, PartialEq, Eq)]
 pub enum Kind {
     Ieee,
@@ -14,7 +14,7 @@ pub enum Kind {
 }
 
 impl Kind {
-    // Whether the pattern of all ones is a NaN and no number.
+    /// Whether the pattern of all ones is a NaN and no number.
     pub fn is_no_inf(self) -> bool
         ensures { result ≡ is_no_inf (kind_of (number_of self)) }
     {
@@ -22,7 +22,7 @@ impl Kind {
     }
 }
 
-// A number that names no kind.
+/// A number that names no kind.
 #[derive(Clone, Copy, Debug, PartialEq, Eq)]
 pub struct UnknownKind(pub u64);
 

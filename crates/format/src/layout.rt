@@ -5,6 +5,7 @@ use crate::kind::Kind;
 use crate::shape::Shape;
 use crate::{Format, valid_format};
 
+/// A format that is offered, whose encodings each fit a word.
 #[derive(Clone, Copy, Debug, PartialEq, Eq)]
 pub struct Layout {
     pub shape: Shape,
@@ -13,26 +14,28 @@ pub struct Layout {
 
 impl Layout {
     ghost use Rattle.std.specs.Prelude.{◌≡◌, false, MatchOption};
-    ghost use Rattle.totals_spec.specs.Format.{valid_format};
-    ghost use Rattle.format.specs.Joined.{format_of};
+    ghost use Rattle.totals_spec.specs.formats.Format.{valid_format};
+    ghost use Rattle.format.specs.Formats.{format_of};
     ghost use Rattle.format.specs.Layouts.{IsLayout};
 
-    // The format with these numbers, where it is offered. Refusal 3 is the failure of this.
-    pub fn new(f: Format) -> Option<Layout>
-        ensures { MatchOption result (valid_format (format_of f) ≡ false) (IsLayout (format_of f)) }
+    /// The format with these numbers, where it is offered. Refusal 3 is the failure of this
+    /// (docs/SPECIFICATION.md, Refusals).
+    pub fn new(format: Format) -> Option<Layout>
+        ensures { MatchOption result (valid_format (format_of format) ≡ false)
+            (IsLayout (format_of format)) }
     {
-        let Ok(kind) = Kind::try_from(f.kind) else {
+        let Ok(kind) = Kind::try_from(format.kind) else {
             return None;
         };
-        if !valid_format(f) {
+        if !valid_format(format) {
             return None;
         }
         Some(Layout {
             shape: Shape {
                 kind,
-                exponent_bits: f.exponent_bits,
-                width: f.width,
-                bias: f.named,
+                exponent_bits: format.exponent_bits,
+                width: format.width,
+                bias: format.named,
             },
         })
     }

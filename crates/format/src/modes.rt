@@ -1,10 +1,11 @@
 // The modes that a caller names by numbers, as the definitions list them (totals_spec, Settings).
 ghost use Rattle.format.specs.Modes.{NamesRounding, NamesTininess, NamesPropagation, NamesSwitch};
 
-// A number that names no mode.
+/// A number that names no mode.
 #[derive(Clone, Copy, Debug, PartialEq, Eq)]
 pub struct UnknownMode(pub u64);
 
+/// To which of the two numbers beside an exact total it is rounded.
 #[derive(Clone, Copy, Debug, PartialEq, Eq)]
 pub enum Rounding {
     TiesToEven,
@@ -37,7 +38,7 @@ impl TryFrom<u64> for Rounding {
     }
 }
 
-// When a result is told to be tiny.
+/// When a result is told to be tiny.
 #[derive(Clone, Copy, Debug, PartialEq, Eq)]
 pub enum Tininess {
     BeforeRounding,
@@ -58,7 +59,7 @@ impl TryFrom<u64> for Tininess {
     }
 }
 
-// Which of several NaNs is given.
+/// Which of several NaNs is given.
 #[derive(Clone, Copy, Debug, PartialEq, Eq)]
 pub enum NanPropagation {
     SignalingFirst,
@@ -83,7 +84,7 @@ impl TryFrom<u64> for NanPropagation {
     }
 }
 
-// A setting that is off or on.
+/// A setting that is off or on.
 pub fn switch(number: u64) -> Result<bool, UnknownMode>
     ensures { NamesSwitch number result }
 {

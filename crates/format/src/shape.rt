@@ -1,5 +1,6 @@
-// The numbers of a format, and what follows from them. The exponent range is behind `emin`, `emax`, `depth`, `origin` and `grid`, `fall` and `rise`: only
-// these know the bias. Positions are counted in units, from 0 (totals_spec, Format).
+// The numbers of a format, and what follows from them. The exponent range is behind `emin`, `emax`,
+// `depth`, `origin` and `grid`, `fall` and `rise`: only these know the bias. Positions are counted
+// in units, from 0 (totals_spec, Format).
 ghost use Rattle.std.specs.Prelude.{IsTrue};
 ghost use Rattle.format.specs.Kinds.{in_range};
 
@@ -7,7 +8,8 @@ use crate::ROOM;
 use crate::kind::Kind;
 use limbs::word::power;
 
-// The kind, the width of the exponent field, the whole width, and the bias where one is named: at most 64 digits.
+/// The kind, the width of the exponent field, the whole width, and the bias where one is named: at
+/// most 64 digits.
 #[derive(Clone, Copy, Debug, PartialEq, Eq)]
 pub struct Shape {
     pub kind: Kind,
@@ -19,25 +21,27 @@ pub struct Shape {
 
 impl Shape {
     ghost use Rattle.std.specs.Prelude.{◌≡◌, ◌-◌, ◌^◌, ◌<◌, ◌≤◌};
-    ghost use Rattle.totals_spec.specs.Format.{kind_of, digits, fraction_bits, bias_of, bias, lift, exponent_range, depth, origin, fall, grid, rise, emin_at, emax_at};
+    ghost use Rattle.totals_spec.specs.formats.Format.{kind_of, digits, fraction_bits, bias_of, bias, lift};
+    ghost use Rattle.totals_spec.specs.formats.Format.{exponent_range, depth, origin, fall, grid, rise};
+    ghost use Rattle.totals_spec.specs.formats.Format.{emin_at, emax_at};
     ghost use Rattle.format.specs.Kinds.{number_of};
     ghost use Rattle.format.specs.Shapes.{shape_of};
 
-    // p, the digits of a significand.
+    /// p, the digits of a significand.
     pub fn digits(self) -> u64
         ensures { result ≡ digits (shape_of self) }
     {
         self.width - self.exponent_bits
     }
 
-    // The width of the fraction field.
+    /// The width of the fraction field.
     pub fn fraction_bits(self) -> u64
         ensures { result ≡ fraction_bits (shape_of self) }
     {
         self.digits() - 1
     }
 
-    // The largest exponent field: all ones.
+    /// The largest exponent field: all ones.
     pub fn field_max(self) -> u64
         ensures value { result ≡ 2 ^ self.exponent_bits - 1 }
         ensures bound { result < 2 ^ self.exponent_bits }
@@ -57,7 +61,7 @@ impl Shape {
         }
     }
 
-    // The bias, and 0 where a negative one is named: `lift` is its magnitude then.
+    /// The bias, and 0 where a negative one is named: `lift` is its magnitude then.
     pub fn bias_above(self) -> u64
         ensures value { result ≡ bias (shape_of self) }
         ensures bound { result ≤ 268435456 }
@@ -68,6 +72,7 @@ impl Shape {
         }
     }
 
+    /// The magnitude of a negative bias that is named, else 0.
     pub fn lift(self) -> u64
         ensures value { result ≡ lift (shape_of self) }
         ensures bound { result ≤ 268435456 }
@@ -78,7 +83,7 @@ impl Shape {
         }
     }
 
-    // emax - emin
+    /// emax - emin
     pub fn exponent_range(self) -> u64
         ensures value { result ≡ exponent_range (shape_of self) }
         ensures bound { result < 268435456 }
@@ -90,7 +95,7 @@ impl Shape {
         }
     }
 
-    // The least non-zero number is 2^(lift - depth).
+    /// The least non-zero number is 2^(lift - depth).
     pub fn depth(self) -> u64
         ensures value { result ≡ depth (shape_of self) }
         ensures bound { result < 268435520 }
@@ -98,8 +103,8 @@ impl Shape {
         self.bias_above() + self.digits() - 2
     }
 
-    // The position of the bit worth 1 plus `fall`, in the units of a sum or of a sum of products.
-    #[tactic(auto, unfolding(totals_spec::specs::Format::origin))]
+    /// The position of the bit worth 1 plus `fall`, in the units of a sum or of a sum of products.
+    #[tactic(auto, unfolding(totals_spec::specs::formats::Format::origin))]
     pub fn origin(self, products: bool) -> u64
         ensures value { result ≡ origin (shape_of self) products }
         ensures bound { result < 1073741824 }
@@ -108,7 +113,8 @@ impl Shape {
         if products { ROOM + d + d } else { ROOM + d }
     }
 
-    #[tactic(auto, unfolding(totals_spec::specs::Format::fall))]
+    /// How far a negative bias lies below 0, in a sum, or twice in a sum of products.
+    #[tactic(auto, unfolding(totals_spec::specs::formats::Format::fall))]
     pub fn fall(self, products: bool) -> u64
         ensures value { result ≡ fall (shape_of self) products }
         ensures bound { result ≤ 536870912 }
@@ -117,8 +123,9 @@ impl Shape {
         if products { n + n } else { n }
     }
 
-    // The position of the least non-zero number plus `rise`, which only products have: in a sum the least number lies at the same place whatever the bias.
-    #[tactic(auto, unfolding(totals_spec::specs::Format::grid))]
+    /// The position of the least non-zero number plus `rise`, which only products have: in a sum
+    /// the least number lies at the same place whatever the bias.
+    #[tactic(auto, unfolding(totals_spec::specs::formats::Format::grid))]
     pub fn grid(self, products: bool) -> u64
         ensures value { result ≡ grid (shape_of self) products }
         ensures bound { result < 1073741824 }
@@ -126,7 +133,9 @@ impl Shape {
         if products { ROOM + self.depth() } else { ROOM }
     }
 
-    #[tactic(auto, unfolding(totals_spec::specs::Format::rise))]
+    /// The part of the position of the least non-zero number that a negative bias makes: in
+    /// products alone.
+    #[tactic(auto, unfolding(totals_spec::specs::formats::Format::rise))]
     pub fn rise(self, products: bool) -> u64
         ensures value { result ≡ rise (shape_of self) products }
         ensures bound { result ≤ 268435456 }
@@ -134,19 +143,19 @@ impl Shape {
         if products { self.lift() } else { 0 }
     }
 
-    // The position of the highest bit of the least normal number, from the grid's.
-    pub fn emin(self, g: u64) -> u64
-        requires { g < 2 ^ 62 }
-        ensures { result ≡ emin_at (shape_of self) g }
+    /// The position of the highest bit of the least normal number, from the grid's.
+    pub fn emin(self, base: u64) -> u64
+        requires { base < 2 ^ 62 }
+        ensures { result ≡ emin_at (shape_of self) base }
     {
-        g + (self.digits() - 1)
+        base + (self.digits() - 1)
     }
 
-    // The position of the highest bit of the largest number.
-    pub fn emax(self, g: u64) -> u64
-        requires { g < 2 ^ 62 }
-        ensures { result ≡ emax_at (shape_of self) g }
+    /// The position of the highest bit of the largest number.
+    pub fn emax(self, base: u64) -> u64
+        requires { base < 2 ^ 62 }
+        ensures { result ≡ emax_at (shape_of self) base }
     {
-        self.emin(g) + self.exponent_range()
+        self.emin(base) + self.exponent_range()
     }
 }

@@ -1,4 +1,5 @@
-// A decoded value. A finite number is significand * 2^shift, counted in the format's least non-zero number. Its significand is not 0.
+/// A decoded value. A finite number is significand * 2^shift, counted in the format's least
+/// non-zero number. Its significand is not 0.
 #[derive(Clone, Copy)]
 pub enum Unpacked {
     Zero(bool),

@@ -1,7 +1,7 @@
--- Hex digits in bytes, by the program's digits (document 01).
+-- Hex digits in bytes, by the program's digits (docs/SPECIFICATION.md, The program).
 use Rattle.std.specs.Prelude.{List, ℕ, zero, suc, ◌+◌, ◌*◌, get_or, Option, None, Some}
 use Rattle.std.proofs.Math.Option as math
-use Rattle.totals_spec.specs.Program.{hex_digit}
+use Rattle.totals_spec.specs.program.Program.{hex_digit}
 
 -- the definitions' option as the code's
 abbrev pub option_of : {A : Type 0} → math.Option A → Option A

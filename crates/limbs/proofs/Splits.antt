@@ -1,4 +1,5 @@
--- `window-bits`: of every bit of a window, the word and the place that `split` finds are those of a division by 64.
+-- `window-bits`: of every bit of a window, the word and the place that `split` finds are those of a
+-- division by 64.
 use Rattle.std.proofs.Common.{refl, mod-lt, div-add-mod', arith}
 use Rattle.limbs.specs.Splits.{Window-bits}
 

@@ -7,7 +7,7 @@ pub record Splits (position : ℕ) (p : Place) : Type 0 where
   pub bit : p.bit ≡ position % 64
   pub small : p.bit < 64
 
--- ---- how it is found (document 02, A.5): no step divides
+-- ---- how it is found: no step divides
 
 -- the word: the position shifted down by 6
 abbrev pub shifted_word : ℕ → ℕ
@@ -17,7 +17,8 @@ shifted_word i = i / 2 ^ 6
 abbrev pub left_over : ℕ → ℕ
 left_over i = i - shifted_word i * 2 ^ 6
 
--- bit i of a window: one of its twelve words, the quotient by 64, and one of that word's 64 places, the remainder
+-- bit i of a window: one of its twelve words, the quotient by 64, and one of that word's 64 places,
+-- the remainder
 pub record Found (i : ℕ) : Type 0 where
   pub quotient : shifted_word i ≡ i / 64
   pub remainder : left_over i ≡ i % 64

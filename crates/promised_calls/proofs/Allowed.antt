@@ -1,13 +1,13 @@
 -- A total within an allowance whose record is that of the definition.
 use Rattle.std.proofs.Common.{◌≡◌, ℕ, List, sym, ◌∙◌, subst}
-use Rattle.totals_spec.specs.Format.{Format}
-use Rattle.totals_spec.specs.Settings.{Settings}
-use Rattle.totals_spec.specs.Conditions.{sum_conditions, dot_conditions}
-use Rattle.totals_spec.specs.Places.{StrayAt, DotStrayAt}
-use Rattle.totals_spec.specs.Totals.{sum_refusal, dot_refusal}
-use Rattle.further_spec.specs.Conditions.{within_conditions}
-use Rattle.further_spec.specs.Estimate.{Estimate, sum_within, dot_within}
-use Rattle.further_spec.proofs.Promises.{within-refusal, within-refused, within-place, within-order}
+use Rattle.totals_spec.specs.formats.Format.{Format}
+use Rattle.totals_spec.specs.formats.Settings.{Settings}
+use Rattle.totals_spec.specs.refusals.Conditions.{sum_conditions, dot_conditions}
+use Rattle.totals_spec.specs.refusals.Places.{StrayAt, DotStrayAt}
+use Rattle.totals_spec.specs.sums.Totals.{sum_refusal, dot_refusal}
+use Rattle.targets_spec.specs.within.Conditions.{within_conditions}
+use Rattle.targets_spec.specs.within.Estimate.{Estimate, sum_within, dot_within}
+use Rattle.targets_spec.proofs.within.Answers.{within-refusal, within-refused, within-place, within-order}
 use Rattle.promised_calls.specs.Order.{Rearranged, PairsRearranged, WithoutNan}
 use Rattle.promised_calls.specs.Refusals.{RefusesExactly, RefusalAlone, PlacedAt}
 

@@ -1,48 +1,50 @@
 -- A call whose record is that of the definition has what is promised of it.
 use Rattle.std.proofs.Common.{◌≡◌, ℕ, ◌≤◌, List, sym, ap, ◌∙◌, subst}
-use Rattle.totals_spec.specs.Format.{Format, binary64}
-use Rattle.totals_spec.specs.Settings.{Settings, summand_of}
-use Rattle.totals_spec.specs.Places.{StrayAt, DotStrayAt}
-use Rattle.totals_spec.specs.Conditions.{sum_conditions, dot_conditions}
-use Rattle.totals_spec.specs.Limit.{ceil_div, most_passes}
-use Rattle.totals_spec.specs.Totals as spec
-use Rattle.totals_spec.specs.Totals.{sum_answer, sum_refusal, sum_terms, dot_answer, dot_refusal, dot_terms}
-use Rattle.totals_spec.proofs.Promises.{sum-order, dot-order, sum-refusal, dot-refusal, sum-refused, dot-refused, sum-place, dot-place}
-use Rattle.totals_spec.proofs.Promises.{sum-refused-exactly, dot-refused-exactly, sum-limit, dot-limit}
-use Rattle.totals_spec.proofs.Promises.{binary64-sum-limit, binary64-square-limit, binary64-dot-limit}
+use Rattle.totals_spec.specs.formats.Format.{Format, binary64}
+use Rattle.totals_spec.specs.formats.Settings.{Settings, summand_of}
+use Rattle.totals_spec.specs.refusals.Places.{StrayAt, DotStrayAt}
+use Rattle.totals_spec.specs.refusals.Conditions.{sum_conditions, dot_conditions}
+use Rattle.totals_spec.specs.chain.Limit.{ceil_div, most_passes}
+use Rattle.totals_spec.specs.sums.Totals as spec
+use Rattle.totals_spec.specs.sums.Totals.{sum_answer, sum_refusal, sum_terms, dot_answer, dot_refusal, dot_terms}
+use Rattle.totals_spec.proofs.order.Order.{sum-order, dot-order}
+use Rattle.totals_spec.proofs.refusals.RefusedRecords.{sum-refusal, dot-refusal, sum-refused, dot-refused, sum-place, dot-place}
+use Rattle.totals_spec.proofs.refusals.Exactly.{sum-refused-exactly, dot-refused-exactly}
+use Rattle.totals_spec.proofs.chain.PassesOfRecords.{sum-limit, dot-limit}
+use Rattle.totals_spec.proofs.chain.Binary64Limit.{binary64-sum-limit, binary64-square-limit, binary64-dot-limit}
+use Rattle.std.specs.Prelude.{Result, Ok, Err}
 use Rattle.reduction.specs.declared.total.Answer.{Answer}
-use Rattle.reduction.specs.Answered.{answer_of}
+use Rattle.totals.specs.declared.refusal.Refusal.{Refusal}
+use Rattle.totals.specs.Asked.{answer_in}
+use Rattle.totals.proofs.Refusals.{number-some}
 use Rattle.promised_calls.specs.Order.{Rearranged, PairsRearranged, WithoutNan}
 use Rattle.promised_calls.specs.Passes.{limit_of}
 use Rattle.promised_calls.specs.Refusals.{RefusesExactly, TellsNothingElse, PlacedAt}
 
+-- ---- one record
+
 -- the code's record has no field that the definition's has not
 abbrev code_of : spec.Answer → Answer
-code_of a = record {
-  result = a.result;
-  flags = a.flags;
-  passes = a.passes;
-  last_edge = a.last_edge;
-  refusal = a.refusal;
-  place = a.place;
-  side = a.side;
-}
+code_of a = record { result = a.result; flags = a.flags; passes = a.passes; last_edge = a.last_edge; side = a.side }
 
-pub same-record : (a b : Answer) → answer_of a ≡ answer_of b → a ≡ b
-same-record a b e = ap code_of e
+-- two totals of one record, of which the first is accepted, are the same
+pub same-total : (r s : Result Answer Refusal) → (answer_in r).refusal ≡ 0 → answer_in r ≡ answer_in s → r ≡ s
+same-total (Ok a) (Ok b) z e = ap (λ (x : spec.Answer). Ok (code_of x)) e
+same-total (Ok a) (Err q) z e = absurd (number-some q (sym (ap (λ (x : spec.Answer). x.refusal) e)))
+same-total (Err q) s z e = absurd (number-some q z)
 
 -- ---- a sum
 
-module _ (f : Format) (c : Settings) (u : ℕ) (l : List ℕ) (a : Answer) (is : answer_of a ≡ sum_answer f c u l) where
+module _ (f : Format) (c : Settings) (u : ℕ) (l : List ℕ) (a : spec.Answer) (is : a ≡ sum_answer f c u l) where
   -- what holds of the definition holds of the record
-  pub sum-has : (P : spec.Answer → Type 0) → P (sum_answer f c u l) → P (answer_of a)
+  pub sum-has : (P : spec.Answer → Type 0) → P (sum_answer f c u l) → P a
   sum-has P p = subst P (sym is) p
 
   pub sum_number : a.refusal ≡ sum_refusal f c u l
   sum_number = ap (λ (x : spec.Answer). x.refusal) is ∙ sum-refusal f c u l
 
-  pub sum-alike : (k : List ℕ) (b : Answer) → answer_of b ≡ sum_answer f c u k → Rearranged l k → a.refusal ≡ 0 → WithoutNan f l → a ≡ b
-  sum-alike k b is' h r n = same-record a b (is ∙ ((sum-order f c u l k h (sym sum_number ∙ r) n).1 ∙ sym is'))
+  pub sum-alike : (k : List ℕ) (b : spec.Answer) → b ≡ sum_answer f c u k → Rearranged l k → a.refusal ≡ 0 → WithoutNan f l → a ≡ b
+  sum-alike k b is' h r n = is ∙ ((sum-order f c u l k h (sym sum_number ∙ r) n).1 ∙ sym is')
 
   pub sum-passes : a.passes ≤ limit_of f (sum_terms f c (summand_of u) l)
   unfolding most_passes ceil_div
@@ -57,7 +59,7 @@ module _ (f : Format) (c : Settings) (u : ℕ) (l : List ℕ) (a : Answer) (is :
   pub sum-exactly : RefusesExactly (sum_conditions f c u l) a.refusal
   sum-exactly = sum-has (λ x. RefusesExactly (sum_conditions f c u l) x.refusal) (sum-refused-exactly f c u l)
 
-  pub sum-nothing-else : TellsNothingElse (answer_of a)
+  pub sum-nothing-else : TellsNothingElse a
   sum-nothing-else = sum-has TellsNothingElse (λ n. sum-told n)
     where
       sum-told : TellsNothingElse (sum_answer f c u l)
@@ -71,17 +73,17 @@ module _ (f : Format) (c : Settings) (u : ℕ) (l : List ℕ) (a : Answer) (is :
 
 -- ---- a dot product
 
-module _ (f : Format) (c : Settings) (xs ys : List ℕ) (a : Answer) (is : answer_of a ≡ dot_answer f c xs ys) where
-  pub dot-has : (P : spec.Answer → Type 0) → P (dot_answer f c xs ys) → P (answer_of a)
+module _ (f : Format) (c : Settings) (xs ys : List ℕ) (a : spec.Answer) (is : a ≡ dot_answer f c xs ys) where
+  pub dot-has : (P : spec.Answer → Type 0) → P (dot_answer f c xs ys) → P a
   dot-has P p = subst P (sym is) p
 
   pub dot-number : a.refusal ≡ dot_refusal f c xs ys
   dot-number = ap (λ (x : spec.Answer). x.refusal) is ∙ dot-refusal f c xs ys
 
-  pub dot-alike : (xs' ys' : List ℕ) (b : Answer) → answer_of b ≡ dot_answer f c xs' ys' → PairsRearranged xs ys xs' ys' → a.refusal ≡ 0
+  pub dot-alike : (xs' ys' : List ℕ) (b : spec.Answer) → b ≡ dot_answer f c xs' ys' → PairsRearranged xs ys xs' ys' → a.refusal ≡ 0
       → WithoutNan f xs → WithoutNan f ys → a ≡ b
   dot-alike xs' ys' b is' h r n m =
-      same-record a b (is ∙ ((dot-order f c xs ys xs' ys' h.0 h.1 (sym dot-number ∙ r) n m).1 ∙ sym is'))
+      is ∙ ((dot-order f c xs ys xs' ys' h.0 h.1 (sym dot-number ∙ r) n m).1 ∙ sym is')
 
   pub dot-passes : a.passes ≤ limit_of f (dot_terms f c xs ys)
   unfolding most_passes ceil_div
@@ -93,7 +95,7 @@ module _ (f : Format) (c : Settings) (xs ys : List ℕ) (a : Answer) (is : answe
   pub dot-exactly : RefusesExactly (dot_conditions f c xs ys) a.refusal
   dot-exactly = dot-has (λ x. RefusesExactly (dot_conditions f c xs ys) x.refusal) (dot-refused-exactly f c xs ys)
 
-  pub dot-nothing-else : TellsNothingElse (answer_of a)
+  pub dot-nothing-else : TellsNothingElse a
   dot-nothing-else = dot-has TellsNothingElse (λ n. dot-told n)
     where
       dot-told : TellsNothingElse (dot_answer f c xs ys)

@@ -7,21 +7,24 @@ use mathlib.Core.Bool.{true≢false}
 use native.Mathlib.Nat.{suc-ne-zero}
 use lib.ListN.{length-drop}
 use borrow.Author.Tests.{eq-eqb, eqb-true, eqb-false, ltb-false, le-ltb}
-use Rattle.totals_spec.specs.Format.{Format}
-use Rattle.totals_spec.specs.Settings.{Settings}
-use Rattle.totals_spec.specs.Places.{StrayAt, DotStrayAt}
-use Rattle.totals_spec.specs.Totals.{Answer, sum_refusal, sum_answer, dot_refusal, dot_answer}
-use Rattle.totals_spec.specs.Bytes.{Entry, values_in, uneven, short, written, entered, sum_entry, dot_entry}
-use Rattle.totals_spec.specs.Extended.{is_extended, tens_in, extended_written, extended_entered, uneven_tens, short32}
-use Rattle.totals_spec.specs.Extended.{extended_sum_entry, extended_dot_entry, extended_sum_answer, extended_dot_answer, sum_call, dot_call}
-use Rattle.totals_spec.proofs.Refused.{by_tests, sum-small, dot-small}
-use Rattle.totals_spec.proofs.Promises.{sum-refusal, dot-refusal, sum-order, dot-order, sum-place, dot-place}
-use Rattle.totals_spec.specs.Extended.{extended_sum_refusal, extended_dot_refusal}
-use Rattle.totals_spec.proofs.ExtendedCalls.{sum-extended, dot-extended}
-use Rattle.totals_spec.proofs.Extended.{extended-sum-refusal, extended-dot-refusal, extended-order}
-use Rattle.totals_spec.proofs.Promises.{other-kinds, call-refused, entry-refused-exactly, extended-call-refused-exactly}
-use Rattle.totals_spec.specs.Conditions.{Uneven, UnevenTens, sum_conditions, dot_conditions, entry_conditions}
-use Rattle.totals_spec.specs.Conditions.{extended_sum_conditions, extended_dot_conditions, extended_entry_conditions}
+use Rattle.totals_spec.specs.formats.Format.{Format}
+use Rattle.totals_spec.specs.formats.Settings.{Settings}
+use Rattle.totals_spec.specs.refusals.Places.{StrayAt, DotStrayAt}
+use Rattle.totals_spec.specs.sums.Totals.{Answer, sum_refusal, sum_answer, dot_refusal, dot_answer}
+use Rattle.totals_spec.specs.entries.Bytes.{Entry, values_in, uneven, short, written, entered, sum_entry, dot_entry}
+use Rattle.totals_spec.specs.ten_bytes.Extended.{is_extended, tens_in, extended_written, extended_entered, uneven_tens, short32}
+use Rattle.totals_spec.specs.ten_bytes.Extended.{extended_sum_entry, extended_dot_entry, extended_sum_answer, extended_dot_answer, sum_call, dot_call}
+use Rattle.totals_spec.proofs.refusals.RefusedRecords.{by_tests, sum-small, dot-small}
+use Rattle.totals_spec.proofs.refusals.RefusedRecords.{sum-refusal, dot-refusal, sum-place, dot-place}
+use Rattle.totals_spec.proofs.order.Order.{sum-order, dot-order}
+use Rattle.totals_spec.specs.ten_bytes.Extended.{extended_sum_refusal, extended_dot_refusal}
+use Rattle.totals_spec.proofs.ten_bytes.Calls.{sum-extended, dot-extended}
+use Rattle.totals_spec.proofs.ten_bytes.Totals.{extended-sum-refusal, extended-dot-refusal, extended-order}
+use Rattle.totals_spec.proofs.ten_bytes.Calls.{other-kinds, call-refused, extended-call-refused-exactly}
+use Rattle.totals_spec.proofs.entries.RefusedExactly.{entry-refused-exactly}
+use Rattle.totals_spec.specs.refusals.Conditions.{Uneven, sum_conditions, dot_conditions, entry_conditions}
+use Rattle.totals_spec.specs.ten_bytes.Conditions.{UnevenTens}
+use Rattle.totals_spec.specs.ten_bytes.Conditions.{extended_sum_conditions, extended_dot_conditions, extended_entry_conditions}
 use Rattle.totals.specs.Entered.{Enters}
 use Rattle.promised_calls.specs.Order.{Rearranged, PairsRearranged}
 use Rattle.promised_calls.specs.Entries.{values_by, value_size, answer_size, nan_by, pair_nan_by}

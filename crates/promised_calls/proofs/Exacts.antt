@@ -2,22 +2,21 @@
 use Rattle.std.proofs.Common.{◌≡◌, ℕ, ◌<◌, List, sym, ap, ◌∙◌, subst}
 use Rattle.std.specs.Prelude.{Bool, true, ◌||◌, map, length}
 use Rattle.totals_spec.specs.Basics.{Signed}
-use Rattle.totals_spec.specs.Decode.{decode}
-use Rattle.totals_spec.specs.Format.{Format, grid}
-use Rattle.totals_spec.specs.Settings.{Settings, Summand, value, magnitude, square, summand_of}
-use Rattle.totals_spec.specs.Side.{side_of}
-use Rattle.totals_spec.specs.Terms.{item, pair_item, exact_sum}
-use Rattle.totals_spec.specs.Totals as spec
-use Rattle.totals_spec.specs.Totals.{on_grid, is_square, pairs, sum_terms, sum_answer, dot_terms, dot_answer}
-use Rattle.totals_spec.specs.Promises.{AllFinite, zero_answer, zero_for}
-use Rattle.totals_spec.proofs.Promises.{sum-zeros, dot-zeros, sum-side, dot-side}
+use Rattle.totals_spec.specs.formats.Decode.{decode}
+use Rattle.totals_spec.specs.formats.Format.{Format, grid}
+use Rattle.totals_spec.specs.formats.Settings.{Settings, Summand, value, magnitude, square, summand_of}
+use Rattle.totals_spec.specs.rounding.Side.{side_of}
+use Rattle.totals_spec.specs.terms.Terms.{item, pair_item, exact_sum}
+use Rattle.totals_spec.specs.sums.Totals as spec
+use Rattle.totals_spec.specs.sums.Totals.{on_grid, is_square, pairs, sum_terms, sum_answer, dot_terms, dot_answer}
+use Rattle.totals_spec.specs.sums.Promises.{AllFinite, zero_answer, zero_for}
+use Rattle.totals_spec.proofs.sums.ZeroTotals.{sum-zeros, dot-zeros}
+use Rattle.totals_spec.proofs.sums.Sides.{sum-side, dot-side}
 use Rattle.promises.specs.Special.{Cancelled, some_subnormal}
 use Rattle.promises.specs.Statements.{RoundedOnce}
-use Rattle.promises.proofs.Amounts.{exact-sum-means}
-use Rattle.promises.proofs.OnlyZeros.{sum-cancelled, dot-cancelled}
-use Rattle.promises.proofs.Sums.{sum-rounded-once, dot-rounded-once}
-use Rattle.reduction.specs.declared.total.Answer.{Answer}
-use Rattle.reduction.specs.Answered.{answer_of}
+use Rattle.promises.proofs.roundings.SumsOfAmounts.{exact-sum-means}
+use Rattle.promises.proofs.records.OnlyZeros.{sum-cancelled, dot-cancelled}
+use Rattle.promises.proofs.roundings.SumsRoundedOnce.{sum-rounded-once, dot-rounded-once}
 use Rattle.promised_calls.specs.Rounded.{exact_by, exact, exact_dot, grid_for}
 use Rattle.promised_calls.proofs.Calls.{sum-has, sum_number, dot-has, dot-number}
 
@@ -42,7 +41,7 @@ dot-rounded f c xs ys r h k =
     subst (λ (y : Signed). 0 < y.mag → RoundedOnce f c (grid f true) (some_subnormal f xs || some_subnormal f ys) y (dot_answer f c xs ys))
     (sym (exact-dot-is f c xs ys)) (dot-rounded-once f c xs ys r h k)
 
-module _ (f : Format) (c : Settings) (u : ℕ) (l : List ℕ) (a : Answer) (is : answer_of a ≡ sum_answer f c u l) (r : a.refusal ≡ 0)
+module _ (f : Format) (c : Settings) (u : ℕ) (l : List ℕ) (a : spec.Answer) (is : a ≡ sum_answer f c u l) (r : a.refusal ≡ 0)
     (h : AllFinite f l) where
   abbrev total : Signed
   total = on_grid f (is_square (summand_of u)) (exact_sum (sum_terms f c (summand_of u) l))
@@ -53,17 +52,17 @@ module _ (f : Format) (c : Settings) (u : ℕ) (l : List ℕ) (a : Answer) (is :
   sum-accepted : spec.sum_refusal f c u l ≡ 0
   sum-accepted = sym (sum_number f c u l a is) ∙ r
 
-  pub sum-once : 0 < (exact f c u l).mag → RoundedOnce f c (grid_for f u) (some_subnormal f l) (exact f c u l) (answer_of a)
+  pub sum-once : 0 < (exact f c u l).mag → RoundedOnce f c (grid_for f u) (some_subnormal f l) (exact f c u l) a
   sum-once n =
       sum-has f c u l a is (RoundedOnce f c (grid_for f u) (some_subnormal f l) (exact f c u l)) (sum-rounded f c u l sum-accepted h n)
 
-  pub sum-cancels : 0 < length (sum_terms f c (summand_of u) l) → (exact f c u l).mag ≡ 0 → Cancelled f c (some_subnormal f l) (answer_of a)
+  pub sum-cancels : 0 < length (sum_terms f c (summand_of u) l) → (exact f c u l).mag ≡ 0 → Cancelled f c (some_subnormal f l) a
   sum-cancels n e =
       sum-has f c u l a is (Cancelled f c (some_subnormal f l))
       (sum-cancelled f c u l sum-accepted h n (ap (λ (y : Signed). y.mag) (sym same-sum) ∙ e))
 
   pub sum-of-zeros : length (sum_terms f c (summand_of u) l) ≡ 0
-      → answer_of a ≡ zero_answer f (some_subnormal f l) (zero_for c (map (item f c (summand_of u)) l))
+      → a ≡ zero_answer f (some_subnormal f l) (zero_for c (map (item f c (summand_of u)) l))
   sum-of-zeros n = is ∙ sum-zeros f c u l sum-accepted h n
 
   pub sum-sided : a.side ≡ side_of (grid_for f u) (decode f a.result) (exact f c u l)
@@ -71,7 +70,7 @@ module _ (f : Format) (c : Settings) (u : ℕ) (l : List ℕ) (a : Answer) (is :
       subst (λ (y : Signed). a.side ≡ side_of (grid_for f u) (decode f a.result) y) (sym same-sum)
       (sum-has f c u l a is (λ b. b.side ≡ side_of (grid_for f u) (decode f b.result) total) (sum-side f c u l sum-accepted h))
 
-module _ (f : Format) (c : Settings) (xs ys : List ℕ) (a : Answer) (is : answer_of a ≡ dot_answer f c xs ys) (r : a.refusal ≡ 0)
+module _ (f : Format) (c : Settings) (xs ys : List ℕ) (a : spec.Answer) (is : a ≡ dot_answer f c xs ys) (r : a.refusal ≡ 0)
     (h : AllFinite f xs) (k : AllFinite f ys) where
   abbrev products : Signed
   products = on_grid f true (exact_sum (dot_terms f c xs ys))
@@ -86,16 +85,16 @@ module _ (f : Format) (c : Settings) (xs ys : List ℕ) (a : Answer) (is : answe
   sub = some_subnormal f xs || some_subnormal f ys
 
   pub dot-once : 0 < (exact_dot f c xs ys).mag
-      → RoundedOnce f c (grid f true) (some_subnormal f xs || some_subnormal f ys) (exact_dot f c xs ys) (answer_of a)
+      → RoundedOnce f c (grid f true) (some_subnormal f xs || some_subnormal f ys) (exact_dot f c xs ys) a
   dot-once n = dot-has f c xs ys a is (RoundedOnce f c (grid f true) sub (exact_dot f c xs ys)) (dot-rounded f c xs ys dot-accepted h k n)
 
   pub dot-cancels : 0 < length (dot_terms f c xs ys) → (exact_dot f c xs ys).mag ≡ 0
-      → Cancelled f c (some_subnormal f xs || some_subnormal f ys) (answer_of a)
+      → Cancelled f c (some_subnormal f xs || some_subnormal f ys) a
   dot-cancels n e =
       dot-has f c xs ys a is (Cancelled f c sub) (dot-cancelled f c xs ys dot-accepted h k n (ap (λ (y : Signed). y.mag) (sym same-dot) ∙ e))
 
   pub dot-of-zeros : length (dot_terms f c xs ys) ≡ 0
-      → answer_of a ≡ zero_answer f (some_subnormal f xs || some_subnormal f ys) (zero_for c (map (pair_item f c) (pairs xs ys)))
+      → a ≡ zero_answer f (some_subnormal f xs || some_subnormal f ys) (zero_for c (map (pair_item f c) (pairs xs ys)))
   dot-of-zeros n = is ∙ dot-zeros f c xs ys dot-accepted h k n
 
   pub dot-sided : a.side ≡ side_of (grid f true) (decode f a.result) (exact_dot f c xs ys)

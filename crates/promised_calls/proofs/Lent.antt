@@ -4,15 +4,16 @@ use Rattle.std.specs.Prelude.{Bool, true, false, not, ◌||◌, cond, ltb, lengt
 use native.Mathlib.Nat.{suc-ne-zero}
 use lib.ListN.{length-drop}
 use borrow.Author.Tests.{eqb-true, eqb-false, ltb-false, le-ltb}
-use Rattle.totals_spec.specs.Format.{Format}
-use Rattle.totals_spec.specs.Settings.{Settings}
-use Rattle.totals_spec.specs.Pence.{Pence, sum_pence}
-use Rattle.totals_spec.specs.Bytes.{Entry, to_bytes}
-use Rattle.totals_spec.specs.Table.{filled}
-use Rattle.totals_spec.specs.Words.{FigureEntry, figure_entered, misnamed, format_by, pence_entry}
-use Rattle.totals_spec.proofs.Promises.{pence-order, pence-entry-refused}
-use Rattle.further_spec.specs.Contribution.{Contribution, contribution, contribution_entered, contribution_entry}
-use Rattle.further_spec.proofs.Promises.{contribution-order}
+use Rattle.totals_spec.specs.formats.Format.{Format}
+use Rattle.totals_spec.specs.formats.Settings.{Settings}
+use Rattle.totals_spec.specs.pence.Pence.{Pence, sum_pence}
+use Rattle.totals_spec.specs.entries.Bytes.{Entry, to_bytes}
+use Rattle.totals_spec.specs.entries.Words.{filled}
+use Rattle.totals_spec.specs.pence.Entry.{FigureEntry, figure_entered, pence_entry}
+use Rattle.totals_spec.specs.entries.Words.{misnamed, format_by}
+use Rattle.totals_spec.proofs.pence.PenceOfLists.{pence-order, pence-entry-refused}
+use Rattle.targets_spec.specs.contribution.Contribution.{Contribution, contribution, contribution_entered, contribution_entry}
+use Rattle.targets_spec.proofs.contribution.Records.{contribution-order}
 use Rattle.totals.specs.Entered.{Enters, EntersFigure}
 use Rattle.promised_calls.specs.Lent.{names_bias, bias_told, pence_call, contribution_call, SameFirst, KeepsBehind}
 use Rattle.promised_calls.specs.Order.{Rearranged}

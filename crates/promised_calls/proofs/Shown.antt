@@ -7,17 +7,17 @@ use native.Mathlib.Nat.{suc-ne-zero}
 use lib.ListN.{length-drop}
 use borrow.Author.Tests.{eqb-true, ltb-false, le-ltb}
 use Rattle.totals_spec.specs.Basics.{any}
-use Rattle.totals_spec.specs.Format.{Format}
-use Rattle.totals_spec.specs.Settings.{Settings}
-use Rattle.totals_spec.specs.Totals.{refused, refuse_if, sum_refusal, dot_refusal, stray}
-use Rattle.totals_spec.specs.Bytes.{Entry, values_in, written}
-use Rattle.totals_spec.specs.Table.{filled}
-use Rattle.totals_spec.specs.Words.{misnamed, format_by}
-use Rattle.further_spec.specs.Estimate.{Estimate, full, allowed, sum_within, dot_within, estimate_written, estimate_entered, short144}
-use Rattle.further_spec.specs.Estimate.{estimate_tested, sum_within_entry, dot_within_entry}
-use Rattle.further_spec.specs.Lengths.{cut_short}
-use Rattle.further_spec.proofs.Promises.{within-order}
-use Rattle.further_spec.proofs.Within.{sum-within-number, dot-within-number}
+use Rattle.totals_spec.specs.formats.Format.{Format}
+use Rattle.totals_spec.specs.formats.Settings.{Settings}
+use Rattle.totals_spec.specs.sums.Totals.{refused, refuse_if, sum_refusal, dot_refusal, stray}
+use Rattle.totals_spec.specs.entries.Bytes.{Entry, values_in, written}
+use Rattle.totals_spec.specs.entries.Words.{filled}
+use Rattle.totals_spec.specs.entries.Words.{misnamed, format_by}
+use Rattle.targets_spec.specs.within.Estimate.{Estimate, full, allowed, sum_within, dot_within, estimate_written, estimate_entered, short144}
+use Rattle.targets_spec.specs.within.Estimate.{estimate_tested, sum_within_entry, dot_within_entry}
+use Rattle.targets_spec.specs.entries.Lengths.{cut_short}
+use Rattle.targets_spec.proofs.within.Answers.{within-order}
+use Rattle.targets_spec.proofs.within.Answers.{sum-within-number, dot-within-number}
 use Rattle.totals.specs.Entered.{Enters}
 use Rattle.promised_calls.specs.Entries.{value_size, Whole}
 use Rattle.promised_calls.specs.Lent.{names_bias, bias_told, sum_within_call, dot_within_call, SameFirst, KeepsBehind}

@@ -7,17 +7,17 @@ use native.Mathlib.Nat.{suc-ne-zero}
 use lib.ListN.{length-drop}
 use borrow.Author.Tests.{eqb-true, ltb-false, le-ltb}
 use Rattle.totals_spec.specs.Basics.{any}
-use Rattle.totals_spec.specs.Format.{Format, valid_format}
-use Rattle.totals_spec.specs.Settings.{Settings}
-use Rattle.totals_spec.specs.Totals.{Answer, refused, stray}
-use Rattle.totals_spec.specs.Bytes.{Entry, values_in, written}
-use Rattle.totals_spec.specs.Table.{filled}
-use Rattle.totals_spec.specs.Words.{misnamed, format_by}
-use Rattle.totals_spec.proofs.Refused.{by_tests}
-use Rattle.further_spec.specs.Several.{target_answer, target_refusal, misnamed_at, format_at, settings_at, answer_at, slots, not_three, short96, target_entry}
-use Rattle.further_spec.specs.Lengths.{cut_short}
-use Rattle.further_spec.proofs.Promises.{target-order}
-use Rattle.further_spec.proofs.Targets.{target-seven}
+use Rattle.totals_spec.specs.formats.Format.{Format, valid_format}
+use Rattle.totals_spec.specs.formats.Settings.{Settings}
+use Rattle.totals_spec.specs.sums.Totals.{Answer, refused, stray}
+use Rattle.totals_spec.specs.entries.Bytes.{Entry, values_in, written}
+use Rattle.totals_spec.specs.entries.Words.{filled}
+use Rattle.totals_spec.specs.entries.Words.{misnamed, format_by}
+use Rattle.totals_spec.proofs.refusals.RefusedRecords.{by_tests}
+use Rattle.targets_spec.specs.several.Several.{target_answer, target_refusal, misnamed_at, format_at, settings_at, answer_at, slots, not_three, short96, target_entry}
+use Rattle.targets_spec.specs.entries.Lengths.{cut_short}
+use Rattle.targets_spec.proofs.several.Records.{target-order}
+use Rattle.targets_spec.proofs.several.Records.{target-seven}
 use Rattle.totals.specs.Entered.{Enters}
 use Rattle.promised_calls.specs.Entries.{values_by, values_of, Whole}
 use Rattle.promised_calls.specs.Lent.{names_bias, bias_told, target_call, SameFirst, KeepsBehind}

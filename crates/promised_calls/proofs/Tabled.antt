@@ -1,14 +1,16 @@
 -- The totals of a table that are those of the definition.
 use Rattle.std.proofs.Common.{◌≡◌, ℕ, List, sym, ap, ◌∙◌, subst}
-use Rattle.totals_spec.specs.Format.{Format}
-use Rattle.totals_spec.specs.Settings.{Settings}
-use Rattle.totals_spec.specs.Conditions.{table_conditions}
-use Rattle.totals_spec.specs.Places.{StrayAt}
-use Rattle.totals_spec.specs.Table.{table_answer, table_refusal}
-use Rattle.totals_spec.specs.Totals.{Answer, refused}
-use Rattle.totals_spec.proofs.Promises.{table-refused-exactly, table-refused, table-place, table-grand, sum-order}
-use Rattle.totals_spec.proofs.Table.{table-number}
-use Rattle.totals.specs.Tables.{Tables}
+use Rattle.totals_spec.specs.formats.Format.{Format}
+use Rattle.totals_spec.specs.formats.Settings.{Settings}
+use Rattle.figures_spec.specs.tables.Conditions.{table_conditions}
+use Rattle.totals_spec.specs.refusals.Places.{StrayAt}
+use Rattle.figures_spec.specs.tables.Table.{table_answer, table_refusal}
+use Rattle.totals_spec.specs.sums.Totals.{Answer, refused}
+use Rattle.figures_spec.proofs.tables.RefusedExactly.{table-refused-exactly}
+use Rattle.figures_spec.proofs.tables.Tables.{table-refused, table-place, table-grand}
+use Rattle.totals_spec.proofs.order.Order.{sum-order}
+use Rattle.figures_spec.proofs.tables.Tables.{table-number}
+use Rattle.figures.specs.Tables.{Tables}
 use Rattle.promised_calls.specs.Order.{Rearranged, WithoutNan}
 use Rattle.promised_calls.specs.Refusals.{RefusesExactly, TellsNothingElse, PlacedAt, WritesNothing}
 

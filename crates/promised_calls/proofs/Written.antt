@@ -1,20 +1,24 @@
 -- What an accepted call of a byte entry has written.
 use Rattle.std.proofs.Common.{◌≡◌, ◌≢◌, ℕ, ◌≤◌, ◌<◌, List, sym, ap, ◌∙◌, subst}
-use Rattle.std.specs.Prelude.{Bool, true, ◌||◌}
-use Rattle.totals_spec.specs.Basics.{Signed, any}
-use Rattle.totals_spec.specs.Bytes.{values_in, sum_entry, dot_entry}
-use Rattle.totals_spec.specs.Extended.{extended, tens_in, extended_terms, extended_dot_terms, extended_sum_answer, extended_dot_answer}
-use Rattle.totals_spec.specs.Extended.{subnormal_extended, sum_call, dot_call}
-use Rattle.totals_spec.specs.Format.{Format, grid}
-use Rattle.totals_spec.specs.Limit.{ceil_div, most_passes}
-use Rattle.totals_spec.specs.Promises.{AllFinite, AllNumbers, ReadsBack, ReadsBack32}
-use Rattle.totals_spec.specs.Settings.{Settings, summand_of}
-use Rattle.totals_spec.specs.Terms.{exact_sum}
-use Rattle.totals_spec.specs.Totals.{Answer, on_grid, is_square, sum_terms, sum_answer, dot_terms, dot_answer}
-use Rattle.totals_spec.proofs.Promises.{other-kinds, entry-read-back, extended-read-back, sum-limit, dot-limit, extended-limit, extended-most}
+use Rattle.std.specs.Prelude.{true, ◌||◌}
+use Rattle.totals_spec.specs.Basics.{any}
+use Rattle.totals_spec.specs.entries.Bytes.{values_in}
+use Rattle.totals_spec.specs.ten_bytes.Extended.{extended, tens_in, extended_terms, extended_dot_terms, extended_sum_answer, extended_dot_answer}
+use Rattle.totals_spec.specs.ten_bytes.Extended.{subnormal_extended, sum_call, dot_call}
+use Rattle.totals_spec.specs.formats.Format.{Format, grid}
+use Rattle.totals_spec.specs.chain.Limit.{ceil_div, most_passes}
+use Rattle.totals_spec.specs.sums.Promises.{AllFinite}
+use Rattle.totals_spec.specs.ten_bytes.Promises.{AllNumbers, ReadsBack32}
+use Rattle.totals_spec.specs.entries.Promises.{ReadsBack}
+use Rattle.totals_spec.specs.formats.Settings.{Settings, summand_of}
+use Rattle.totals_spec.specs.terms.Terms.{exact_sum}
+use Rattle.totals_spec.specs.sums.Totals.{on_grid, is_square, sum_terms, sum_answer, dot_terms, dot_answer}
+use Rattle.totals_spec.proofs.ten_bytes.Calls.{other-kinds, extended-read-back}
+use Rattle.totals_spec.proofs.entries.ReadBack.{entry-read-back}
+use Rattle.totals_spec.proofs.chain.PassesOfRecords.{sum-limit, dot-limit}
+use Rattle.totals_spec.proofs.ten_bytes.Totals.{extended-limit, extended-most}
 use Rattle.promises.specs.Special.{some_subnormal}
-use Rattle.promises.specs.Statements.{ExtendedOnce}
-use Rattle.promises.proofs.Sums.{extended-rounded-once}
+use Rattle.promises.proofs.roundings.SumsRoundedOnce.{extended-rounded-once}
 use Rattle.totals.specs.Entered.{Enters}
 use Rattle.promised_calls.specs.Entries.{passes_in, passes_in_tens}
 use Rattle.promised_calls.specs.Passes.{limit_at, limit_of}

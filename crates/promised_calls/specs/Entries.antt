@@ -1,11 +1,11 @@
 -- What the byte entries of a total read and write, of every kind: of kind 4 a value has ten bytes
 -- and an answer 32, of the others eight and 24.
 use Rattle.std.specs.Prelude.{◌≡◌, Bool, true, false, ◌||◌, List, ℕ, ◌%◌, ◌≤◌, length, take, drop}
-use Rattle.totals_spec.specs.Bytes.{from_bytes, values_in}
-use Rattle.totals_spec.specs.Format.{Format}
-use Rattle.totals_spec.specs.Totals.{pairs}
-use Rattle.totals_spec.specs.Rearranged.{holds_nan, nan_looked_at}
-use Rattle.totals_spec.specs.Extended.{is_extended, tens_in, both_of}
+use Rattle.totals_spec.specs.entries.Bytes.{from_bytes, values_in}
+use Rattle.totals_spec.specs.formats.Format.{Format}
+use Rattle.totals_spec.specs.sums.Totals.{pairs}
+use Rattle.totals_spec.specs.order.Rearranged.{holds_nan, nan_looked_at}
+use Rattle.totals_spec.specs.ten_bytes.Extended.{is_extended, tens_in, both_of}
 
 -- by whether the kind is 4
 abbrev pub value_size : Bool → ℕ

@@ -2,13 +2,13 @@
 -- are lent.
 use Rattle.std.specs.Prelude.{◌≡◌, List, ℕ, length, take, drop, ℤ, pos}
 use Rattle.std.proofs.Math.Option.{Option, none, some}
-use Rattle.totals_spec.specs.Bytes.{Entry}
-use Rattle.totals_spec.specs.Format.{Format}
-use Rattle.totals_spec.specs.Settings.{Settings}
-use Rattle.totals_spec.specs.Words.{FigureEntry, pence_entry}
-use Rattle.further_spec.specs.Contribution.{contribution_entry}
-use Rattle.further_spec.specs.Estimate.{sum_within_entry, dot_within_entry}
-use Rattle.further_spec.specs.Several.{target_entry}
+use Rattle.totals_spec.specs.entries.Bytes.{Entry}
+use Rattle.totals_spec.specs.formats.Format.{Format}
+use Rattle.totals_spec.specs.formats.Settings.{Settings}
+use Rattle.totals_spec.specs.pence.Entry.{FigureEntry, pence_entry}
+use Rattle.targets_spec.specs.contribution.Contribution.{contribution_entry}
+use Rattle.targets_spec.specs.within.Estimate.{sum_within_entry, dot_within_entry}
+use Rattle.targets_spec.specs.several.Several.{target_entry}
 
 -- whether a format names its bias, and which: 0 and 0 where it names none
 abbrev pub names_bias : Option ℤ → ℕ

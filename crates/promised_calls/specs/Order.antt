@@ -1,11 +1,11 @@
 -- Rearrangements, in the words of the contracts.
 use Rattle.std.specs.Prelude.{◌≡◌, false, List, ℕ, eqb, length}
 use Rattle.totals_spec.specs.Basics.{any}
-use Rattle.totals_spec.specs.Format.{Format}
-use Rattle.totals_spec.specs.Totals.{pairs, stray}
-use Rattle.totals_spec.specs.Ranges.{triples}
-use Rattle.totals_spec.specs.Allowed.{same_triple}
-use Rattle.totals_spec.specs.Rearranged.{AsOften, same_pair, holds_nan}
+use Rattle.totals_spec.specs.formats.Format.{Format}
+use Rattle.totals_spec.specs.sums.Totals.{pairs, stray}
+use Rattle.figures_spec.specs.ranges.Ranges.{triples}
+use Rattle.figures_spec.specs.ranges.Allowed.{same_triple}
+use Rattle.totals_spec.specs.order.Rearranged.{AsOften, same_pair, holds_nan}
 
 -- each number stands in both lists, and equally often
 abbrev pub Rearranged : List ℕ → List ℕ → Type 0

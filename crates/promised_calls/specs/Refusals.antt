@@ -1,8 +1,8 @@
 -- What a refusal is: its number, its place, and nothing else.
 use Rattle.std.specs.Prelude.{◌≡◌, ◌≢◌, ◌↔◌, List, ℕ}
-use Rattle.totals_spec.specs.Totals.{Answer, refused}
-use Rattle.totals_spec.specs.Conditions.{Condition, First}
-use Rattle.further_spec.specs.Estimate.{Estimate, full}
+use Rattle.totals_spec.specs.sums.Totals.{Answer, refused}
+use Rattle.totals_spec.specs.refusals.Conditions.{Condition, First}
+use Rattle.targets_spec.specs.within.Estimate.{Estimate, full}
 
 -- a call's number is that of the first of the conditions that holds, and 0 exactly where none does
 abbrev pub RefusesExactly : List Condition → (number : ℕ) → Type 0

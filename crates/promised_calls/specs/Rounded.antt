@@ -2,11 +2,12 @@
 -- as an exact number.
 use Rattle.std.specs.Prelude.{Bool, true, List, map, ℕ}
 use Rattle.totals_spec.specs.Basics.{Signed, raised}
-use Rattle.totals_spec.specs.Format.{Format, room, grid}
-use Rattle.totals_spec.specs.Settings.{Settings, Summand, value, magnitude, square, summand_of}
-use Rattle.totals_spec.specs.Allowed.{sum_of_amounts}
-use Rattle.totals_spec.specs.Totals.{Answer, pairs, on_grid, is_square}
-use Rattle.totals_spec.specs.Promises.{ReadsBack, ReadsBack32}
+use Rattle.totals_spec.specs.formats.Format.{Format, room, grid}
+use Rattle.totals_spec.specs.formats.Settings.{Settings, Summand, value, magnitude, square, summand_of}
+use Rattle.figures_spec.specs.ranges.Allowed.{sum_of_amounts}
+use Rattle.totals_spec.specs.sums.Totals.{Answer, pairs, on_grid, is_square}
+use Rattle.totals_spec.specs.entries.Promises.{ReadsBack}
+use Rattle.totals_spec.specs.ten_bytes.Promises.{ReadsBack32}
 use Rattle.promises.specs.Amounts.{amount, product}
 use Rattle.promises.specs.Statements.{RoundedOnce, ExtendedOnce}
 

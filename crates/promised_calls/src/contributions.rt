@@ -1,13 +1,14 @@
 // The contribution that reaches a wanted total: when it is refused, and that the order of the list
 // does not matter.
 ghost use Rattle.std.specs.Prelude.{◌≡◌, ◌≢◌, ◌≤◌, [], ◌∷◌, ◌++◌, ◌%◌, length};
-ghost use Rattle.totals_spec.specs.Places.{StrayAt};
-ghost use Rattle.totals_spec.specs.Words.{format_by};
-ghost use Rattle.further_spec.specs.Conditions.{contribution_conditions};
-ghost use Rattle.further_spec.specs.Conditions.{contribution_entry_conditions};
-ghost use Rattle.further_spec.specs.Contribution as spec;
-ghost use Rattle.format.specs.Joined.{format_of, settings_of};
-ghost use Rattle.totals.specs.Contributions.{contribution_of};
+ghost use Rattle.totals_spec.specs.refusals.Places.{StrayAt};
+ghost use Rattle.totals_spec.specs.entries.Words.{format_by};
+ghost use Rattle.targets_spec.specs.contribution.Conditions.{contribution_conditions};
+ghost use Rattle.targets_spec.specs.contribution.Conditions.{contribution_entry_conditions};
+ghost use Rattle.targets_spec.specs.contribution.Contribution as spec;
+ghost use Rattle.format.specs.Formats.{format_of};
+ghost use Rattle.format.specs.Settings.{settings_of};
+ghost use Rattle.targets.specs.Contributions.{number_in};
 ghost use Rattle.totals.specs.Entered.{Enters};
 ghost use Rattle.promised_calls.specs.Lent.{contribution_call, contribution_size};
 ghost use Rattle.promised_calls.specs.Lent.{SameFirst, KeepsBehind};
@@ -16,21 +17,28 @@ ghost use Rattle.promised_calls.specs.Refusals.{RefusesExactly, PlacedAt, Writes
 
 use crate::told::told_bias;
 use format::Format;
-use format::env::Settings;
-use totals::contribution::{Contribution, contribution_to};
-use totals::entry_contribution::totals_contribution;
+use format::settings::Settings;
+use targets::contribution::contribution_to;
+use targets::entry_contribution;
+use totals::entry::NamedFormat;
+use totals::refusal::Refusal;
 
 /// The contribution that reaches a wanted total, or its refusal. The wanted total stands behind the
 /// list, where a stray bit has its place.
-pub fn contribution_or_refusal(f: Format, c: Settings, values: &[u64], wanted: u64) -> Contribution
-    ensures is { contribution_of result ≡ spec.contribution (format_of f)
+pub fn contribution_or_refusal(
+    f: Format,
+    c: Settings,
+    values: &[u64],
+    wanted: u64,
+) -> Result<u64, Refusal>
+    ensures is { number_in result ≡ spec.contribution (format_of f)
         (settings_of c) values.now wanted }
     ensures exactly { RefusesExactly (contribution_conditions (format_of f)
         (settings_of c) values.now wanted)
-        result.refusal }
-    ensures nothing_else { result.refusal ≢ 0 → result.number ≡ 0 }
+        (number_in result).refusal }
+    ensures nothing_else { (number_in result).refusal ≢ 0 → (number_in result).number ≡ 0 }
     ensures place { PlacedAt (StrayAt (format_of f) (values.now ++
-        (wanted ∷ []))) result.refusal result.place }
+        (wanted ∷ []))) (number_in result).refusal (number_in result).place }
 {
     contribution_to(f, c, values, wanted)
 }
@@ -56,20 +64,15 @@ pub fn contribution_entry_or_refusal(
         (settings_of c) values.now wanted)) (result % 256) }
     ensures nothing_written { WritesNothing result answer.old answer.new }
 {
-    totals_contribution(
-        kind,
-        exponent_bits,
-        width,
-        bias_named,
-        bias,
-        c.rounding,
-        c.tininess,
-        c.nan_propagation,
-        c.default_nan_negative,
-        c.flush_to_zero,
-        c.denormals_are_zero,
-        c.saturate,
-        c.precision,
+    entry_contribution::enter_contribution(
+        NamedFormat {
+            kind,
+            exponent_bits,
+            width,
+            bias_named,
+            bias,
+        },
+        c,
         wanted,
         values,
         answer,
@@ -84,13 +87,14 @@ pub fn contributions_to_both(
     one: &[u64],
     other: &[u64],
     wanted: u64,
-) -> (Contribution, Contribution)
-    ensures first { contribution_of result.0
+) -> (Result<u64, Refusal>, Result<u64, Refusal>)
+    ensures first { number_in result.0
         ≡ spec.contribution (format_of f) (settings_of c) one.now wanted }
-    ensures second { contribution_of result.1
+    ensures second { number_in result.1
         ≡ spec.contribution (format_of f) (settings_of c) other.now wanted }
     ensures alike { Rearranged one.now other.now
-        → (result.0.refusal ≡ result.1.refusal) × (result.0.refusal ≢ 7 → result.0 ≡ result.1) }
+        → ((number_in result.0).refusal ≡ (number_in result.1).refusal) × ((number_in
+        result.0).refusal ≢ 7 → number_in result.0 ≡ number_in result.1) }
 {
     let first = contribution_to(f, c, one, wanted);
     let second = contribution_to(f, c, other, wanted);

@@ -1,7 +1,8 @@
 // The exported byte entries: two calls, each with a buffer of its own, and one answer.
 ghost use Rattle.std.specs.Prelude.{◌≡◌};
-ghost use Rattle.totals_spec.specs.Extended.{sum_call, dot_call};
-ghost use Rattle.format.specs.Joined.{format_of, settings_of};
+ghost use Rattle.totals_spec.specs.ten_bytes.Extended.{sum_call, dot_call};
+ghost use Rattle.format.specs.Formats.{format_of};
+ghost use Rattle.format.specs.Settings.{settings_of};
 ghost use Rattle.totals.specs.Entered.{Enters};
 ghost use Rattle.promised_calls.specs.Order.{Rearranged, PairsRearranged};
 ghost use Rattle.promised_calls.specs.Entries.{values_of, Whole};
@@ -9,49 +10,15 @@ ghost use Rattle.promised_calls.specs.Entries.{HasRoom, NoNanDecides, NoNanDecid
 ghost use Rattle.promised_calls.specs.Entries.{SameAnswer, Keeps};
 
 use format::Format;
-use format::env::Settings;
-use totals::entry::{totals_dot, totals_dot_biased, totals_sum, totals_sum_biased};
+use format::settings::Settings;
+use totals::entry;
 
 /// The exported sum, by the entry that names a bias where the format does.
 pub fn enter_sum(f: Format, c: Settings, u: u64, values: &[u8], answer: &mut [u8]) -> u64
     ensures { Enters (sum_call (format_of f) (settings_of c) u values.now answer.old)
         result answer.new }
 {
-    match f.named {
-        Some(bias) => totals_sum_biased(
-            f.kind,
-            f.exponent_bits,
-            f.width,
-            bias,
-            c.rounding,
-            c.tininess,
-            c.nan_propagation,
-            c.default_nan_negative,
-            c.flush_to_zero,
-            c.denormals_are_zero,
-            c.saturate,
-            c.precision,
-            u,
-            values,
-            answer,
-        ),
-        None => totals_sum(
-            f.kind,
-            f.exponent_bits,
-            f.width,
-            c.rounding,
-            c.tininess,
-            c.nan_propagation,
-            c.default_nan_negative,
-            c.flush_to_zero,
-            c.denormals_are_zero,
-            c.saturate,
-            c.precision,
-            u,
-            values,
-            answer,
-        ),
-    }
+    entry::enter_sum(f, c, u, values, answer)
 }
 
 /// The exported dot product, likewise.
@@ -59,41 +26,7 @@ pub fn enter_dot(f: Format, c: Settings, left: &[u8], right: &[u8], answer: &mut
     ensures { Enters (dot_call (format_of f) (settings_of c) left.now right.now answer.old)
         result answer.new }
 {
-    match f.named {
-        Some(bias) => totals_dot_biased(
-            f.kind,
-            f.exponent_bits,
-            f.width,
-            bias,
-            c.rounding,
-            c.tininess,
-            c.nan_propagation,
-            c.default_nan_negative,
-            c.flush_to_zero,
-            c.denormals_are_zero,
-            c.saturate,
-            c.precision,
-            left,
-            right,
-            answer,
-        ),
-        None => totals_dot(
-            f.kind,
-            f.exponent_bits,
-            f.width,
-            c.rounding,
-            c.tininess,
-            c.nan_propagation,
-            c.default_nan_negative,
-            c.flush_to_zero,
-            c.denormals_are_zero,
-            c.saturate,
-            c.precision,
-            left,
-            right,
-            answer,
-        ),
-    }
+    entry::enter_dot(f, c, left, right, answer)
 }
 
 /// The exported sums of the values in some bytes and of a rearrangement of them, with a buffer

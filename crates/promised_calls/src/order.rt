@@ -1,22 +1,30 @@
 // Two calls, with a list and with a rearrangement of it, and one record.
 ghost use Rattle.std.specs.Prelude.{◌≡◌};
-ghost use Rattle.totals_spec.specs.Totals as spec;
-ghost use Rattle.format.specs.Joined.{format_of, settings_of};
-ghost use Rattle.reduction.specs.Answered.{answer_of};
+ghost use Rattle.totals_spec.specs.sums.Totals as spec;
+ghost use Rattle.format.specs.Formats.{format_of};
+ghost use Rattle.format.specs.Settings.{settings_of};
+ghost use Rattle.totals.specs.Asked.{answer_in};
 ghost use Rattle.promised_calls.specs.Order.{Rearranged, PairsRearranged, WithoutNan};
 
 use format::Format;
-use format::env::Settings;
+use format::settings::Settings;
 use reduction::total::Answer;
+use totals::refusal::Refusal;
 use totals::{dot, sum};
 
 /// The sums of a list and of a rearrangement of it, of the summand u: where the first is accepted
 /// and its list has no NaN, they are one record.
-pub fn sums_of(f: Format, c: Settings, u: u64, one: &[u64], other: &[u64]) -> (Answer, Answer)
-    ensures first { answer_of result.0 ≡ spec.sum_answer (format_of f) (settings_of c) u one.now }
-    ensures second { answer_of result.1 ≡ spec.sum_answer (format_of f)
+pub fn sums_of(
+    f: Format,
+    c: Settings,
+    u: u64,
+    one: &[u64],
+    other: &[u64],
+) -> (Result<Answer, Refusal>, Result<Answer, Refusal>)
+    ensures first { answer_in result.0 ≡ spec.sum_answer (format_of f) (settings_of c) u one.now }
+    ensures second { answer_in result.1 ≡ spec.sum_answer (format_of f)
         (settings_of c) u other.now }
-    ensures alike { Rearranged one.now other.now → result.0.refusal ≡ 0
+    ensures alike { Rearranged one.now other.now → (answer_in result.0).refusal ≡ 0
         → WithoutNan (format_of f) one.now
         → result.0 ≡ result.1 }
 {
@@ -33,13 +41,13 @@ pub fn dots_of(
     right: &[u64],
     moved_left: &[u64],
     moved_right: &[u64],
-) -> (Answer, Answer)
-    ensures first { answer_of result.0 ≡ spec.dot_answer (format_of f)
+) -> (Result<Answer, Refusal>, Result<Answer, Refusal>)
+    ensures first { answer_in result.0 ≡ spec.dot_answer (format_of f)
         (settings_of c) left.now right.now }
-    ensures second { answer_of result.1
+    ensures second { answer_in result.1
         ≡ spec.dot_answer (format_of f) (settings_of c) moved_left.now moved_right.now }
     ensures alike { PairsRearranged left.now right.now moved_left.now moved_right.now
-        → result.0.refusal ≡ 0
+        → (answer_in result.0).refusal ≡ 0
         → WithoutNan (format_of f) left.now → WithoutNan (format_of f) right.now
         → result.0 ≡ result.1 }
 {

@@ -1,39 +1,47 @@
 // The pence of an encoding and of a list: when they are refused, and that the order does not
 // matter.
 ghost use Rattle.std.specs.Prelude.{◌≡◌, ◌≢◌, [], ◌∷◌, ◌%◌, pos};
-ghost use Rattle.totals_spec.specs.Conditions as when;
-ghost use Rattle.totals_spec.specs.Pence as spec;
-ghost use Rattle.totals_spec.specs.Places.{StrayAt};
-ghost use Rattle.totals_spec.specs.Words.{format_by, pence_entry};
-ghost use Rattle.format.specs.Joined.{format_of};
+ghost use Rattle.totals_spec.specs.pence.Conditions.{pence_conditions};
+ghost use Rattle.totals_spec.specs.pence.Conditions.{pence_entry_conditions};
+ghost use Rattle.totals_spec.specs.pence.Conditions.{sum_pence_conditions};
+ghost use Rattle.totals_spec.specs.pence.Pence as spec;
+ghost use Rattle.totals_spec.specs.refusals.Places.{StrayAt};
+ghost use Rattle.totals_spec.specs.entries.Words.{format_by};
+ghost use Rattle.totals_spec.specs.pence.Entry.{pence_entry};
+ghost use Rattle.format.specs.Formats.{format_of};
 ghost use Rattle.totals.specs.Entered.{EntersFigure};
-ghost use Rattle.totals.specs.PenceRecord.{pence_record};
+ghost use Rattle.totals.specs.PenceRecord.{figure_in};
 ghost use Rattle.promised_calls.specs.Lent.{pence_call};
 ghost use Rattle.promised_calls.specs.Order.{Rearranged};
 ghost use Rattle.promised_calls.specs.Refusals.{RefusesExactly, PlacedAt, WritesNothing};
 
 use crate::told::told_bias;
 use format::Format;
-use totals::entry::totals_pence;
-use totals::pence::{Pence, pence_of, pence_of_sum};
+use totals::entry;
+use totals::entry::NamedFormat;
+use totals::pence::{pence_of, pence_of_sum};
+use totals::refusal::Refusal;
 
 /// The pence of the exact sum of a list, or their refusal, with a figure of 0.
-pub fn pence_or_refusal(f: Format, values: &[u64]) -> Pence
-    ensures is { pence_record result ≡ spec.sum_pence (format_of f) values.now }
-    ensures exactly { RefusesExactly (when.sum_pence_conditions
-        (format_of f) values.now) result.refusal }
-    ensures nothing_else { result.refusal ≢ 0 → result.figure ≡ pos 0 }
-    ensures place { PlacedAt (StrayAt (format_of f) values.now) result.refusal result.place }
+pub fn pence_or_refusal(f: Format, values: &[u64]) -> Result<i64, Refusal>
+    ensures is { figure_in result ≡ spec.sum_pence (format_of f) values.now }
+    ensures exactly { RefusesExactly (sum_pence_conditions
+        (format_of f) values.now) (figure_in result).refusal }
+    ensures nothing_else { (figure_in result).refusal ≢ 0 → (figure_in result).figure ≡ pos 0 }
+    ensures place { PlacedAt (StrayAt (format_of f) values.now) (figure_in result).refusal
+        (figure_in result).place }
 {
     pence_of_sum(f, values)
 }
 
 /// The pence of one encoding, or their refusal.
-pub fn one_pence_or_refusal(f: Format, b: u64) -> Pence
-    ensures is { pence_record result ≡ spec.pence_answer (format_of f) b }
-    ensures exactly { RefusesExactly (when.pence_conditions (format_of f) b) result.refusal }
-    ensures nothing_else { result.refusal ≢ 0 → result.figure ≡ pos 0 }
-    ensures place { PlacedAt (StrayAt (format_of f) (b ∷ [])) result.refusal result.place }
+pub fn one_pence_or_refusal(f: Format, b: u64) -> Result<i64, Refusal>
+    ensures is { figure_in result ≡ spec.pence_answer (format_of f) b }
+    ensures exactly { RefusesExactly (pence_conditions (format_of f) b) (figure_in
+        result).refusal }
+    ensures nothing_else { (figure_in result).refusal ≢ 0 → (figure_in result).figure ≡ pos 0 }
+    ensures place { PlacedAt (StrayAt (format_of f) (b ∷ [])) (figure_in result).refusal (figure_in
+        result).place }
 {
     pence_of(f, b)
 }
@@ -52,19 +60,34 @@ pub fn pence_entry_or_refusal(
         figure.old)
         result figure.new }
     ensures exactly { RefusesExactly
-        (when.pence_entry_conditions bias_named bias
+        (pence_entry_conditions bias_named bias
         (format_by kind exponent_bits width bias_named bias) values.now) (result % 256) }
     ensures nothing_written { WritesNothing result figure.old figure.new }
 {
-    totals_pence(kind, exponent_bits, width, bias_named, bias, values, figure)
+    entry::enter_pence(
+        NamedFormat {
+            kind,
+            exponent_bits,
+            width,
+            bias_named,
+            bias,
+        },
+        values,
+        figure,
+    )
 }
 
 /// The pence of a list and of a rearrangement of it are one record; only the place of a stray bit
 /// can be another.
-pub fn pence_of_both(f: Format, one: &[u64], other: &[u64]) -> (Pence, Pence)
-    ensures first { pence_record result.0 ≡ spec.sum_pence (format_of f) one.now }
-    ensures second { pence_record result.1 ≡ spec.sum_pence (format_of f) other.now }
-    ensures alike { Rearranged one.now other.now → result.0.refusal ≢ 7 → result.0 ≡ result.1 }
+pub fn pence_of_both(
+    f: Format,
+    one: &[u64],
+    other: &[u64],
+) -> (Result<i64, Refusal>, Result<i64, Refusal>)
+    ensures first { figure_in result.0 ≡ spec.sum_pence (format_of f) one.now }
+    ensures second { figure_in result.1 ≡ spec.sum_pence (format_of f) other.now }
+    ensures alike { Rearranged one.now other.now → (figure_in result.0).refusal ≢ 7 → figure_in
+        result.0 ≡ figure_in result.1 }
 {
     let first = pence_of_sum(f, one);
     let second = pence_of_sum(f, other);
@@ -77,7 +100,7 @@ pub fn enter_pence(format: Format, values: &[u64], figure: &mut i64) -> u64
         result figure.new }
 {
     let (bias_named, bias) = told_bias(format);
-    totals_pence(
+    pence_entry_or_refusal(
         format.kind,
         format.exponent_bits,
         format.width,

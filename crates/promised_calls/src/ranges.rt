@@ -1,15 +1,17 @@
 // The totals of amounts known within a range: when they are refused, and that the order of the
 // entries does not matter.
 ghost use Rattle.std.specs.Prelude.{◌≡◌, ◌≢◌};
-ghost use Rattle.totals_spec.specs.Conditions as when;
-ghost use Rattle.totals_spec.specs.Ranges as spec;
-ghost use Rattle.totals_spec.specs.Words.{range_entry};
-ghost use Rattle.totals.specs.Ranges.{Totalled, EntersRange, range_record};
+ghost use Rattle.figures_spec.specs.ranges.Conditions.{range_conditions};
+ghost use Rattle.figures_spec.specs.ranges.Conditions.{range_entry_conditions};
+ghost use Rattle.figures_spec.specs.ranges.Ranges as spec;
+ghost use Rattle.figures_spec.specs.ranges.Entry.{range_entry};
+ghost use Rattle.figures.specs.Ranges.{Totalled, EntersRange, range_in};
 ghost use Rattle.promised_calls.specs.Order.{TriplesRearranged};
 ghost use Rattle.promised_calls.specs.Refusals.{RefusesExactly, WritesNothing};
 
-use totals::entry::totals_range;
-use totals::range::{Range, range_total};
+use figures::entry::enter_range;
+use figures::range::{Bounds, range_total};
+use totals::refusal::Refusal;
 
 /// The lower and the upper total of entries, or their refusal: it tells its number alone, and
 /// leaves both lists of figures.
@@ -18,14 +20,14 @@ pub fn range_or_refusal(
     firsts: &mut [u64],
     seconds: &mut [u64],
     ceiling: u64,
-) -> Range
+) -> Result<Bounds, Refusal>
     ensures is { Totalled tags.now firsts.old seconds.old ceiling result firsts.new seconds.new }
-    ensures exactly { RefusesExactly (when.range_conditions tags.now firsts.old seconds.old ceiling)
-        result.refusal }
-    ensures nothing_else { result.refusal ≢ 0 → range_record result
-        ≡ spec.refused_range result.refusal }
-    ensures firsts_kept { WritesNothing result.refusal firsts.old firsts.new }
-    ensures seconds_kept { WritesNothing result.refusal seconds.old seconds.new }
+    ensures exactly { RefusesExactly (range_conditions tags.now firsts.old seconds.old ceiling)
+        (range_in result).refusal }
+    ensures nothing_else { (range_in result).refusal ≢ 0 → range_in result
+        ≡ spec.refused_range (range_in result).refusal }
+    ensures firsts_kept { WritesNothing (range_in result).refusal firsts.old firsts.new }
+    ensures seconds_kept { WritesNothing (range_in result).refusal seconds.old seconds.new }
 {
     range_total(tags, firsts, seconds, ceiling)
 }
@@ -42,12 +44,12 @@ pub fn range_entry_or_refusal(
         firsts.new
         seconds.new pair.new }
     ensures exactly { RefusesExactly
-        (when.range_entry_conditions tags.now firsts.old seconds.old ceiling pair.old) result }
+        (range_entry_conditions tags.now firsts.old seconds.old ceiling pair.old) result }
     ensures firsts_kept { WritesNothing result firsts.old firsts.new }
     ensures seconds_kept { WritesNothing result seconds.old seconds.new }
     ensures pair_kept { WritesNothing result pair.old pair.new }
 {
-    totals_range(tags, firsts, seconds, ceiling, pair)
+    enter_range(tags, firsts, seconds, ceiling, pair)
 }
 
 /// The totals of entries that are accepted, and of a rearrangement of them, are one record.
@@ -59,7 +61,7 @@ pub fn ranges_of_both(
     moved_firsts: &mut [u64],
     moved_seconds: &mut [u64],
     ceiling: u64,
-) -> (Range, Range)
+) -> (Result<Bounds, Refusal>, Result<Bounds, Refusal>)
     ensures first { Totalled tags.now firsts.old seconds.old ceiling result.0 firsts.new
         seconds.new }
     ensures second { Totalled moved_tags.now moved_firsts.old moved_seconds.old ceiling result.1
@@ -68,7 +70,7 @@ pub fn ranges_of_both(
     ensures alike { TriplesRearranged tags.now firsts.old seconds.old moved_tags.now
         moved_firsts.old
         moved_seconds.old
-        → result.0.refusal ≡ 0 → range_record result.0 ≡ range_record result.1 }
+        → (range_in result.0).refusal ≡ 0 → range_in result.0 ≡ range_in result.1 }
 {
     let first = range_total(tags, firsts, seconds, ceiling);
     let second = range_total(moved_tags, moved_firsts, moved_seconds, ceiling);

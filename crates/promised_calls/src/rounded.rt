@@ -1,88 +1,96 @@
 // The exact sum, rounded once.
 ghost use Rattle.std.specs.Prelude.{◌≡◌, ◌≢◌, ◌<◌, true, ◌||◌, map, length};
 ghost use Rattle.totals_spec.specs.Basics.{any};
-ghost use Rattle.totals_spec.specs.Bytes.{values_in};
-ghost use Rattle.totals_spec.specs.Decode.{decode};
-ghost use Rattle.totals_spec.specs.Extended as ten;
-ghost use Rattle.totals_spec.specs.Format.{grid};
-ghost use Rattle.totals_spec.specs.Promises.{AllFinite, AllNumbers, zero_answer, zero_for};
-ghost use Rattle.totals_spec.specs.Settings.{summand_of};
-ghost use Rattle.totals_spec.specs.Side.{side_of};
-ghost use Rattle.totals_spec.specs.Terms.{item, pair_item, exact_sum};
-ghost use Rattle.totals_spec.specs.Totals as spec;
-ghost use Rattle.format.specs.Joined.{format_of, settings_of};
+ghost use Rattle.totals_spec.specs.entries.Bytes.{values_in};
+ghost use Rattle.totals_spec.specs.formats.Decode.{decode};
+ghost use Rattle.totals_spec.specs.ten_bytes.Extended as ten;
+ghost use Rattle.totals_spec.specs.formats.Format.{grid};
+ghost use Rattle.totals_spec.specs.sums.Promises.{AllFinite, zero_answer, zero_for};
+ghost use Rattle.totals_spec.specs.ten_bytes.Promises.{AllNumbers};
+ghost use Rattle.totals_spec.specs.formats.Settings.{summand_of};
+ghost use Rattle.totals_spec.specs.rounding.Side.{side_of};
+ghost use Rattle.totals_spec.specs.terms.Terms.{item, pair_item, exact_sum};
+ghost use Rattle.totals_spec.specs.sums.Totals as spec;
+ghost use Rattle.format.specs.Formats.{format_of};
+ghost use Rattle.format.specs.Settings.{settings_of};
 ghost use Rattle.promises.specs.Special.{Cancelled, some_subnormal};
 ghost use Rattle.promises.specs.Statements.{RoundedOnce};
-ghost use Rattle.reduction.specs.Answered.{answer_of};
+ghost use Rattle.totals.specs.Asked.{answer_in};
 ghost use Rattle.totals.specs.Entered.{Enters};
 ghost use Rattle.promised_calls.specs.Rounded.{exact, exact_dot};
 ghost use Rattle.promised_calls.specs.Rounded.{grid_for, HoldsOnce, HoldsTensOnce};
 
 use crate::entries::{enter_dot, enter_sum};
 use format::Format;
-use format::env::Settings;
+use format::settings::Settings;
 use reduction::total::Answer;
+use totals::refusal::Refusal;
 use totals::{dot, sum};
 
 /// The sum of finite values, of the summand u, is the exact sum rounded once: to the number of the
 /// format that IEEE 754-2019 says, with its flags. Terms that cancel give a zero of the mode's
 /// sign, and a list of zeros one of theirs. The side says how the result lies beside the exact sum.
-pub fn sum_rounded_once(f: Format, c: Settings, u: u64, values: &[u64]) -> Answer
-    ensures is { answer_of result ≡ spec.sum_answer (format_of f) (settings_of c) u values.now }
+pub fn sum_rounded_once(f: Format, c: Settings, u: u64, values: &[u64]) -> Result<Answer, Refusal>
+    ensures is { answer_in result ≡ spec.sum_answer (format_of f) (settings_of c) u values.now }
     ensures once { let f = format_of f in
         let c = settings_of c in
         let x = exact f c u values.now in
-        result.refusal ≡ 0 → AllFinite f values.now → 0 < x.mag
-        → RoundedOnce f c (grid_for f u) (some_subnormal f values.now) x (answer_of result) }
+        (answer_in result).refusal ≡ 0 → AllFinite f values.now → 0 < x.mag
+        → RoundedOnce f c (grid_for f u) (some_subnormal f values.now) x (answer_in result) }
     ensures cancelled { let f = format_of f in
         let c = settings_of c in
-        result.refusal ≡ 0 → AllFinite f values.now
+        (answer_in result).refusal ≡ 0 → AllFinite f values.now
         → 0 < length (spec.sum_terms f c (summand_of u) values.now)
         → (exact f c u values.now).mag ≡ 0
-        → Cancelled f c (some_subnormal f values.now) (answer_of result) }
+        → Cancelled f c (some_subnormal f values.now) (answer_in result) }
     ensures zeros { let f = format_of f in
         let c = settings_of c in
-        result.refusal ≡ 0 → AllFinite f values.now
+        (answer_in result).refusal ≡ 0 → AllFinite f values.now
         → length (spec.sum_terms f c (summand_of u) values.now) ≡ 0
-        → answer_of result
+        → answer_in result
         ≡ zero_answer f (some_subnormal f values.now)
         (zero_for c (map (item f c (summand_of u)) values.now)) }
     ensures side { let f = format_of f in
         let x = exact f (settings_of c) u values.now in
-        result.refusal ≡ 0 → AllFinite f values.now
-        → result.side ≡ side_of (grid_for f u) (decode f result.result) x }
+        (answer_in result).refusal ≡ 0 → AllFinite f values.now
+        → (answer_in result).side ≡ side_of (grid_for f u) (decode f (answer_in result).result) x }
 {
     sum(f, c, u, values)
 }
 
 /// The dot product of finite values is the exact sum of the products, rounded once, likewise.
-pub fn dot_rounded_once(f: Format, c: Settings, left: &[u64], right: &[u64]) -> Answer
-    ensures is { answer_of result ≡ spec.dot_answer (format_of f)
+pub fn dot_rounded_once(
+    f: Format,
+    c: Settings,
+    left: &[u64],
+    right: &[u64],
+) -> Result<Answer, Refusal>
+    ensures is { answer_in result ≡ spec.dot_answer (format_of f)
         (settings_of c) left.now right.now }
     ensures once { let f = format_of f in
         let c = settings_of c in
         let x = exact_dot f c left.now right.now in
-        result.refusal ≡ 0 → AllFinite f left.now → AllFinite f right.now → 0 < x.mag
+        (answer_in result).refusal ≡ 0 → AllFinite f left.now → AllFinite f right.now → 0 < x.mag
         → RoundedOnce f c (grid f true) (some_subnormal f left.now || some_subnormal f right.now) x
-        (answer_of result) }
+        (answer_in result) }
     ensures cancelled { let f = format_of f in
         let c = settings_of c in
-        result.refusal ≡ 0 → AllFinite f left.now → AllFinite f right.now
+        (answer_in result).refusal ≡ 0 → AllFinite f left.now → AllFinite f right.now
         → 0 < length (spec.dot_terms f c left.now right.now)
         → (exact_dot f c left.now right.now).mag ≡ 0
         → Cancelled f c (some_subnormal f left.now || some_subnormal f right.now)
-        (answer_of result) }
+        (answer_in result) }
     ensures zeros { let f = format_of f in
         let c = settings_of c in
-        result.refusal ≡ 0 → AllFinite f left.now → AllFinite f right.now
+        (answer_in result).refusal ≡ 0 → AllFinite f left.now → AllFinite f right.now
         → length (spec.dot_terms f c left.now right.now) ≡ 0
-        → answer_of result
+        → answer_in result
         ≡ zero_answer f (some_subnormal f left.now || some_subnormal f right.now)
         (zero_for c (map (pair_item f c) (spec.pairs left.now right.now))) }
     ensures side { let f = format_of f in
         let x = exact_dot f (settings_of c) left.now right.now in
-        result.refusal ≡ 0 → AllFinite f left.now → AllFinite f right.now
-        → result.side ≡ side_of (grid f true) (decode f result.result) x }
+        (answer_in result).refusal ≡ 0 → AllFinite f left.now → AllFinite f right.now
+        → (answer_in result).side ≡ side_of (grid f true) (decode f (answer_in result).result) x }
 {
     dot(f, c, left, right)
 }

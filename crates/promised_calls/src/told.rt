@@ -1,6 +1,6 @@
 // How an entry is told the bias of a format.
 ghost use Rattle.std.specs.Prelude.{◌≡◌};
-ghost use Rattle.format.specs.Joined.{format_of};
+ghost use Rattle.format.specs.Formats.{format_of};
 ghost use Rattle.promised_calls.specs.Lent.{names_bias, bias_told};
 
 use format::Format;

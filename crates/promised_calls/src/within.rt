@@ -1,24 +1,28 @@
 // Totals within an allowance of passes: when they are refused, and that the order does not matter.
 ghost use Rattle.std.specs.Prelude.{◌≡◌, ◌≢◌, ◌⊎◌, ◌%◌};
-ghost use Rattle.totals_spec.specs.Bytes.{values_in};
-ghost use Rattle.totals_spec.specs.Conditions as when;
-ghost use Rattle.totals_spec.specs.Places.{StrayAt, DotStrayAt};
-ghost use Rattle.totals_spec.specs.Totals as totals;
-ghost use Rattle.totals_spec.specs.Words.{format_by};
-ghost use Rattle.further_spec.specs.Conditions.{CutShort, within_conditions};
-ghost use Rattle.further_spec.specs.Conditions.{within_entry_conditions};
-ghost use Rattle.further_spec.specs.Estimate as spec;
-ghost use Rattle.format.specs.Joined.{format_of, settings_of};
+ghost use Rattle.totals_spec.specs.entries.Bytes.{values_in};
+ghost use Rattle.totals_spec.specs.refusals.Conditions as when;
+ghost use Rattle.totals_spec.specs.refusals.Places.{StrayAt, DotStrayAt};
+ghost use Rattle.totals_spec.specs.sums.Totals as totals;
+ghost use Rattle.totals_spec.specs.entries.Words.{format_by};
+ghost use Rattle.targets_spec.specs.entries.Lengths.{CutShort};
+ghost use Rattle.targets_spec.specs.within.Conditions.{within_conditions};
+ghost use Rattle.targets_spec.specs.within.Conditions.{within_entry_conditions};
+ghost use Rattle.targets_spec.specs.within.Estimate as spec;
+ghost use Rattle.format.specs.Formats.{format_of};
+ghost use Rattle.format.specs.Settings.{settings_of};
 ghost use Rattle.totals.specs.Entered.{Enters};
-ghost use Rattle.totals.specs.Estimates.{estimate_of};
+ghost use Rattle.targets.specs.Estimates.{estimate_in};
 ghost use Rattle.promised_calls.specs.Order.{Rearranged, PairsRearranged, WithoutNan};
 ghost use Rattle.promised_calls.specs.Refusals.{RefusesExactly, RefusalAlone};
 ghost use Rattle.promised_calls.specs.Refusals.{PlacedAt, WritesNothing};
 
 use format::Format;
-use format::env::Settings;
-use totals::entry_within::{totals_dot_within, totals_sum_within};
-use totals::estimate::{Estimate, dot_within, sum_within};
+use format::settings::Settings;
+use targets::entry_within::{enter_dot_within, enter_sum_within};
+use targets::estimate::{Estimate, dot_within, sum_within};
+use totals::entry::NamedFormat;
+use totals::refusal::Refusal;
 
 /// A sum within an allowance of passes, or its refusal: an allowance of 0 before those of the sum.
 pub fn sum_within_or_refusal(
@@ -27,15 +31,15 @@ pub fn sum_within_or_refusal(
     u: u64,
     values: &[u64],
     allowance: u64,
-) -> Estimate
-    ensures is { estimate_of result ≡ spec.sum_within (format_of f)
+) -> Result<Estimate, Refusal>
+    ensures is { estimate_in result ≡ spec.sum_within (format_of f)
         (settings_of c) u values.now allowance }
     ensures exactly { RefusesExactly
         (within_conditions allowance
         (when.sum_conditions (format_of f) (settings_of c) u values.now))
-        (estimate_of result).answer.refusal }
-    ensures nothing_else { RefusalAlone (estimate_of result) }
-    ensures place { let a = (estimate_of result).answer in
+        (estimate_in result).answer.refusal }
+    ensures nothing_else { RefusalAlone (estimate_in result) }
+    ensures place { let a = (estimate_in result).answer in
         PlacedAt (StrayAt (format_of f) values.now) a.refusal a.place }
 {
     sum_within(f, c, u, values, allowance)
@@ -48,15 +52,15 @@ pub fn dot_within_or_refusal(
     left: &[u64],
     right: &[u64],
     allowance: u64,
-) -> Estimate
-    ensures is { estimate_of result
+) -> Result<Estimate, Refusal>
+    ensures is { estimate_in result
         ≡ spec.dot_within (format_of f) (settings_of c) left.now right.now allowance }
     ensures exactly { RefusesExactly
         (within_conditions allowance
         (when.dot_conditions (format_of f) (settings_of c) left.now right.now))
-        (estimate_of result).answer.refusal }
-    ensures nothing_else { RefusalAlone (estimate_of result) }
-    ensures place { let a = (estimate_of result).answer in
+        (estimate_in result).answer.refusal }
+    ensures nothing_else { RefusalAlone (estimate_in result) }
+    ensures place { let a = (estimate_in result).answer in
         PlacedAt (DotStrayAt (format_of f) left.now right.now) a.refusal a.place }
 {
     dot_within(f, c, left, right, allowance)
@@ -85,20 +89,15 @@ pub fn sum_within_entry_or_refusal(
         (values_in values.now))) (result % 256) }
     ensures nothing_written { WritesNothing result answer.old answer.new }
 {
-    totals_sum_within(
-        kind,
-        exponent_bits,
-        width,
-        bias_named,
-        bias,
-        c.rounding,
-        c.tininess,
-        c.nan_propagation,
-        c.default_nan_negative,
-        c.flush_to_zero,
-        c.denormals_are_zero,
-        c.saturate,
-        c.precision,
+    enter_sum_within(
+        NamedFormat {
+            kind,
+            exponent_bits,
+            width,
+            bias_named,
+            bias,
+        },
+        c,
         u,
         allowance,
         values,
@@ -129,20 +128,15 @@ pub fn dot_within_entry_or_refusal(
         (values_in left.now) (values_in right.now))) (result % 256) }
     ensures nothing_written { WritesNothing result answer.old answer.new }
 {
-    totals_dot_within(
-        kind,
-        exponent_bits,
-        width,
-        bias_named,
-        bias,
-        c.rounding,
-        c.tininess,
-        c.nan_propagation,
-        c.default_nan_negative,
-        c.flush_to_zero,
-        c.denormals_are_zero,
-        c.saturate,
-        c.precision,
+    enter_dot_within(
+        NamedFormat {
+            kind,
+            exponent_bits,
+            width,
+            bias_named,
+            bias,
+        },
+        c,
         allowance,
         left,
         right,
@@ -159,14 +153,14 @@ pub fn sums_within(
     one: &[u64],
     other: &[u64],
     allowance: u64,
-) -> (Estimate, Estimate)
-    ensures first { estimate_of result.0 ≡ spec.sum_within (format_of f)
+) -> (Result<Estimate, Refusal>, Result<Estimate, Refusal>)
+    ensures first { estimate_in result.0 ≡ spec.sum_within (format_of f)
         (settings_of c) u one.now allowance }
-    ensures second { estimate_of result.1
+    ensures second { estimate_in result.1
         ≡ spec.sum_within (format_of f) (settings_of c) u other.now allowance }
     ensures alike { Rearranged one.now other.now
         → totals.sum_refusal (format_of f) (settings_of c) u one.now ≡ 0
-        → WithoutNan (format_of f) one.now → estimate_of result.0 ≡ estimate_of result.1 }
+        → WithoutNan (format_of f) one.now → estimate_in result.0 ≡ estimate_in result.1 }
 {
     let first = sum_within(f, c, u, one, allowance);
     let second = sum_within(f, c, u, other, allowance);
@@ -182,15 +176,15 @@ pub fn dots_within(
     moved_left: &[u64],
     moved_right: &[u64],
     allowance: u64,
-) -> (Estimate, Estimate)
-    ensures first { estimate_of result.0
+) -> (Result<Estimate, Refusal>, Result<Estimate, Refusal>)
+    ensures first { estimate_in result.0
         ≡ spec.dot_within (format_of f) (settings_of c) left.now right.now allowance }
-    ensures second { estimate_of result.1
+    ensures second { estimate_in result.1
         ≡ spec.dot_within (format_of f) (settings_of c) moved_left.now moved_right.now allowance }
     ensures alike { PairsRearranged left.now right.now moved_left.now moved_right.now
         → totals.dot_refusal (format_of f) (settings_of c) left.now right.now ≡ 0
         → WithoutNan (format_of f) left.now → WithoutNan (format_of f) right.now
-        → estimate_of result.0 ≡ estimate_of result.1 }
+        → estimate_in result.0 ≡ estimate_in result.1 }
 {
     let first = dot_within(f, c, left, right, allowance);
     let second = dot_within(f, c, moved_left, moved_right, allowance);

@@ -1,8 +1,9 @@
 // The exported totals within an allowance of passes: two calls, each with a buffer of its own, and
 // one answer.
 ghost use Rattle.std.specs.Prelude.{◌≡◌, ◌≤◌, length};
-ghost use Rattle.totals_spec.specs.Bytes.{values_in};
-ghost use Rattle.format.specs.Joined.{format_of, settings_of};
+ghost use Rattle.totals_spec.specs.entries.Bytes.{values_in};
+ghost use Rattle.format.specs.Formats.{format_of};
+ghost use Rattle.format.specs.Settings.{settings_of};
 ghost use Rattle.totals.specs.Entered.{Enters};
 ghost use Rattle.promised_calls.specs.Entries.{Whole};
 ghost use Rattle.promised_calls.specs.Lent.{sum_within_call, dot_within_call, estimate_size};
@@ -12,7 +13,7 @@ ghost use Rattle.promised_calls.specs.Order.{Rearranged, PairsRearranged, Withou
 use crate::told::told_bias;
 use crate::within::{dot_within_entry_or_refusal, sum_within_entry_or_refusal};
 use format::Format;
-use format::env::Settings;
+use format::settings::Settings;
 
 /// The exported sum within an allowance of passes, by the entry's numbers of a format.
 pub fn enter_sum_within(

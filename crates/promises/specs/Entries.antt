@@ -1,39 +1,47 @@
--- The byte entries of a sum and of a dot: how values stand in bytes, which number comes back, and what
--- is written. Kind 4 has ten bytes a value and 32 of an answer, every other kind eight and 24.
+-- The byte entries of a sum and of a dot: how values stand in bytes, which number comes back, and
+-- what is written. Kind 4 has ten bytes a value and 32 of an answer, every other kind eight and 24.
 use Rattle.std.specs.Prelude.{◌≡◌, ◌≢◌, ◌⊎◌, List, ◌∷◌, ◌++◌, ℕ, ◌+◌, ◌*◌, ◌/◌, ◌%◌, ◌^◌, ◌≤◌, ◌<◌}
 use Rattle.std.specs.Prelude.{length, replicate, take, drop, get_or}
-use Rattle.totals_spec.specs.Format.{Format}
-use Rattle.totals_spec.specs.Settings.{Settings}
-use Rattle.totals_spec.specs.Totals.{Answer, sum_answer, dot_answer}
-use Rattle.totals_spec.specs.Bytes.{from_bytes, to_bytes, values_in, Entry}
-use Rattle.totals_spec.specs.Conditions.{Uneven, UnevenTens}
-use Rattle.totals_spec.specs.Extended.{tens_in, extended_sum_answer, extended_dot_answer, sum_call, dot_call}
+use Rattle.totals_spec.specs.formats.Format.{Format}
+use Rattle.totals_spec.specs.formats.Settings.{Settings}
+use Rattle.totals_spec.specs.sums.Totals.{Answer, sum_answer, dot_answer}
+use Rattle.totals_spec.specs.entries.Bytes.{from_bytes, to_bytes, values_in, Entry}
+use Rattle.totals_spec.specs.refusals.Conditions.{Uneven}
+use Rattle.totals_spec.specs.ten_bytes.Conditions.{UnevenTens}
+use Rattle.totals_spec.specs.ten_bytes.Extended.{tens_in, extended_sum_answer, extended_dot_answer}
+use Rattle.totals_spec.specs.ten_bytes.Extended.{sum_call, dot_call}
 
 -- ---- numbers in bytes, the least first
 
 -- byte i of n bytes of a number
 abbrev pub Bytes-of : Type 0
-Bytes-of = (n x : ℕ) → (length (to_bytes n x) ≡ n) × ((i : ℕ) → i < n → get_or (to_bytes n x) i 0 ≡ x / 256 ^ i % 256)
+Bytes-of = (n x : ℕ) → (length (to_bytes n x) ≡ n)
+    × ((i : ℕ) → i < n → get_or (to_bytes n x) i 0 ≡ x / 256 ^ i % 256)
 
 -- a value stands in each eight bytes
 abbrev pub Eights-values : Type 0
 Eights-values = (bytes : List ℕ)
     → (length (values_in bytes) ≡ length bytes / 8)
-    × ((i : ℕ) → i < length bytes / 8 → get_or (values_in bytes) i 0 ≡ from_bytes (take 8 (drop (8 * i) bytes)))
+    × ((i : ℕ) → i < length bytes / 8 → get_or (values_in bytes) i 0
+    ≡ from_bytes (take 8 (drop (8 * i) bytes)))
 
 -- ---- an answer in bytes
 
--- the result in 0 to 7, the flags in 8, the side in 10, the passes in 16 to 23; 9 and 11 to 15 are 0
+-- the result in 0 to 7, the flags in 8, the side in 10, the passes in 16 to 23; 9 and 11 to 15 are
+-- 0
 abbrev pub eights_of : Answer → List ℕ
-eights_of a = to_bytes 8 a.result ++ (a.flags ∷ 0 ∷ a.side ∷ 0 ∷ 0 ∷ 0 ∷ 0 ∷ 0 ∷ to_bytes 8 a.passes)
+eights_of a = to_bytes 8 a.result
+    ++ (a.flags ∷ 0 ∷ a.side ∷ 0 ∷ 0 ∷ 0 ∷ 0 ∷ 0 ∷ to_bytes 8 a.passes)
 
--- of kind 4 the result in 0 to 9, the flags in 10, the side in 11, the passes in 24 to 31; 12 to 23 are 0
+-- of kind 4 the result in 0 to 9, the flags in 10, the side in 11, the passes in 24 to 31; 12 to 23
+-- are 0
 abbrev pub tens_of : Answer → List ℕ
 tens_of a = to_bytes 10 a.result ++ (a.flags ∷ a.side ∷ (replicate 12 0 ++ to_bytes 8 a.passes))
 
 -- ---- what an entry does with the answer a, which takes so many bytes: its number, and the buffer
 
-pub record Does (cut : Type 0) (needed : ℕ) (a : Answer) (told old : List ℕ) (x : Entry) : Type 0 where
+pub record Does (cut : Type 0) (needed : ℕ) (a : Answer) (told old : List ℕ)
+    (x : Entry) : Type 0 where
   -- a last value is cut short
   pub uneven : cut → x ≡ record { code = 1; buffer = old }
   pub short : ¬ cut → length old < needed → x ≡ record { code = 2; buffer = old }

@@ -1,15 +1,21 @@
--- The last calls of a running total: when a finish, a finish into another format and the pence are refused, and what they write.
-use Rattle.std.specs.Prelude.{◌≡◌, ◌≢◌, ◌⊎◌, ◌↔◌, cond, List, [], ◌∷◌, ℕ, ◌<◌, ◌≤◌, length, ℤ, T as Holds}
-use Rattle.totals_spec.specs.Settings.{Settings}
-use Rattle.totals_spec.specs.Decode.{is_nan}
-use Rattle.totals_spec.specs.Bytes.{Entry, written}
-use Rattle.totals_spec.specs.Words.{format_by}
-use Rattle.totals_spec.specs.Extended.{extended_written}
-use Rattle.totals_spec.specs.Conditions.{Misnamed, BadFormat, BadSettings, BeyondPence, Condition, First}
+-- The last calls of a running total: when a finish, a finish into another format and the pence are
+-- refused, and what they write.
+use Rattle.std.specs.Prelude.{◌≡◌, ◌≢◌, ◌⊎◌, ◌↔◌, cond, List, [], ◌∷◌, ℕ, ◌<◌, ◌≤◌, length, ℤ}
+use Rattle.std.specs.Prelude.{T as Holds}
+use Rattle.totals_spec.specs.formats.Settings.{Settings}
+use Rattle.totals_spec.specs.formats.Decode.{is_nan}
+use Rattle.totals_spec.specs.entries.Bytes.{Entry, written}
+use Rattle.totals_spec.specs.entries.Words.{format_by}
+use Rattle.totals_spec.specs.ten_bytes.Extended.{extended_written}
+use Rattle.totals_spec.specs.refusals.Conditions.{Misnamed, BadFormat, BadSettings, Condition}
+use Rattle.totals_spec.specs.refusals.Conditions.{First}
+use Rattle.totals_spec.specs.pence.Conditions.{BeyondPence}
 use Rattle.running_spec.specs.State.{State}
-use Rattle.running_spec.specs.Saved.{Key, format_in, counted_in, products_in, is_kind4, key_in, state_in}
+use Rattle.running_spec.specs.Saved.{Key, format_in, counted_in, products_in, is_kind4, key_in}
+use Rattle.running_spec.specs.Saved.{state_in}
 use Rattle.running_spec.specs.Finish.{finish_into, state_pence}
-use Rattle.running_spec.specs.Entries.{finished_state, finish_entry, into_entry, running_pence, running_pence_entry}
+use Rattle.running_spec.specs.Entries.{finished_state, finish_entry, into_entry, running_pence}
+use Rattle.running_spec.specs.Entries.{running_pence_entry}
 use Rattle.running_spec.specs.Conditions.{NoState}
 
 -- 24 bytes are written, of kind 4 32
@@ -32,7 +38,8 @@ abbrev pub SawInvalid : State → Type 0
 SawInvalid s = (SawNoNumber s ⊎ (0 < s.invalid)) ⊎ (0 < s.unsupported)
 
 -- of a finish into another format, which is a total's kind
-abbrev pub into_conditions : (state : List ℕ) → (kind exponent_bits width named : ℕ) (bias : ℤ) → Settings
+abbrev pub into_conditions : (state : List ℕ) → (kind exponent_bits width named : ℕ) (bias : ℤ)
+    → Settings
     → (old : List ℕ) → List Condition
 into_conditions state k e w named b c old =
     (18, NoState state)
@@ -47,7 +54,11 @@ abbrev pub pence_conditions : (state : List ℕ) → List Condition
 pence_conditions state =
     (18, NoState state)
     ∷ (4, (2 ≤ (key_in state).what) ⊎ ((key_in state).kind ≡ 4))
-    ∷ (8, SawNoNumber (state_in state) ⊎ BeyondPence (format_in (key_in state)) (state_in state).sum)
+    ∷ (
+      8,
+      SawNoNumber (state_in state) ⊎ BeyondPence (format_in (key_in state))
+          (state_in state).sum,
+    )
     ∷ []
 
 -- each number exactly where its condition is the first that holds
@@ -56,8 +67,10 @@ Finish-refused-exactly =
     ((state : List ℕ) (c : Settings) (old : List ℕ) (n : ℕ)
     → (finish_entry state c old).code ≡ n ↔ First (finish_conditions state c old) n)
     × ((state : List ℕ) (k e w named : ℕ) (b : ℤ) (c : Settings) (old : List ℕ) (n : ℕ)
-    → (into_entry state k e w named b c old).code ≡ n ↔ First (into_conditions state k e w named b c old) n)
-    × ((state : List ℕ) (n : ℕ) → (running_pence state).refusal ≡ n ↔ First (pence_conditions state) n)
+    → (into_entry state k e w named b c old).code ≡ n
+    ↔ First (into_conditions state k e w named b c old) n)
+    × ((state : List ℕ) (n : ℕ) → (running_pence state).refusal ≡ n
+    ↔ First (pence_conditions state) n)
 
 -- a refused call leaves its buffer, an accepted one writes the record as a byte entry does
 abbrev pub Leaves : Entry → (old new : List ℕ) → Type 0
@@ -66,9 +79,13 @@ Leaves e old new = (e.code ≢ 0 → e.buffer ≡ old) × (e.code ≡ 0 → e.bu
 abbrev pub Finish-writes : Type 0
 Finish-writes =
     ((state : List ℕ) (c : Settings) (old : List ℕ) → Leaves (finish_entry state c old) old
-    (cond (is_kind4 (key_in state)) (extended_written (finished_state state c) old) (written (finished_state state c) old)))
-    × ((state : List ℕ) (k e w named : ℕ) (b : ℤ) (c : Settings) (old : List ℕ) → Leaves (into_entry state k e w named b c old) old
-    (written (finish_into (counted_in (key_in state)) (products_in (key_in state)) (format_by k e w named b) c (state_in state)) old))
+    (cond (is_kind4 (key_in state)) (extended_written (finished_state state c) old)
+    (written (finished_state state c) old)))
+    × ((state : List ℕ) (k e w named : ℕ) (b : ℤ) (c : Settings) (old : List ℕ)
+    → Leaves (into_entry state k e w named b c old) old
+    (written
+    (finish_into (counted_in (key_in state)) (products_in (key_in state))
+    (format_by k e w named b) c (state_in state)) old))
 
 -- the figure is that of the state's sum, where it has one
 abbrev pub Pence-writes : Type 0

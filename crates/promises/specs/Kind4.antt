@@ -1,19 +1,24 @@
--- Values of ten bytes (kind 4): a total that the format holds is the exact sum itself, and how far off any other total is.
+-- Values of ten bytes (kind 4): a total that the format holds is the exact sum itself, and how far
+-- off any other total is.
 use Rattle.std.specs.Prelude.{◌≡◌, ◌↔◌, Bool, true, ◌||◌, List, map, ℕ, ◌+◌, ◌*◌, ◌<◌, ◌≤◌}
 use Rattle.totals_spec.specs.Basics.{Signed, raised, any, flag}
-use Rattle.totals_spec.specs.Format.{Format, room, grid}
-use Rattle.totals_spec.specs.Settings.{Settings, Summand, rounding_of, precision_of, summand_of}
-use Rattle.totals_spec.specs.Decode.{Unpacked}
-use Rattle.totals_spec.specs.Encode.{encode}
-use Rattle.totals_spec.specs.Ranges.{worth}
-use Rattle.totals_spec.specs.Allowed.{sum_of_amounts}
-use Rattle.totals_spec.specs.Terms.{exact_sum}
-use Rattle.totals_spec.specs.Totals.{Answer, pairs, on_grid, is_square}
-use Rattle.totals_spec.specs.Promises.{AllNumbers}
-use Rattle.totals_spec.specs.Extended.{extended, spread, decode_extended, subnormal_extended}
-use Rattle.totals_spec.specs.Extended.{extended_operand}
-use Rattle.totals_spec.specs.Extended.{extended_terms, extended_sum_refusal, extended_sum_answer}
-use Rattle.totals_spec.specs.Extended.{extended_dot_terms, extended_dot_refusal, extended_dot_answer}
+use Rattle.totals_spec.specs.formats.Format.{Format, room, grid}
+use Rattle.totals_spec.specs.formats.Settings.{Settings, Summand, rounding_of, precision_of}
+use Rattle.totals_spec.specs.formats.Settings.{summand_of}
+use Rattle.totals_spec.specs.formats.Decode.{Unpacked}
+use Rattle.totals_spec.specs.formats.Encode.{encode}
+use Rattle.totals_spec.specs.formats.Ordered.{worth}
+use Rattle.figures_spec.specs.ranges.Allowed.{sum_of_amounts}
+use Rattle.totals_spec.specs.terms.Terms.{exact_sum}
+use Rattle.totals_spec.specs.sums.Totals.{Answer, pairs, on_grid, is_square}
+use Rattle.totals_spec.specs.ten_bytes.Promises.{AllNumbers}
+use Rattle.totals_spec.specs.ten_bytes.Extended.{extended, spread, decode_extended}
+use Rattle.totals_spec.specs.ten_bytes.Extended.{subnormal_extended}
+use Rattle.totals_spec.specs.ten_bytes.Extended.{extended_operand}
+use Rattle.totals_spec.specs.ten_bytes.Extended.{extended_terms, extended_sum_refusal}
+use Rattle.totals_spec.specs.ten_bytes.Extended.{extended_sum_answer}
+use Rattle.totals_spec.specs.ten_bytes.Extended.{extended_dot_terms, extended_dot_refusal}
+use Rattle.totals_spec.specs.ten_bytes.Extended.{extended_dot_answer}
 use Rattle.promises.specs.Numbers.{distance, is_nearest}
 use Rattle.promises.specs.Rounding.{grid_of, Finite, Largest, Worth, Tiny, Flushed}
 use Rattle.promises.specs.Statements.{unit}

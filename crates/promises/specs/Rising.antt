@@ -1,17 +1,18 @@
 -- A larger exact sum never has a smaller total: of every format, mode, precision and setting, flush
 -- to zero and denormals-are-zero too, wherever neither total is a NaN. No total of finite values is
--- one in a kind with infinities or without NaNs; in the others it is one where it overflows in a mode
--- that carries the overflow on, and saturate is not set.
+-- one in a kind with infinities or without NaNs; in the others it is one where it overflows in a
+-- mode that carries the overflow on, and saturate is not set.
 use Rattle.std.specs.Prelude.{◌≡◌, ◌⊎◌, Bool, true, false, List, [], ◌∷◌, map, ℕ, ◌<◌, T as Holds}
 use Rattle.totals_spec.specs.Basics.{Signed, minus_of}
-use Rattle.totals_spec.specs.Bounds.{RangeBounds, SettingsBounds}
-use Rattle.totals_spec.specs.Format.{Format, no_inf, fnuz, kind_of}
-use Rattle.totals_spec.specs.Settings.{Settings, rounding_of, precision_of, summand_of}
-use Rattle.totals_spec.specs.Decode.{Unpacked, decode, is_nan}
-use Rattle.totals_spec.specs.Ranges.{worth, at_most}
-use Rattle.totals_spec.specs.Allowed.{sum_of_amounts, Ordered}
-use Rattle.totals_spec.specs.Promises.{AllFinite}
-use Rattle.totals_spec.specs.Totals.{pairs, sum_refusal, sum_answer, dot_refusal, dot_answer}
+use Rattle.totals_spec.specs.formats.Bounds.{RangeBounds, SettingsBounds}
+use Rattle.totals_spec.specs.formats.Format.{Format, no_inf, fnuz, kind_of}
+use Rattle.totals_spec.specs.formats.Settings.{Settings, rounding_of, precision_of, summand_of}
+use Rattle.totals_spec.specs.formats.Decode.{Unpacked, decode, is_nan}
+use Rattle.totals_spec.specs.formats.Ordered.{worth, at_most}
+use Rattle.figures_spec.specs.ranges.Allowed.{sum_of_amounts}
+use Rattle.totals_spec.specs.formats.Ordered.{Ordered}
+use Rattle.totals_spec.specs.sums.Promises.{AllFinite}
+use Rattle.totals_spec.specs.sums.Totals.{pairs, sum_refusal, sum_answer, dot_refusal, dot_answer}
 use Rattle.promises.specs.Numbers.{RoundsTo}
 use Rattle.promises.specs.Rounding.{grid_of, Largest, Carried, Once}
 use Rattle.promises.specs.Amounts.{amount, product, AllAtMost}
@@ -30,7 +31,8 @@ pub record CarriedToNaN (f : Format) (c : Settings) (g : ℕ) (s : Bool) (x : �
   pub carried : Carried c s
   pub y : ℕ
   pub most : ℕ
-  pub rounds : RoundsTo (rounding_of c.rounding) (precision_of f c) (grid_of f (precision_of f c) g) s x y
+  pub rounds : RoundsTo (rounding_of c.rounding) (precision_of f c)
+      (grid_of f (precision_of f c) g) s x y
   pub largest : Largest f (precision_of f c) g most
   pub over : most < y
 
@@ -47,7 +49,8 @@ abbrev pub Sum-rises : Type 0
 Sum-rises = (f : Format) (c : Settings) (u : ℕ) (l k : List ℕ)
     → sum_refusal f c u l ≡ 0 → AllFinite f l → sum_refusal f c u k ≡ 0 → AllFinite f k
     → Holds (at_most (sum_amount f c u l) (sum_amount f c u k))
-    → let a = decode f (sum_answer f c u l).result in let b = decode f (sum_answer f c u k).result in
+    → let a = decode f (sum_answer f c u l).result in let b = decode f
+    (sum_answer f c u k).result in
     is_nan a ≡ false → is_nan b ≡ false → Ordered a b
 
 -- and dots
@@ -59,13 +62,15 @@ Dot-rises = (f : Format) (c : Settings) (xs ys xs' ys' : List ℕ)
     → dot_refusal f c xs ys ≡ 0 → AllFinite f xs → AllFinite f ys
     → dot_refusal f c xs' ys' ≡ 0 → AllFinite f xs' → AllFinite f ys'
     → Holds (at_most (dot_amount f c xs ys) (dot_amount f c xs' ys'))
-    → let a = decode f (dot_answer f c xs ys).result in let b = decode f (dot_answer f c xs' ys').result in
+    → let a = decode f (dot_answer f c xs ys).result in let b = decode f
+    (dot_answer f c xs' ys').result in
     is_nan a ≡ false → is_nan b ≡ false → Ordered a b
 
 -- in a kind with infinities (0), and in one without NaNs (3), no total of finite values is a NaN
 abbrev pub Sum-number : Type 0
 Sum-number = (f : Format) (c : Settings) (u : ℕ) (l : List ℕ) → (f.kind ≡ 0) ⊎ (f.kind ≡ 3)
-    → sum_refusal f c u l ≡ 0 → AllFinite f l → is_nan (decode f (sum_answer f c u l).result) ≡ false
+    → sum_refusal f c u l ≡ 0 → AllFinite f l
+    → is_nan (decode f (sum_answer f c u l).result) ≡ false
 
 abbrev pub Dot-number : Type 0
 Dot-number = (f : Format) (c : Settings) (xs ys : List ℕ) → (f.kind ≡ 0) ⊎ (f.kind ≡ 3)
@@ -81,13 +86,16 @@ AllRise (x ∷ xs) [] = ⊥
 AllRise (x ∷ xs) (y ∷ ys) = Holds (at_most x y) × AllRise xs ys
 
 abbrev pub Amounts-rise : Type 0
-Amounts-rise = (xs ys : List Signed) → AllRise xs ys → Holds (at_most (sum_of_amounts xs) (sum_of_amounts ys))
+Amounts-rise = (xs ys : List Signed) → AllRise xs ys
+    → Holds (at_most (sum_of_amounts xs) (sum_of_amounts ys))
 
 -- raising values, one or several, never lowers their total, whichever subnormals are taken as zeros
 abbrev pub Values-rise : Type 0
 Values-rise = (f : Format) (c : Settings) (l k : List ℕ)
-    → sum_refusal f c 0 l ≡ 0 → AllFinite f l → sum_refusal f c 0 k ≡ 0 → AllFinite f k → AllAtMost f l k
-    → let a = decode f (sum_answer f c 0 l).result in let b = decode f (sum_answer f c 0 k).result in
+    → sum_refusal f c 0 l ≡ 0 → AllFinite f l → sum_refusal f c 0 k ≡ 0 → AllFinite f k
+    → AllAtMost f l k
+    → let a = decode f (sum_answer f c 0 l).result in let b = decode f
+    (sum_answer f c 0 k).result in
     is_nan a ≡ false → is_nan b ≡ false → Ordered a b
 
 -- raising factors whose partners are not negative never lowers a dot
@@ -97,7 +105,9 @@ NoneNegative f (y ∷ ys) = (minus_of (worth (decode f y)) ≡ 0) × NoneNegativ
 
 abbrev pub Factors-rise : Type 0
 Factors-rise = (f : Format) (c : Settings) (xs xs' ys : List ℕ)
-    → dot_refusal f c xs ys ≡ 0 → AllFinite f xs → AllFinite f ys → dot_refusal f c xs' ys ≡ 0 → AllFinite f xs'
+    → dot_refusal f c xs ys ≡ 0 → AllFinite f xs → AllFinite f ys → dot_refusal f c xs' ys ≡ 0
+    → AllFinite f xs'
     → AllAtMost f xs xs' → NoneNegative f ys
-    → let a = decode f (dot_answer f c xs ys).result in let b = decode f (dot_answer f c xs' ys).result in
+    → let a = decode f (dot_answer f c xs ys).result in let b = decode f
+    (dot_answer f c xs' ys).result in
     is_nan a ≡ false → is_nan b ≡ false → Ordered a b

@@ -3,17 +3,20 @@
 use Rattle.std.specs.Prelude.{◌≡◌, ◌≢◌, ◌↔◌, Bool, true, false, not, ◌||◌, List, length, ℕ, suc}
 use Rattle.std.specs.Prelude.{◌+◌, ◌-◌, ◌*◌, ◌^◌, ◌<◌, pos}
 use Rattle.totals_spec.specs.Basics.{any, flag}
-use Rattle.totals_spec.specs.Format.{Format}
-use Rattle.totals_spec.specs.Settings.{Settings, summand_of}
-use Rattle.totals_spec.specs.Decode.{Unpacked, zero_of, finite, infinity, nan, is_nan, is_signaling}
-use Rattle.totals_spec.specs.Encode.{encode}
-use Rattle.totals_spec.specs.Totals.{Answer, pairs}
-use Rattle.totals_spec.specs.Promises.{AllNumbers}
-use Rattle.totals_spec.specs.Extended.{extended, spread, decode_extended, subnormal_extended}
-use Rattle.totals_spec.specs.Extended.{unsupported, field_in, significand_in, sign_in}
-use Rattle.totals_spec.specs.Extended.{extended_operand, extended_terms, extended_sum_refusal}
-use Rattle.totals_spec.specs.Extended.{extended_sum_answer, extended_dot_terms}
-use Rattle.totals_spec.specs.Extended.{extended_dot_refusal, extended_dot_answer}
+use Rattle.totals_spec.specs.formats.Format.{Format}
+use Rattle.totals_spec.specs.formats.Settings.{Settings, summand_of}
+use Rattle.totals_spec.specs.formats.Decode.{Unpacked, zero_of, finite, infinity, nan, is_nan}
+use Rattle.totals_spec.specs.formats.Decode.{is_signaling}
+use Rattle.totals_spec.specs.formats.Encode.{encode}
+use Rattle.totals_spec.specs.sums.Totals.{Answer, pairs}
+use Rattle.totals_spec.specs.ten_bytes.Promises.{AllNumbers}
+use Rattle.totals_spec.specs.ten_bytes.Extended.{extended, spread, decode_extended}
+use Rattle.totals_spec.specs.ten_bytes.Extended.{subnormal_extended}
+use Rattle.totals_spec.specs.ten_bytes.Extended.{unsupported, field_in, significand_in, sign_in}
+use Rattle.totals_spec.specs.ten_bytes.Extended.{extended_operand, extended_terms}
+use Rattle.totals_spec.specs.ten_bytes.Extended.{extended_sum_refusal}
+use Rattle.totals_spec.specs.ten_bytes.Extended.{extended_sum_answer, extended_dot_terms}
+use Rattle.totals_spec.specs.ten_bytes.Extended.{extended_dot_refusal, extended_dot_answer}
 use Rattle.promises.specs.Special.{AllOf, default_of, is_infinity, is_infinite_value}
 use Rattle.promises.specs.Special.{infinity_times_zero, infinite_product, ZeroSign}
 use Rattle.promises.specs.Special.{is_zero_value, is_any_zero, zero_product}
@@ -118,7 +121,8 @@ Extended-dot-infinite = (f : Format) (c : Settings) (s : Bool) (xs ys : List ℕ
 
 abbrev pub ExtendedZero : Settings → (plus minus sub : Bool) → Answer → Type 0
 ExtendedZero c plus minus sub a =
-    (negative : Bool) × ZeroSign c plus minus negative × ExtendedGiven (zero_of negative) sub false a
+    (negative : Bool) × ZeroSign c plus minus negative
+    × ExtendedGiven (zero_of negative) sub false a
 
 -- a list of zeros and, under denormals-are-zero, subnormals, pseudo-denormals too
 abbrev pub Extended-sum-of-zeros : Type 0

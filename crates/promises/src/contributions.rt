@@ -1,6 +1,6 @@
 //! A contribution: the least number with which the plain sum of a list is a wanted total.
 
-ghost use Rattle.further_spec.specs.Promises as law;
+ghost use Rattle.targets_spec.specs.contribution.Promises as law;
 
 /// In an Ieee format without flush-to-zero the larger of two sums rounds to what is as large, in
 /// every mode, at every precision and past the largest number.

@@ -1,7 +1,7 @@
 //! Values of ten bytes, kind 4: the promises of a total, of its sums and dots.
 
-ghost use Rattle.further_spec.specs.Promises as further;
-ghost use Rattle.totals_spec.specs.Promises as plain;
+ghost use Rattle.targets_spec.specs.formats.Promises as further;
+ghost use Rattle.totals_spec.specs.ten_bytes.Promises as plain;
 
 /// A total of kind 4 has a refusal's number exactly where its condition holds and none before it
 /// does: 3, 4, 6 of a sum and 3, 4, 5, 6 of a dot.
@@ -20,7 +20,7 @@ pub fn refused()
     ensures { plain.Extended-refused }
 {}
 
-/// Lists of words, pence and tables refuse kind 4 with 3.
+/// Lists of words and pence refuse kind 4 with 3.
 pub fn refused_elsewhere()
     ensures { plain.Extended-elsewhere }
 {}

@@ -1,6 +1,7 @@
 //! Two habits of the totals: mirrored lists have mirrored totals, and a square sum is a dot.
 
-ghost use Rattle.totals_spec.specs.Promises as law;
+ghost use Rattle.mirror_spec.specs.Promises as law;
+ghost use Rattle.totals_spec.specs.sums.Promises as sum_law;
 
 /// The negative of an encoding stands for the value with the other sign, as its format keeps it.
 pub fn negated_value()
@@ -32,5 +33,5 @@ pub fn extended_mirror()
 /// Without a NaN the square sum is the dot of the list with itself, record for record, of kinds 0
 /// to 3.
 pub fn square_dot()
-    ensures { law.Square-dot }
+    ensures { sum_law.Square-dot }
 {}

@@ -1,6 +1,6 @@
 //! Every rearrangement of an accepted list without a NaN has the same record.
 
-ghost use Rattle.totals_spec.specs.Promises as law;
+ghost use Rattle.totals_spec.specs.order.Promises as law;
 
 /// A rearrangement of an accepted list without a NaN is accepted, and its sum has the same whole
 /// record.

@@ -1,6 +1,6 @@
 //! Career pages: what is written, what opens, and the total of a span.
 
-ghost use Rattle.totals_spec.specs.Promises as law;
+ghost use Rattle.pages_spec.specs.Promises as law;
 
 /// With room, and at most 268,435,456 values, writing answers the page's length and leaves the page
 /// in front of the destination; it opens, and holds what was written.

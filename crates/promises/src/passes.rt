@@ -1,6 +1,7 @@
 //! The passes never exceed their limit, 1 + ⌈(T − 702 − B) / (697 − p)⌉.
 
-ghost use Rattle.totals_spec.specs.Promises as law;
+ghost use Rattle.totals_spec.specs.chain.Promises as law;
+ghost use Rattle.totals_spec.specs.rounding.Promises as rounding_law;
 
 /// A sum never takes more passes than the limit, whatever the length of the list, of refused calls
 /// too.
@@ -58,5 +59,5 @@ pub fn low_bit()
 /// T is made of bit lengths: a number m above 0 lies from 2^(size m − 1) up to below 2^(size m),
 /// and 0 has none.
 pub fn size_is_length()
-    ensures { law.Size-is-length }
+    ensures { rounding_law.Size-is-length }
 {}

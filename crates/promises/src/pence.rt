@@ -1,6 +1,6 @@
 //! The pence of a list, and of one encoding.
 
-ghost use Rattle.totals_spec.specs.Promises as law;
+ghost use Rattle.totals_spec.specs.pence.Promises as law;
 
 /// The pence of a list have a refusal's number exactly where its condition holds and none before it
 /// does: 3, 6, 7, 8.

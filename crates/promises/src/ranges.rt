@@ -1,6 +1,6 @@
 //! Amounts known within a range: the least and the greatest total that they allow.
 
-ghost use Rattle.totals_spec.specs.Promises as law;
+ghost use Rattle.figures_spec.specs.ranges.Promises as law;
 
 /// A range total has a refusal's number exactly where its condition holds and none before it does:
 /// 5, 6, 11.

@@ -1,6 +1,6 @@
 //! The totals of a table: of all cells, of each row and of each column.
 
-ghost use Rattle.totals_spec.specs.Promises as law;
+ghost use Rattle.figures_spec.specs.tables.Promises as law;
 
 /// A table has a refusal's number exactly where its condition holds and none before it does: 3, 4,
 /// 6, 9, 10, 7.
@@ -63,4 +63,14 @@ pub fn column_cells()
 /// totals.
 pub fn untouched()
     ensures { law.Table-untouched }
+{}
+
+/// Naming the bias that a kind has anyway changes no table.
+pub fn naming_the_own_bias()
+    ensures { law.Table-named-own }
+{}
+
+/// A table refuses kind 4 with 3.
+pub fn refused_of_kind_four()
+    ensures { law.Table-extended-elsewhere }
 {}

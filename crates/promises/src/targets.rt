@@ -1,23 +1,24 @@
 //! One total in several formats: the record of each target is that of the exact sum, rounded once in
 //! its own format.
 
-ghost use Rattle.further_spec.specs.Promises as further;
+ghost use Rattle.targets_spec.specs.several.Promises as further;
+ghost use Rattle.totals_spec.specs.rounding.Promises as rounding_law;
 ghost use Rattle.promises.specs.TargetNumbers as number;
 
 /// Rounding into a target is the target's own rounding of the same number.
 pub fn rounds_as_its_own()
-    ensures { further.Target-means }
+    ensures { rounding_law.Target-means }
 {}
 
 /// What the passes end with, rounded into a format of at most the list's digits, is the exact sum
 /// rounded once there.
 pub fn rounds_once()
-    ensures { further.Target-rounds }
+    ensures { rounding_law.Target-rounds }
 {}
 
 /// What the passes end with is zero only where the exact sum is.
 pub fn zero_only()
-    ensures { further.Target-zero }
+    ensures { rounding_law.Target-zero }
 {}
 
 /// The whole record of an accepted target, the side too, can be made of what the passes end with.

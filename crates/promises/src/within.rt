@@ -1,7 +1,7 @@
 //! A total within an allowance of passes: the full answer, or a first figure and how far off it may
 //! be.
 
-ghost use Rattle.further_spec.specs.Promises as law;
+ghost use Rattle.targets_spec.specs.within.Promises as law;
 
 /// Where the chain ends within the allowance, the full answer comes.
 pub fn in_time()

@@ -1,4 +1,5 @@
--- One turn of a pass: the window and the lost bit of the first i elements, with the part of one more.
+-- One turn of a pass: the window and the lost bit of the first i elements, with the part of one
+-- more.
 use mathlib.Core.Path.{◌≡◌, refl, sym, ap, ap₂, ◌∙◌, subst}
 use mathlib.Core.Bool.{Bool, true, false, cond}
 use mathlib.Core.List.{List, [], ◌∷◌, ◌++◌, append-nil}
@@ -19,19 +20,19 @@ use Rattle.limbs.specs.Value.{Words, value, moved, term}
 use Rattle.limbs.proofs.Words.{alike, value-lt}
 use Rattle.limbs.specs.contracts.word.Sum.{the_type}
 use Rattle.limbs.proofs.word.Sum.TheLaws.{the_laws}
-use Rattle.limbs_term.proofs.Stored.{past-moved}
+use Rattle.limbs.proofs.Stored.{past-moved}
 use Rattle.totals_spec.specs.Basics.{total, greatest, keep}
-use Rattle.totals_spec.specs.Terms as terms
-use Rattle.totals_spec.specs.Chain.{residue, half, look_at, lost_end, lost_of, cut_plus, cut_minus}
-use Rattle.totals_spec.proofs.Window.{residue-zero, residue-plus, residue-minus, residue-cancel}
-use Rattle.totals_spec.proofs.Walk.{total-append, greatest-append, picked-append}
-use Rattle.arithmetic.specs.declared.Term.{Term}
-use Rattle.window.specs.declared.Kept.{Kept}
+use Rattle.totals_spec.specs.terms.Terms as terms
+use Rattle.totals_spec.specs.chain.Chain.{residue, half, look_at, lost_end, lost_of, cut_plus, cut_minus}
+use Rattle.totals_spec.proofs.chain.WindowResidues.{residue-zero, residue-plus, residue-minus, residue-cancel}
+use Rattle.totals_spec.proofs.lists.FirstElements.{total-append, greatest-append, picked-append}
+use Rattle.binary.specs.declared.term.Term.{Term}
+use Rattle.window.specs.declared.UpperPart.{UpperPart}
 use Rattle.window.specs.declared.Part.{Part}
 use Rattle.window.specs.declared.Pass.{Pass}
-use Rattle.arithmetic.specs.Joined.{magnitude, StandsFor}
-use Rattle.arithmetic.proofs.Elements.{no-magnitude}
-use Rattle.window.specs.Joined.{part_of, PartAt, Passed}
+use Rattle.binary.specs.Terms.{magnitude, StandsFor}
+use Rattle.binary.proofs.Elements.{no-magnitude}
+use Rattle.window.specs.Chain.{part_of, PartAt, Passed}
 use Rattle.window.proofs.Numbers.{window}
 use Rattle.window.proofs.Parted.{lost-of-zero}
 use Rattle.reduction.specs.Held.{middle, Held}
@@ -168,7 +169,7 @@ Owned r = shadow ((row the_type).own_val r (val the_type the_laws r ∷ []))
 pub fits : (r : Sum) → Owned r → r.word < 2 ^ 64
 fits r h = omega arith
 
--- ---- one turn: t stands for the item i, p is its part at the edge, and `lost` is that of all i + 1
+-- ---- one turn: t stands for the item i, p is its part at the edge, `lost` that of all i + 1
 
 module _ {l : List terms.Item} {n w i : ℕ} {total : List ℕ} {before : ℕ} (so_far : Running l n w i total before) where
   pub record Turn (t : Term) (p : Part) (lost : ℕ) : Type 0 where
@@ -216,15 +217,15 @@ module _ {l : List terms.Item} {n w i : ℕ} {total : List ℕ} {before : ℕ} {
   past e = turn_moved so_far.words (past-moved t.negative part so_far.words e)
 
   pub turn-none : p.kept ≡ None → Running l n w (i + 1) total lost
-  turn-none e = past (ap (λ (k : Option Kept). part_of k % 2 ^ 768) e)
+  turn-none e = past (ap (λ (k : Option UpperPart). part_of k % 2 ^ 768) e)
 
   -- and where there is one
-  module _ {q : Kept} (e : p.kept ≡ Some q) where
+  module _ {q : UpperPart} (e : p.kept ≡ Some q) where
     pub kept_moved : {r : List ℕ} → Words 12 r → value r ≡ moved t.negative (value total) (term q.significand q.up) → Running l n w (i + 1) r lost
-    kept_moved f g = turn_moved f (g ∙ ap (λ (k : Option Kept). moved t.negative (value total) (part_of k)) (sym e))
+    kept_moved f g = turn_moved f (g ∙ ap (λ (k : Option UpperPart). moved t.negative (value total) (part_of k)) (sym e))
 
     pub kept_past : term q.significand q.up % 2 ^ 768 ≡ 0 → Running l n w (i + 1) total lost
-    kept_past z = past (ap (λ (k : Option Kept). part_of k % 2 ^ 768) e ∙ z)
+    kept_past z = past (ap (λ (k : Option UpperPart). part_of k % 2 ^ 768) e ∙ z)
 
 -- ---- what is no term
 

@@ -5,19 +5,19 @@ use Prim.Native.Nat.{ℕ, zero, suc, ◌≤◌, ◌<◌, min}
 use native.Mathlib.Nat.{le_of_suc-le-suc, not-suc-le-zero, suc-min-suc}
 use native.Mathlib.Omega.{arith}
 use lib.ListN.{length, get_or, length-map}
-use Rattle.totals_spec.specs.Settings.{Settings, Summand}
-use Rattle.totals_spec.specs.Terms.{item, pair_item}
-use Rattle.totals_spec.specs.Totals.{limit, pairs}
-use Rattle.totals_spec.specs.Extended.{extended, extended_item, extended_pair}
-use Rattle.totals_spec.proofs.Alone.{list-gives, pairs-give}
-use Rattle.totals_spec.proofs.ExtendedTerms.{extended-good, extended-good-pairs, extended-top, extended-dot-top}
-use Rattle.totals_spec.proofs.Good.{good-terms, good-pairs}
-use Rattle.totals_spec.proofs.Halves.{ieee-give}
-use Rattle.totals_spec.proofs.Order.{pairs-length}
-use Rattle.totals_spec.proofs.Tops.{sum_top, dot-top}
+use Rattle.totals_spec.specs.formats.Settings.{Settings, Summand}
+use Rattle.totals_spec.specs.terms.Terms.{item, pair_item}
+use Rattle.totals_spec.specs.sums.Totals.{limit, pairs}
+use Rattle.totals_spec.specs.ten_bytes.Extended.{extended, extended_item, extended_pair}
+use Rattle.totals_spec.proofs.formats.KindValues.{list-gives, pairs-give}
+use Rattle.totals_spec.proofs.ten_bytes.Terms.{extended-good, extended-good-pairs, extended-top, extended-dot-top}
+use Rattle.totals_spec.proofs.terms.GoodTerms.{good-terms, good-pairs}
+use Rattle.totals_spec.proofs.ten_bytes.TwoWords.{ieee-give}
+use Rattle.totals_spec.proofs.order.Order.{pairs-length}
+use Rattle.totals_spec.proofs.terms.HighestAndLowest.{sum_top, dot-top}
 use Rattle.format.specs.declared.layout.Layout.{Layout}
 use Rattle.format.specs.Layouts.{layout_of}
-use Rattle.scan.specs.Encodings.{of_layout, of_tens, item_in, pair_in}
+use Rattle.reduction.specs.Encodings.{of_layout, of_tens, item_in, pair_in}
 use Rattle.reduction.specs.Held.{Summable}
 
 pub mapped : {A B : Type 0} (g : A → B) (l : List A) (i : ℕ) (d : A) (e : B) → i < length l → get_or (map g l) i e ≡ g (get_or l i d)

@@ -9,25 +9,25 @@ use lib.ListN.{length}
 use lib.Pow.{pow_mono}
 use Rattle.std.specs.declared.ops.ControlFlow.TheVariants.{Continue, Break}
 use Rattle.std.specs.Prelude.{Ok, Err}
-use Rattle.totals_spec.specs.Format.{Format}
-use Rattle.totals_spec.specs.Settings.{Settings}
-use Rattle.totals_spec.specs.Bounds.{RangeBounds}
-use Rattle.totals_spec.specs.Terms.{Item, Term, term_of, terms, top_of}
-use Rattle.totals_spec.specs.Totals.{limit}
-use Rattle.totals_spec.specs.Hundredfold.{hundred_terms}
-use Rattle.totals_spec.proofs.Good.{AllGood, picked-length}
-use Rattle.totals_spec.proofs.Hundredfold.{good-hundred, few-hundred}
-use Rattle.totals_spec.proofs.HundredTop.{top-most}
-use Rattle.totals_spec.proofs.Margin.{terms-max}
-use Rattle.totals_spec.proofs.Edges.{first_edge}
+use Rattle.totals_spec.specs.formats.Format.{Format}
+use Rattle.totals_spec.specs.formats.Settings.{Settings}
+use Rattle.totals_spec.specs.formats.Bounds.{RangeBounds}
+use Rattle.totals_spec.specs.terms.Terms.{Item, Term, term_of, terms, top_of}
+use Rattle.totals_spec.specs.sums.Totals.{limit}
+use Rattle.totals_spec.specs.pence.Hundredfold.{hundred_terms}
+use Rattle.totals_spec.proofs.terms.GoodTerms.{AllGood, picked-length}
+use Rattle.totals_spec.proofs.pence.HundredfoldChain.{good-hundred, few-hundred}
+use Rattle.totals_spec.proofs.pence.HundredfoldTop.{top-most}
+use Rattle.totals_spec.proofs.chain.Margin.{terms-max}
+use Rattle.totals_spec.proofs.chain.TrueEdges.{first_edge}
 use Rattle.window.specs.declared.Pass.{Pass}
 use Rattle.window.specs.declared.Chain.{Chain}
 use Rattle.window.specs.declared.Outcome.{Outcome}
 use Rattle.window.specs.declared.Stopped.{Stopped}
-use Rattle.window.specs.Joined.{Passed, Ready, Steps, Stops, started}
+use Rattle.window.specs.Chain.{Passed, Ready, Steps, Stops, started}
 use Rattle.window.proofs.Walked.{Walked, Lower, walked_start, walked-ready, walked_next, walked-done, walked-stopped}
 use Rattle.reduction.specs.Held.{Base, Summable, SumsWithin}
-use Rattle.totals_spec.proofs.Tops.{top_most, top_product}
+use Rattle.totals_spec.proofs.terms.HighestAndLowest.{top_most, top_product}
 
 some_of : (ts : List Term) → 0 < top_of ts → 0 < length ts
 unfolding top_of

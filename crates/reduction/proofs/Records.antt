@@ -3,21 +3,21 @@ use mathlib.Core.Path.{◌≡◌, sym, ap, ◌∙◌}
 use mathlib.Core.Bool.{false}
 use Prim.Native.Nat.{ℕ}
 use Rattle.totals_spec.specs.Basics.{Signed, raised}
-use Rattle.totals_spec.specs.Bounds.{RangeBounds, SettingsBounds}
-use Rattle.totals_spec.specs.Format.{Format, kind_of}
-use Rattle.totals_spec.specs.Settings.{Settings}
-use Rattle.totals_spec.specs.Decode.{decode}
-use Rattle.totals_spec.specs.Encode.{encode}
-use Rattle.totals_spec.specs.Alone.{Alone}
-use Rattle.totals_spec.specs.Round as round
-use Rattle.totals_spec.specs.Side.{side_of, rounded_side}
-use Rattle.totals_spec.specs.Totals.{sum_rounded, towards_negative}
-use Rattle.totals_spec.proofs.Alone.{zero-told, infinity-told, nan-told}
-use Rattle.totals_spec.proofs.Lean.{sum-leans}
-use Rattle.totals_spec.proofs.Valid.{precision-least, precision-most}
+use Rattle.totals_spec.specs.formats.Bounds.{RangeBounds, SettingsBounds}
+use Rattle.totals_spec.specs.formats.Format.{Format, kind_of}
+use Rattle.totals_spec.specs.formats.Settings.{Settings}
+use Rattle.totals_spec.specs.formats.Decode.{decode}
+use Rattle.totals_spec.specs.formats.Encode.{encode}
+use Rattle.totals_spec.specs.formats.KindValues.{Alone}
+use Rattle.totals_spec.specs.rounding.Round as round
+use Rattle.totals_spec.specs.rounding.Side.{side_of, rounded_side}
+use Rattle.totals_spec.specs.sums.Totals.{sum_rounded, towards_negative}
+use Rattle.totals_spec.proofs.formats.KindValues.{zero-told, infinity-told, nan-told}
+use Rattle.totals_spec.proofs.rounding.SideByFlags.{sum-leans}
+use Rattle.totals_spec.proofs.formats.Valid.{precision-least, precision-most}
 use Rattle.format.specs.declared.unpacked.Unpacked.{Unpacked}
 use Rattle.format.specs.declared.unpacked.Unpacked.TheVariants.{Zero, Finite, Infinity, Nan}
-use Rattle.format.specs.Joined.{unpacked_of}
+use Rattle.format.specs.Unpacked.{unpacked_of}
 use Rattle.format.specs.Fits.{Encodes}
 use Rattle.exact.specs.declared.Rounded.{Rounded}
 use Rattle.reduction.specs.Answered.{RoundedSum}

@@ -1,30 +1,30 @@
--- From what a scan decides, and from a chain of passes, to the record of an accepted list. Nothing here is about words or bytes.
+-- From what a scan decides, and from a chain of passes, to the record of an accepted list. Nothing
+-- here is about words or bytes.
 use mathlib.Core.Path.{◌≡◌, sym, ap, ap₂, ◌∙◌, subst}
 use mathlib.Core.Bool.{Bool, true, false}
 use mathlib.Core.List.{List}
 use Prim.Native.Nat.{◌<◌}
 use Rattle.std.specs.Prelude.{Option, Some, None}
 use Rattle.totals_spec.specs.Basics.{any}
-use Rattle.totals_spec.specs.Format as spec
-use Rattle.totals_spec.specs.Settings as env
-use Rattle.totals_spec.specs.Decode as dec
-use Rattle.totals_spec.specs.Nan as nans
-use Rattle.totals_spec.specs.Terms as terms
-use Rattle.totals_spec.specs.Chain as chain
-use Rattle.totals_spec.specs.Totals as totals
-use Rattle.totals_spec.specs.Settled.{settled, chain_total}
-use Rattle.format.specs.Joined.{unpacked_of}
-use Rattle.scan.specs.declared.Scan.{Scan}
-use Rattle.scan.specs.declared.Given.{Given}
-use Rattle.scan.specs.Joined.{Gathered, Told, Decides}
+use Rattle.totals_spec.specs.formats.Format as spec
+use Rattle.totals_spec.specs.formats.Settings as env
+use Rattle.totals_spec.specs.formats.Decode as dec
+use Rattle.totals_spec.specs.sums.Nan as nans
+use Rattle.totals_spec.specs.terms.Terms as terms
+use Rattle.totals_spec.specs.chain.Chain as chain
+use Rattle.totals_spec.specs.sums.Totals as totals
+use Rattle.totals_spec.specs.chain.Settled.{settled, chain_total}
+use Rattle.format.specs.Unpacked.{unpacked_of}
+use Rattle.reduction.specs.declared.scan.Scan.{Scan}
+use Rattle.reduction.specs.declared.scan.Given.{Given}
+use Rattle.reduction.specs.Scan.{Gathered, IsSpecial, Decides}
+use Rattle.reduction.specs.Answered.{sum_record}
 use Rattle.window.specs.declared.ExactSum.{ExactSum}
-use Rattle.window.specs.Joined.{run_of}
+use Rattle.window.specs.Chain.{run_of}
 
 -- the record of a run of the chain, its sum rounded
 abbrev told : spec.Format → env.Settings → Bool → Bool → chain.Run → totals.Answer
-told f c products sub r =
-    totals.reported f sub products (totals.on_grid f products (settled r.outcome))
-    (totals.sum_rounded f c (spec.grid f products) (totals.towards_negative c) (totals.on_grid f products (settled r.outcome))) r
+told f c products sub r = sum_record f c sub products (settled r.outcome) r
 
 module _ {f : spec.Format} {c : env.Settings} {sub sig : Bool} {ops : List dec.Unpacked} {l : List terms.Item} {s : Scan}
     (g : Gathered f c sub sig ops l s) (products first : Bool) (d : Option Given) (h : Decides d c first s) where
@@ -32,7 +32,7 @@ module _ {f : spec.Format} {c : env.Settings} {sub sig : Bool} {ops : List dec.U
   answer = totals.accepted f c sub products first sig (nans.select_all c ops) l
 
   -- the scan alone decides
-  pub given : (v : Given) → d ≡ Some v → Told f c sub products first sig ops l (unpacked_of v.value) v.invalid
+  pub given : (v : Given) → d ≡ Some v → IsSpecial f c sub products first sig ops l (unpacked_of v.value) v.invalid
   given v e = subst (λ (x : Option Given). Decides x c first s) e h f sub products sig ops l g
 
   pub given_is : (v : Given) → d ≡ Some v → (a : totals.Answer) → a ≡ totals.special f s.subnormal (unpacked_of v.value) v.invalid → a ≡ answer

@@ -2,10 +2,10 @@
 use mathlib.Core.Path.{◌≡◌, refl, sym, subst}
 use mathlib.Core.Bool.{Bool, true, false}
 use borrow.Author.Tests.{le-ltb}
-use Rattle.totals_spec.specs.Format.{Format}
-use Rattle.totals_spec.specs.Extended.{extended}
-use Rattle.totals_spec.specs.Bounds.{FormatBounds, RangeBounds}
-use Rattle.totals_spec.proofs.Spread.{extended-bounds}
+use Rattle.totals_spec.specs.formats.Format.{Format}
+use Rattle.totals_spec.specs.ten_bytes.Extended.{extended}
+use Rattle.totals_spec.specs.formats.Bounds.{FormatBounds, RangeBounds}
+use Rattle.totals_spec.proofs.ten_bytes.WrittenOut.{extended-bounds}
 use Rattle.reduction.specs.Answered.{wide, Known}
 
 module _ (f : Format) where

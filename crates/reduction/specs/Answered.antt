@@ -2,20 +2,22 @@
 use Rattle.std.specs.Prelude.{◌≡◌, Bool, true, false, ℕ, ◌+◌, ◌^◌, ◌≤◌, ◌<◌, ltb, ℤ}
 use Rattle.std.proofs.Math.IntN.{sub_ℕ}
 use Rattle.totals_spec.specs.Basics.{Signed, flag}
-use Rattle.totals_spec.specs.Bounds.{FormatBounds, SettingsBounds}
-use Rattle.totals_spec.specs.Format as spec
-use Rattle.totals_spec.specs.Settings as env
-use Rattle.totals_spec.specs.Totals as totals
-use Rattle.totals_spec.specs.Extended.{spread, extended}
-use Rattle.totals_spec.specs.Halves.{joined}
-use Rattle.totals_spec.specs.Side.{rounded_side}
-use Rattle.format.specs.Joined.{unpacked_of}
+use Rattle.totals_spec.specs.formats.Bounds.{FormatBounds, SettingsBounds}
+use Rattle.totals_spec.specs.formats.Format as spec
+use Rattle.totals_spec.specs.formats.Settings as env
+use Rattle.totals_spec.specs.sums.Totals as totals
+use Rattle.totals_spec.specs.ten_bytes.Extended.{spread, extended}
+use Rattle.totals_spec.specs.ten_bytes.TwoWords.{joined}
+use Rattle.totals_spec.specs.rounding.Side.{rounded_side}
+use Rattle.totals_spec.specs.chain.Chain.{Run}
+use Rattle.totals_spec.specs.rounding.IntoFormat as several
+use Rattle.format.specs.Unpacked.{unpacked_of}
 use Rattle.format.specs.Fits.{Encodes}
 use Rattle.exact.specs.declared.Rounded.{Rounded}
 use Rattle.exact.specs.declared.Unrounded.{Unrounded}
-use Rattle.exact.specs.Joined.{rounded_of}
+use Rattle.exact.specs.Unrounded.{rounded_of, narrowed_most}
 use Rattle.window.specs.declared.ExactSum.{ExactSum}
-use Rattle.window.specs.Joined.{Ended, LeftOf}
+use Rattle.window.specs.Chain.{Ended, LeftOf}
 use Rattle.reduction.specs.declared.total.Answer.{Answer}
 use Rattle.reduction.specs.declared.total.Wide.{Wide}
 
@@ -42,8 +44,8 @@ answer_of r = record {
   flags = r.flags;
   passes = r.passes;
   last_edge = r.last_edge;
-  refusal = r.refusal;
-  place = r.place;
+  refusal = 0;
+  place = 0;
   side = r.side;
 }
 
@@ -53,8 +55,8 @@ answer_as w r = record {
   flags = r.answer.flags;
   passes = r.answer.passes;
   last_edge = r.answer.last_edge;
-  refusal = r.answer.refusal;
-  place = r.answer.place;
+  refusal = 0;
+  place = 0;
   side = r.answer.side;
 }
 
@@ -70,45 +72,61 @@ given_as w a = record {
   side = a.side;
 }
 
--- what is left of a sum can be rounded into f on a grid g, counted from a unit `up` positions lower: f has at most the digits that are decided
-pub record CanRound (f : spec.Format) (c : env.Settings) (g up : ℕ) (v : Unrounded) : Type 0 where
+-- the code's record in a format is that of the definitions
+abbrev pub Reports : spec.Format → Wide → totals.Answer → Type 0
+Reports format given answer = answer_as (wide format) given ≡ given_as (wide format) answer
+
+-- the record of a signed sum x that a run came to, rounded once into the format of its list
+abbrev pub sum_record : spec.Format → env.Settings → (subnormal products : Bool) → Signed → Run → totals.Answer
+sum_record f c subnormal products x run =
+    totals.reported f subnormal products (totals.on_grid f products x)
+    (totals.sum_rounded f c (spec.grid f products) (totals.towards_negative c) (totals.on_grid f products x)) run
+
+-- and rounded once into a target t, from a list in the format f
+abbrev pub target_record : (f t : spec.Format) → env.Settings → (subnormal : Bool) → Signed → Run → totals.Answer
+target_record f t c subnormal x run = several.printed f t subnormal x (several.rounded_into f t c x) run
+
+-- what is left of a sum can be rounded into f on a grid g, counted from a unit `up` positions
+-- lower: f has at most the digits that are decided
+pub record CanRound (f : spec.Format) (c : env.Settings) (g up : ℕ) (value : Unrounded) : Type 0 where
   pub decided : ℕ
   pub sum : Signed
-  pub left : LeftOf decided sum v
+  pub left : LeftOf decided sum value
   pub settings : SettingsBounds f c
   pub enough : spec.digits f ≤ decided
   pub grid : g < 2 ^ 62
-  pub few : up + 640 ≤ 2 ^ 30
+  pub few : up + narrowed_most ≤ 2 ^ 30
 
--- v is what is left to round of some sum, of which p digits are decided
-pub record LeavesSum (p : ℕ) (v : Unrounded) : Type 0 where
+-- a value is what is left to round of some sum, of which p digits are decided
+pub record LeavesSum (p : ℕ) (value : Unrounded) : Type 0 where
   pub sum : Signed
-  pub left : LeftOf p sum v
+  pub left : LeftOf p sum value
 
 -- the rounding of a signed sum x on a grid g, which can be encoded, and leaves flag 128 free
-pub record RoundedSum (f : spec.Format) (c : env.Settings) (g : ℕ) (x : Signed) (r : Rounded) : Type 0 where
-  pub equal : rounded_of r ≡ totals.sum_rounded f c g (totals.towards_negative c) x
-  pub encodes : Encodes f (unpacked_of r.value)
-  pub flags : r.flags < 128
+pub record RoundedSum (f : spec.Format) (c : env.Settings) (g : ℕ) (x : Signed) (rounded : Rounded) : Type 0 where
+  pub equal : rounded_of rounded ≡ totals.sum_rounded f c g (totals.towards_negative c) x
+  pub encodes : Encodes f (unpacked_of rounded.value)
+  pub flags : rounded.flags < 128
 
--- the end of the chain of a list in the format f, and a target t that its sum can be rounded into, under the target's settings
-pub record Into (f t : spec.Format) (c : env.Settings) (e : ExactSum) : Type 0 where
-  pub ended : Ended (spec.digits f) e
+-- the end of the chain of a list in the format f, and a target t that its sum can be rounded into,
+-- under the target's settings
+pub record Into (f t : spec.Format) (c : env.Settings) (end : ExactSum) : Type 0 where
+  pub ended : Ended (spec.digits f) end
   pub settings : SettingsBounds t c
   pub digits_le : spec.digits t ≤ spec.digits f
 
 -- the record of a rounding, and of the chain behind it
-abbrev pub record_of : (subnormal : Bool) → ℕ → Rounded → ℕ → ℤ → totals.Answer
-record_of sub result r passes edge = record {
-  result = result;
-  flags = flag 128 sub + r.flags;
+abbrev pub record_of : (subnormal : Bool) → (encoding : ℕ) → Rounded → (passes : ℕ) → (last_edge : ℤ) → totals.Answer
+record_of subnormal encoding rounded passes edge = record {
+  result = encoding;
+  flags = flag 128 subnormal + rounded.flags;
   passes = passes;
   last_edge = edge;
   refusal = 0;
   place = 0;
-  side = rounded_side (unpacked_of r.value) r.flags;
+  side = rounded_side (unpacked_of rounded.value) rounded.flags;
 }
 
--- of a chain over a list in the format f, as a record has it
+-- the edge of a chain over a list in a format, as a record has it
 abbrev pub last_edge_of : spec.Format → (products : Bool) → ℕ → ℤ
-last_edge_of f products edge = sub_ℕ (edge + spec.fall f products) (spec.origin f products)
+last_edge_of format products edge = sub_ℕ (edge + spec.fall format products) (spec.origin format products)

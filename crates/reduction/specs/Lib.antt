@@ -1,2 +1,5 @@
+pub mod Scan
+pub mod Encodings
+pub mod Singles
 pub mod Held
 pub mod Answered

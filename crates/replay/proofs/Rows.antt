@@ -8,9 +8,9 @@ use Rattle.std.proofs.lemmas.List.FromFn.{fill_by_all, length-map-range_with_len
 use Rattle.std.proofs.lemmas.List.{drop-replicate}
 use denote.Param.Members.{Mut, Called}
 use lib.Seq.{take_at, drop-append-add}
-use Rattle.totals_spec.specs.Bytes.{to_bytes}
-use Rattle.totals_spec.specs.Pages.{value_bytes}
-use Rattle.totals_spec.proofs.Pages.{value-bytes-length}
+use Rattle.totals_spec.specs.entries.Bytes.{to_bytes}
+use Rattle.totals_spec.specs.entries.Bytes.{value_bytes}
+use Rattle.pages_spec.proofs.Pages.{value-bytes-length}
 use Rattle.values.specs.Laid.{laid}
 use Rattle.replay.specs.Row.{word_at, words_in, laid_words}
 

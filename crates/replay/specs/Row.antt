@@ -1,15 +1,16 @@
--- The fields of a row, at the places that cases.py has: numbers in hex digits, and a sign before one of them.
-use Rattle.std.specs.Prelude.{Option, Some, None, Bool, cond, List, [], ◌∷◌, ◌++◌, set, map, replicate, ℕ, ◌+◌, ◌-◌, ◌*◌, ◌%◌, ◌^◌, ◌≡◌}
+-- The fields of a row, at the places that cases.py has: numbers in hex digits, and a sign before
+-- one of them.
+use Rattle.std.specs.Prelude.{Option, Some, None, Bool, cond, List, [], ◌∷◌, ◌++◌, set, map}
+use Rattle.std.specs.Prelude.{replicate, ℕ, ◌+◌, ◌-◌, ◌*◌, ◌%◌, ◌^◌, ◌≡◌}
 use Rattle.std.specs.Prelude.{eqb, ltb, ℤ, pos, neg_ℤ, length, get_or, min}
 use Rattle.std.specs.List.{range_with_len}
-use Rattle.totals_spec.specs.Pages.{value_bytes}
+use Rattle.totals_spec.specs.entries.Bytes.{value_bytes}
 use Rattle.hexadecimal.specs.Digits.{number_at}
 use Rattle.values.specs.Laid.{laid}
 use Rattle.format.specs.declared.Format.{Format}
-use Rattle.format.specs.declared.env.Settings.{Settings}
+use Rattle.format.specs.declared.settings.Settings.{Settings}
 use Rattle.reduction.specs.declared.total.Answer.{Answer}
-use Rattle.totals.specs.declared.pence.Pence.{Pence}
-use Rattle.totals.specs.declared.contribution.Contribution.{Contribution}
+use Rattle.replay.specs.declared.row.Refused.{Refused}
 
 -- the number of n digits from a place on, in a word
 abbrev pub word_at : List ℕ → ℕ → ℕ → ℕ
@@ -38,7 +39,9 @@ settings_in s = record {
 -- a sign, where the byte 45 is minus, and n digits behind it
 abbrev pub signed_at : List ℕ → ℕ → ℕ → ℤ
 signed_at s at n =
-    cond (eqb (get_or s at 48) 45) (neg_ℤ (pos (word_at s (at + 1) n % 2 ^ 63))) (pos (word_at s (at + 1) n % 2 ^ 63))
+    cond (eqb (get_or s at 48) 45)
+    (neg_ℤ (pos (word_at s (at + 1) n % 2 ^ 63)))
+    (pos (word_at s (at + 1) n % 2 ^ 63))
 
 -- a bias, in the longer rows that name one
 abbrev pub named_in : List ℕ → Option ℤ
@@ -48,7 +51,12 @@ named_in s =
     (cond (eqb (length s) 505) (Some (signed_at s 487 16)) None))
 
 abbrev pub format_in : List ℕ → Format
-format_in s = record { kind = word_at s 2 1; exponent_bits = word_at s 4 2; width = word_at s 7 2; named = named_in s }
+format_in s = record {
+  kind = word_at s 2 1;
+  exponent_bits = word_at s 4 2;
+  width = word_at s 7 2;
+  named = named_in s;
+}
 
 -- the same of a row that has a number to tell whether it names a bias, and the bias behind that
 abbrev pub told_format_in : List ℕ → Format
@@ -67,17 +75,12 @@ answer_in s = record {
   flags = word_at s 49 2;
   passes = word_at s 52 6;
   last_edge = signed_at s 59 8;
-  refusal = word_at s 69 1;
-  place = word_at s 71 1;
   side = word_at s 77 1;
 }
 
--- a record of pence: the figure, its sign and 16 digits, and behind it the refusal and the place
-abbrev pub pence_in : List ℕ → ℕ → Pence
-pence_in s at = record { figure = signed_at s at 16; refusal = word_at s (at + 18) 1; place = word_at s (at + 20) 1 }
-
-abbrev pub contribution_in : List ℕ → Contribution
-contribution_in s = record { number = word_at s 96 16; refusal = word_at s 21 1; place = word_at s 77 1 }
+-- a refusal's number and place, a digit each, both 0 where the call is accepted
+abbrev pub refused_in : List ℕ → (number place : ℕ) → Refused
+refused_in s n p = record { number = word_at s n 1; place = word_at s p 1 }
 
 -- n words of sixteen digits, one every seventeen columns
 unfoldable pub words_in : List ℕ → (column n : ℕ) → List ℕ
@@ -99,12 +102,15 @@ value_column i = 79 + 17 * i
 abbrev pub right_in : List ℕ → ℕ
 right_in s = cond (ltb (length s) 487) 6 12
 
--- the answer's buffer after the call: an accepted record is written, its side in the byte 10, and a refused one is not
+-- the answer's buffer after the call: an accepted record is written, its side in the byte 10, and a
+-- refused one is not
 abbrev pub written_in : List ℕ → List ℕ
 written_in s =
     let before = replicate 32 165 in
     let a = answer_in s in
-    cond (eqb (word_at s 73 3) 0) (set (laid (laid (laid before 0 a.result) 8 a.flags) 16 a.passes) 10 (a.side % 256)) before
+    cond (eqb (word_at s 73 3) 0)
+    (set (laid (laid (laid before 0 a.result) 8 a.flags) 16 a.passes) 10 (a.side % 256))
+    before
 
 -- the bytes that a row lends of the buffer
 abbrev pub lent_in : List ℕ → ℕ

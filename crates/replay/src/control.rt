@@ -1,19 +1,21 @@
-// The negative control: behind the list stand rows of each kind with one digit of the answer changed.
-// Each way of working such a row out has to tell it as wrong, so that a comparison that always agrees
-// ends the program with an error.
+// The negative control: behind the list stand rows of each kind with one digit of the answer
+// changed. Each way of working such a row out has to tell it as wrong, so that a comparison that
+// always agrees ends the program with an error.
 ghost use Rattle.std.specs.Prelude.{◌+◌, ◌^◌, ◌<◌, ◌≤◌, IfOk};
 
+use crate::career_pages::{LONG_SPAN, LONG_WRITTEN, SPAN, WRITTEN};
 use crate::input::next;
-use crate::pages::{LONG_SPAN, LONG_WRITTEN, SPAN, WRITTEN};
 use crate::row::{BIASED, BIASED_PENCE, BIASED_TABLE, LONG, PENCE, ROW};
 use crate::ways::{by_bytes, by_entry, by_words};
-use crate::{contributions, estimates, figures, lists, pages, ranges, tables, targets, tens};
+use crate::{
+    career_pages, contributions, estimates, lists, ranges, single_pence, sums_into, tables, tens,
+};
 use hexadecimal::number;
 use std::io;
 use std::io::{ErrorKind, Write};
 
-// How many of the next rows, each of N bytes and their number first, are told as wrong: all of them,
-// or there is an error.
+// How many of the next rows, each of N bytes and their number first, are told as wrong: all of
+// them, or there is an error.
 fn wrong<const N: usize, F: Fn(&[u8]) -> bool>(rt: &HostRuntime, agrees: F) -> io::Result<u64>
     requires fits { N < 2 ^ 63 }
     requires callable { F.IsAlwaysCallable agrees }
@@ -50,8 +52,8 @@ fn of_totals(rt: &HostRuntime) -> io::Result<u64>
 fn of_figures(rt: &HostRuntime) -> io::Result<u64>
     ensures { IfOk result (λ n. n < 786432) }
 {
-    let mut told = wrong::<PENCE, _>(rt, figures::agrees)?;
-    told += wrong::<BIASED_PENCE, _>(rt, figures::agrees)?;
+    let mut told = wrong::<PENCE, _>(rt, single_pence::agrees)?;
+    told += wrong::<BIASED_PENCE, _>(rt, single_pence::agrees)?;
     told += wrong::<ROW, _>(rt, lists::by_function)?;
     told += wrong::<ROW, _>(rt, lists::by_entry)?;
     told += wrong::<BIASED, _>(rt, lists::by_function)?;
@@ -68,14 +70,14 @@ fn of_figures(rt: &HostRuntime) -> io::Result<u64>
 fn of_pages_and_more(rt: &HostRuntime) -> io::Result<u64>
     ensures { IfOk result (λ n. n < 786432) }
 {
-    let mut told = wrong::<SPAN, _>(rt, pages::by_function)?;
-    told += wrong::<SPAN, _>(rt, pages::by_entry)?;
-    told += wrong::<LONG_SPAN, _>(rt, pages::by_function)?;
-    told += wrong::<LONG_SPAN, _>(rt, pages::by_entry)?;
-    told += wrong::<WRITTEN, _>(rt, pages::page_agrees)?;
-    told += wrong::<LONG_WRITTEN, _>(rt, pages::page_agrees)?;
+    let mut told = wrong::<SPAN, _>(rt, career_pages::by_function)?;
+    told += wrong::<SPAN, _>(rt, career_pages::by_entry)?;
+    told += wrong::<LONG_SPAN, _>(rt, career_pages::by_function)?;
+    told += wrong::<LONG_SPAN, _>(rt, career_pages::by_entry)?;
+    told += wrong::<WRITTEN, _>(rt, career_pages::page_agrees)?;
+    told += wrong::<LONG_WRITTEN, _>(rt, career_pages::page_agrees)?;
     told += wrong::<{ tens::ROW }, _>(rt, tens::agrees)?;
-    told += wrong::<{ targets::ROW }, _>(rt, targets::agrees)?;
+    told += wrong::<{ sums_into::ROW }, _>(rt, sums_into::agrees)?;
     told += wrong::<{ estimates::ROW }, _>(rt, estimates::agrees)?;
     told += wrong::<{ contributions::ROW }, _>(rt, contributions::by_words)?;
     told += wrong::<{ contributions::ROW }, _>(rt, contributions::by_bytes)?;

@@ -1,50 +1,58 @@
 // Rows of the pence of a list, each worked out by `pence_of_sum` and through the exported entry.
 ghost use Rattle.std.specs.Prelude.{◌≤◌};
 
-use crate::row::{at_most, format_at, pence_at, words_at};
+use crate::row::{Refused, at_most, format_at, is_number, pence_refused_at, signed_at, words_at};
 use crate::ways::bias_of;
 use format::Format;
-use totals::entry::totals_pence;
-use totals::pence::{Pence, pence_of_sum};
+use totals::entry::{NamedFormat, enter_pence};
+use totals::pence::pence_of_sum;
 
 // What a figure is before a call. A refused call leaves it.
 const BEFORE: i64 = 7777777777777777777;
 
-pub(crate) fn by_function(s: &[u8]) -> bool {
-    let values = words_at(s, 0);
-    let n = at_most(s, 10, 1, 12);
-    pence_of_sum(format_at(s), &values[..n]) == pence_at(s, 12)
-}
-
-// Through the entry, which is told whether the format names a bias.
-fn enter(f: Format, values: &[u64], figure: &mut i64) -> u64 {
-    let (bias_named, bias) = bias_of(f.named);
-    totals_pence(
-        f.kind,
-        f.exponent_bits,
-        f.width,
-        bias_named,
-        bias,
-        values,
-        figure,
+pub(crate) fn by_function(row: &[u8]) -> bool {
+    let values = words_at(row, 0);
+    let n = at_most(row, 10, 1, 12);
+    is_number(
+        pence_of_sum(format_at(row), &values[..n]),
+        pence_refused_at(row, 12),
+        signed_at(row, 12, 16),
     )
 }
 
-// Whether an entry returned the number and the place, and left the figure that a call with such an answer leaves.
-fn left(p: Pence, returned: u64, figure: i64) -> bool {
-    if p.refusal == 0 {
-        returned == 0 && figure == p.figure
-    } else {
-        returned % 256 == p.refusal && returned / 256 == p.place && figure == BEFORE
+// A format as the entry is told it: by whether it names a bias.
+pub fn named_format(format: Format) -> NamedFormat {
+    let (bias_named, bias) = bias_of(format.named);
+    NamedFormat {
+        kind: format.kind,
+        exponent_bits: format.exponent_bits,
+        width: format.width,
+        bias_named,
+        bias,
     }
 }
 
-pub(crate) fn by_entry(s: &[u8]) -> bool {
-    let values = words_at(s, 0);
-    let n = at_most(s, 10, 1, 12);
+// Whether an entry returned the number and the place, and left the figure that a call with such an
+// answer leaves.
+fn left(wanted: Refused, pence: i64, returned: u64, figure: i64) -> bool {
+    if wanted.number == 0 {
+        returned == 0 && figure == pence
+    } else {
+        returned % 256 == wanted.number && returned / 256 == wanted.place && figure == BEFORE
+    }
+}
+
+pub(crate) fn by_entry(row: &[u8]) -> bool {
+    let values = words_at(row, 0);
+    let n = at_most(row, 10, 1, 12);
     let mut figure = BEFORE;
-    let returned = enter(format_at(s), &values[..n], &mut figure);
-    left(pence_at(s, 12), returned, figure)
+    let returned = enter_pence(named_format(format_at(row)), &values[..n], &mut figure);
+    left(
+        pence_refused_at(row, 12),
+        signed_at(row, 12, 16),
+        returned,
+        figure,
+    )
 }
 
 // Whether both ways agree with the row.
@@ -52,11 +60,19 @@ pub(crate) fn agrees(row: &[u8]) -> bool {
     by_function(row) && by_entry(row)
 }
 
-// Whether the entry refuses a bias, said to be named by a number, with 3. The list is one of binary16, or has a stray bit.
-fn refused_bias(bias_named: u64, bias: i64, b: u64) -> bool {
-    let values = [15360, b];
+// Whether the entry refuses a bias, said to be named by a number, with 3. The list is one of
+// binary16, or has a stray bit.
+fn refused_bias(bias_named: u64, bias: i64, bits: u64) -> bool {
+    let values = [15360, bits];
     let mut figure = BEFORE;
-    let returned = totals_pence(0, 5, 16, bias_named, bias, &values, &mut figure);
+    let format = NamedFormat {
+        kind: 0,
+        exponent_bits: 5,
+        width: 16,
+        bias_named,
+        bias,
+    };
+    let returned = enter_pence(format, &values, &mut figure);
     returned == 3 && figure == BEFORE
 }
 
@@ -76,7 +92,7 @@ pub fn misnamed() -> u64
     ];
     let refused = cases
         .iter()
-        .filter(|&&(bias_named, bias, b)| refused_bias(bias_named, bias, b))
+        .filter(|&&(bias_named, bias, bits)| refused_bias(bias_named, bias, bits))
         .count();
     refused as u64
 }

@@ -1,31 +1,33 @@
-// Replays the cases of standard input: works each one out, compares the answer with the one that its row holds, and prints how many agree. Totals are
-// worked out over words, over bytes and through a byte entry, the pence of a list, the totals of a table, of ranges and of a page's span by the function and
-// through its entry; pages are written through theirs, values of ten bytes are added through the byte entries, and one total in several formats comes
-// through its own, and so do totals within an allowance of passes. Contributions come over words, over bytes and through their entry.
-// Then come wrong answers, each of which has to be told as wrong.
-// cases.py makes the list, and says how it is laid out; README.md says where the answers come from.
+// Replays the cases of standard input: works each one out, compares the answer with the one that
+// its row holds, and prints how many agree. Totals are worked out over words, over bytes and
+// through a byte entry, the pence of a list, the totals of a table, of ranges and of a page's span
+// by the function and through its entry; pages are written through theirs, values of ten bytes are
+// added through the byte entries, and one total in several formats comes through its own, and so do
+// totals within an allowance of passes. Contributions come over words, over bytes and through their
+// entry. Then come wrong answers, each of which has to be told as wrong. cases.py makes the list,
+// and says how it is laid out; README.md says where the answers come from.
 #![tactic(auto)]
 
+mod career_pages;
 mod contributions;
 mod control;
 mod estimates;
-mod figures;
 mod input;
 mod lists;
-mod pages;
 mod promised;
 mod ranges;
 mod row;
+mod single_pence;
+mod sums_into;
 mod tables;
-mod targets;
 mod tens;
 mod ways;
 
 ghost use Rattle.std.specs.Prelude.{◌≡◌, ◌+◌, ◌^◌, ◌<◌, ◌≤◌, IfOk};
 
+use career_pages::{LONG_SPAN, LONG_WRITTEN, SPAN, WRITTEN};
 use hexadecimal::number;
 use input::{agreeing, next, print_disagreeing};
-use pages::{LONG_SPAN, LONG_WRITTEN, SPAN, WRITTEN};
 use row::{BIASED, BIASED_PENCE, BIASED_TABLE, LONG, PENCE, ROW};
 use std::io::Write;
 use std::ops::AddAssign;
@@ -57,9 +59,9 @@ impl Default for Agreed {
 }
 
 impl AddAssign for Agreed {
-    ghost can_add_assign = { λ a b. a.rows + b.rows < 2 ^ 64 };
+    ghost can_add_assign = { λ a bits. a.rows + bits.rows < 2 ^ 64 };
 
-    ghost add_assign_gives = { λ a b c. c.rows ≡ a.rows + b.rows };
+    ghost add_assign_gives = { λ a bits settings. settings.rows ≡ a.rows + bits.rows };
 
     fn add_assign(&mut self, more: Agreed) {
         *self = Agreed {
@@ -72,7 +74,7 @@ impl AddAssign for Agreed {
 }
 
 impl fmt::Display for Agreed {
-    fn fmt<W: fmt::Write>(&self, f: &mut fmt::Formatter<W>) -> fmt::Result {
+    fn fmt<W: fmt::Write>(&self, format: &mut fmt::Formatter<W>) -> fmt::Result {
         let Agreed {
             rows,
             words,
@@ -80,7 +82,7 @@ impl fmt::Display for Agreed {
             entries,
         } = *self;
         write!(
-            f,
+            format,
             "words {words}, bytes {bytes}, entries {entries} of {rows} agree"
         )
     }
@@ -117,7 +119,8 @@ fn rows_of<const N: usize>(rt: &HostRuntime, n: u64) -> io::Result<Agreed>
     Ok(all)
 }
 
-// Reads a section, its name and its number of rows first, and prints what agrees. The rows are long ones, ones that name a bias, or ones of twelve values.
+// Reads a section, its name and its number of rows first, and prints what agrees. The rows are long
+// ones, ones that name a bias, or ones of twelve values.
 fn section(rt: &HostRuntime) -> io::Result<Agreed>
     ensures { IfOk result (λ a. a.rows < 65536) }
 {
@@ -167,8 +170,12 @@ fn main(rt: HostRuntime) -> io::Result<()> {
     let head = next::<3, _>(&mut rt.stdin())?;
     let all = sections(&rt, number(&head, 0, 2) % 256)?;
     println!(rt; "all of these ............................... {all}")?;
-    report_rows::<PENCE, _>(&rt, "pence of one encoding ", figures::agrees)?;
-    report_rows::<BIASED_PENCE, _>(&rt, "pence of one encoding, a bias named ", figures::agrees)?;
+    report_rows::<PENCE, _>(&rt, "pence of one encoding ", single_pence::agrees)?;
+    report_rows::<BIASED_PENCE, _>(
+        &rt,
+        "pence of one encoding, a bias named ",
+        single_pence::agrees,
+    )?;
     report_rows::<ROW, _>(&rt, "pence of lists ", lists::agrees)?;
     report_rows::<BIASED, _>(&rt, "pence of lists, a bias named ", lists::agrees)?;
     report(
@@ -181,12 +188,12 @@ fn main(rt: HostRuntime) -> io::Result<()> {
     report_rows::<BIASED_TABLE, _>(&rt, "tables, a bias named ", tables::agrees)?;
     report(&rt, "tables, a bias misnamed ", tables::misnamed(), 8)?;
     report_rows::<LONG, _>(&rt, "amounts known within a range ", ranges::agrees)?;
-    report_rows::<SPAN, _>(&rt, "spans of pages ", pages::span_agrees)?;
-    report_rows::<LONG_SPAN, _>(&rt, "spans of longer pages ", pages::span_agrees)?;
-    report_rows::<WRITTEN, _>(&rt, "pages written ", pages::page_agrees)?;
-    report_rows::<LONG_WRITTEN, _>(&rt, "longer pages written ", pages::page_agrees)?;
+    report_rows::<SPAN, _>(&rt, "spans of pages ", career_pages::span_agrees)?;
+    report_rows::<LONG_SPAN, _>(&rt, "spans of longer pages ", career_pages::span_agrees)?;
+    report_rows::<WRITTEN, _>(&rt, "pages written ", career_pages::page_agrees)?;
+    report_rows::<LONG_WRITTEN, _>(&rt, "longer pages written ", career_pages::page_agrees)?;
     report_rows::<{ tens::ROW }, _>(&rt, "values of ten bytes ", tens::agrees)?;
-    report_rows::<{ targets::ROW }, _>(&rt, "one total, several formats ", targets::agrees)?;
+    report_rows::<{ sums_into::ROW }, _>(&rt, "one total, several formats ", sums_into::agrees)?;
     report_rows::<{ estimates::ROW }, _>(
         &rt,
         "totals within an allowance of passes ",

@@ -5,19 +5,19 @@
 ghost use Rattle.std.specs.Prelude.{◌≤◌};
 
 use crate::row::{
-    FIGURES, answer_at, at_most, format_at, is_dot, right_words, settings_at, summand_at, words_at,
+    FIGURES, at_most, format_at, is_dot, is_told, right_words, settings_at, summand_at, words_at,
 };
 use binary::decode;
 use format::Format;
-use format::env::Settings;
 use format::layout::Layout;
+use format::settings::Settings;
 use format::unpacked::Unpacked;
 use promised_calls::contributions::contributions_entered;
 use promised_calls::entries::{dots_entered, sums_entered};
 use promised_calls::order::{dots_of, sums_of};
 use promised_calls::pence::pence_entered;
 use promised_calls::refusals::{dot_or_refusal, sum_or_refusal};
-use promised_calls::targets::targets_entered;
+use promised_calls::several_formats::targets_entered;
 use promised_calls::told::told_bias;
 use promised_calls::within_entries::{dots_within_entered, sums_within_entered};
 use values::put_word;
@@ -32,13 +32,11 @@ const BEFORE: u8 = 0xa5;
 // The passes that a total within an allowance may take.
 const ALLOWANCE: u64 = 2;
 
-fn holds_nan(f: Format, values: &[u64]) -> bool {
-    let Some(layout) = Layout::new(f) else {
+fn holds_nan(format: Format, values: &[u64]) -> bool {
+    let Some(layout) = Layout::new(format) else {
         return false;
     };
-    values
-        .iter()
-        .any(|&b| matches!(decode(layout, b), Unpacked::Nan { .. }))
+    values.iter().any(|&bits| matches!(decode(layout, bits), Unpacked::Nan { .. }))
 }
 
 // The first n of some words, the last of them first.
@@ -66,17 +64,23 @@ fn same_answer(returned: (u64, u64), answer: &[u8], again: &[u8]) -> bool {
     returned == (0, 0) && front == answer && behind.iter().all(|&b| b == BEFORE)
 }
 
-fn sums_keep(f: Format, c: Settings, u: u64, values: [u64; FIGURES], n: usize) -> bool
+fn sums_keep(
+    format: Format,
+    settings: Settings,
+    summand: u64,
+    values: [u64; FIGURES],
+    n: usize,
+) -> bool
     requires { n ≤ 12 }
 {
     let moved = backwards(values, n);
-    let (first, second) = sums_of(f, c, u, &values[..n], &moved[..n]);
+    let (first, second) = sums_of(format, settings, summand, &values[..n], &moved[..n]);
     let mut answer = [0u8; 24];
     let mut again = [BEFORE; 40];
     let returned = sums_entered(
-        f,
-        c,
-        u,
+        format,
+        settings,
+        summand,
         &laid(values)[..8 * n],
         &laid(moved)[..8 * n],
         &mut answer,
@@ -85,14 +89,20 @@ fn sums_keep(f: Format, c: Settings, u: u64, values: [u64; FIGURES], n: usize) -
     first == second && same_answer(returned, &answer, &again)
 }
 
-fn dots_keep(f: Format, c: Settings, left: [u64; FIGURES], right: [u64; FIGURES], n: usize) -> bool
+fn dots_keep(
+    format: Format,
+    settings: Settings,
+    left: [u64; FIGURES],
+    right: [u64; FIGURES],
+    n: usize,
+) -> bool
     requires { n ≤ 12 }
 {
     let moved_left = backwards(left, n);
     let moved_right = backwards(right, n);
     let (first, second) = dots_of(
-        f,
-        c,
+        format,
+        settings,
         &left[..n],
         &right[..n],
         &moved_left[..n],
@@ -101,8 +111,8 @@ fn dots_keep(f: Format, c: Settings, left: [u64; FIGURES], right: [u64; FIGURES]
     let mut answer = [0u8; 24];
     let mut again = [BEFORE; 40];
     let returned = dots_entered(
-        f,
-        c,
+        format,
+        settings,
         &laid(left)[..8 * n],
         &laid(right)[..8 * n],
         &laid(moved_left)[..8 * n],
@@ -113,16 +123,22 @@ fn dots_keep(f: Format, c: Settings, left: [u64; FIGURES], right: [u64; FIGURES]
     first == second && same_answer(returned, &answer, &again)
 }
 
-fn sums_within_keep(f: Format, c: Settings, u: u64, values: [u64; FIGURES], n: usize) -> bool
+fn sums_within_keep(
+    format: Format,
+    settings: Settings,
+    summand: u64,
+    values: [u64; FIGURES],
+    n: usize,
+) -> bool
     requires { n ≤ 12 }
 {
     let moved = backwards(values, n);
     let mut answer = [0u8; 144];
     let mut again = [BEFORE; 160];
     let returned = sums_within_entered(
-        f,
-        c,
-        u,
+        format,
+        settings,
+        summand,
         ALLOWANCE,
         &laid(values)[..8 * n],
         &laid(moved)[..8 * n],
@@ -133,8 +149,8 @@ fn sums_within_keep(f: Format, c: Settings, u: u64, values: [u64; FIGURES], n: u
 }
 
 fn dots_within_keep(
-    f: Format,
-    c: Settings,
+    format: Format,
+    settings: Settings,
     left: [u64; FIGURES],
     right: [u64; FIGURES],
     n: usize,
@@ -144,8 +160,8 @@ fn dots_within_keep(
     let mut answer = [0u8; 144];
     let mut again = [BEFORE; 160];
     let returned = dots_within_entered(
-        f,
-        c,
+        format,
+        settings,
         ALLOWANCE,
         &laid(left)[..8 * n],
         &laid(right)[..8 * n],
@@ -158,13 +174,13 @@ fn dots_within_keep(
 }
 
 // One number, and one figure written, or none.
-fn pence_keep(f: Format, values: [u64; FIGURES], n: usize) -> bool
+fn pence_keep(format: Format, values: [u64; FIGURES], n: usize) -> bool
     requires { n ≤ 12 }
 {
     let moved = backwards(values, n);
     let mut figure = 3;
     let mut again = 5;
-    let returned = pence_entered(f, &values[..n], &moved[..n], &mut figure, &mut again);
+    let returned = pence_entered(format, &values[..n], &moved[..n], &mut figure, &mut again);
     let written = if returned.0 == 0 {
         figure == again
     } else {
@@ -174,7 +190,7 @@ fn pence_keep(f: Format, values: [u64; FIGURES], n: usize) -> bool
 }
 
 // One number, and the same contribution to the first value, or nothing written.
-fn contributions_keep(f: Format, c: Settings, values: [u64; FIGURES], n: usize) -> bool
+fn contributions_keep(format: Format, settings: Settings, values: [u64; FIGURES], n: usize) -> bool
     requires { n ≤ 12 }
 {
     let moved = backwards(values, n);
@@ -182,8 +198,8 @@ fn contributions_keep(f: Format, c: Settings, values: [u64; FIGURES], n: usize) 
     let mut answer = [BEFORE; 8];
     let mut again = [BEFORE; 24];
     let returned = contributions_entered(
-        f,
-        c,
+        format,
+        settings,
         wanted,
         &values[..n],
         &moved[..n],
@@ -194,22 +210,22 @@ fn contributions_keep(f: Format, c: Settings, values: [u64; FIGURES], n: usize) 
 }
 
 // The bytes of three targets, each with the row's own format and settings.
-fn own_targets(f: Format, c: Settings) -> [u8; TARGETS] {
-    let (bias_named, bias) = told_bias(f);
+fn own_targets(format: Format, settings: Settings) -> [u8; TARGETS] {
+    let (bias_named, bias) = told_bias(format);
     let numbers = [
-        f.kind,
-        f.exponent_bits,
-        f.width,
+        format.kind,
+        format.exponent_bits,
+        format.width,
         bias_named,
         bias.cast_unsigned(),
-        c.rounding,
-        c.tininess,
-        c.nan_propagation,
-        c.default_nan_negative,
-        c.flush_to_zero,
-        c.denormals_are_zero,
-        c.saturate,
-        c.precision,
+        settings.rounding,
+        settings.tininess,
+        settings.nan_propagation,
+        settings.default_nan_negative,
+        settings.flush_to_zero,
+        settings.denormals_are_zero,
+        settings.saturate,
+        settings.precision,
     ];
     let mut bytes = [0u8; TARGETS];
     for target in 0..3 {
@@ -220,16 +236,16 @@ fn own_targets(f: Format, c: Settings) -> [u8; TARGETS] {
     bytes
 }
 
-fn targets_keep(f: Format, c: Settings, values: [u64; FIGURES], n: usize) -> bool
+fn targets_keep(format: Format, settings: Settings, values: [u64; FIGURES], n: usize) -> bool
     requires { n ≤ 12 }
 {
     let moved = backwards(values, n);
     let mut answer = [0u8; 96];
     let mut again = [BEFORE; 112];
     let returned = targets_entered(
-        f,
-        c.denormals_are_zero,
-        &own_targets(f, c),
+        format,
+        settings.denormals_are_zero,
+        &own_targets(format, settings),
         &laid(values)[..8 * n],
         &laid(moved)[..8 * n],
         &mut answer,
@@ -238,40 +254,43 @@ fn targets_keep(f: Format, c: Settings, values: [u64; FIGURES], n: usize) -> boo
     same_answer(returned, &answer, &again)
 }
 
-fn dot_keeps(s: &[u8], f: Format, c: Settings) -> bool {
-    let left = words_at(s, 0);
-    let right = right_words(s);
-    let n = at_most(s, 23, 1, 12);
-    let m = at_most(s, 24, 1, 12);
-    let total = dot_or_refusal(f, c, &left[..n], &right[..m]);
-    if total.refusal != 0 {
-        return total == answer_at(s);
+fn dot_keeps(row: &[u8], format: Format, settings: Settings) -> bool {
+    let left = words_at(row, 0);
+    let right = right_words(row);
+    let n = at_most(row, 23, 1, 12);
+    let m = at_most(row, 24, 1, 12);
+    let total = dot_or_refusal(format, settings, &left[..n], &right[..m]);
+    if total.is_err() {
+        return is_told(row, total);
     }
-    if holds_nan(f, &left[..n]) || holds_nan(f, &right[..n]) {
+    if holds_nan(format, &left[..n]) || holds_nan(format, &right[..n]) {
         return true;
     }
-    dots_keep(f, c, left, right, n) && dots_within_keep(f, c, left, right, n)
+    dots_keep(format, settings, left, right, n)
+        && dots_within_keep(format, settings, left, right, n)
 }
 
 // Whether the promises show in what the functions return.
-pub(crate) fn keeps(s: &[u8]) -> bool {
-    let f = format_at(s);
-    let c = settings_at(s);
-    if is_dot(s) {
-        return dot_keeps(s, f, c);
+pub(crate) fn keeps(row: &[u8]) -> bool {
+    let format = format_at(row);
+    let settings = settings_at(row);
+    if is_dot(row) {
+        return dot_keeps(row, format, settings);
     }
-    let u = summand_at(s);
-    let values = words_at(s, 0);
-    let n = at_most(s, 23, 1, 12);
-    let total = sum_or_refusal(f, c, u, &values[..n]);
-    if total.refusal != 0 {
-        return total == answer_at(s);
+    let summand = summand_at(row);
+    let values = words_at(row, 0);
+    let n = at_most(row, 23, 1, 12);
+    let total = sum_or_refusal(format, settings, summand, &values[..n]);
+    if total.is_err() {
+        return is_told(row, total);
     }
-    let figures = pence_keep(f, values, n)
-        && contributions_keep(f, c, values, n)
-        && targets_keep(f, c, values, n);
-    if holds_nan(f, &values[..n]) {
+    let figures = pence_keep(format, values, n)
+        && contributions_keep(format, settings, values, n)
+        && targets_keep(format, settings, values, n);
+    if holds_nan(format, &values[..n]) {
         return figures;
     }
-    figures && sums_keep(f, c, u, values, n) && sums_within_keep(f, c, u, values, n)
+    figures
+        && sums_keep(format, settings, summand, values, n)
+        && sums_within_keep(format, settings, summand, values, n)
 }

@@ -6,7 +6,8 @@ use promised_calls::entries::{enter_dot, enter_sum};
 // The length of a row.
 pub const ROW: usize = 496;
 
-// Where a row has the answer's buffer before the call and after it, the bytes of its lists, and those of a dot's right one.
+// Where a row has the answer's buffer before the call and after it, the bytes of its lists, and
+// those of a dot's right one.
 const BEFORE: usize = 77;
 
 const AFTER: usize = 158;
@@ -20,17 +21,17 @@ const BYTES: usize = 128;
 
 const BUFFER: usize = 40;
 
-fn enter(s: &[u8], answer: &mut [u8]) -> u64 {
-    let f = told_format_at(s);
-    let c = settings_at(s);
-    let left: [u8; BYTES] = bytes_in(s, LISTS);
-    let n = at_most(s, 23, 2, BYTES);
-    if is_dot(s) {
-        let right: [u8; BYTES] = bytes_in(s, RIGHT);
-        let m = at_most(s, 26, 2, BYTES);
-        return enter_dot(f, c, &left[..n], &right[..m], answer);
+fn enter(row: &[u8], answer: &mut [u8]) -> u64 {
+    let format = told_format_at(row);
+    let settings = settings_at(row);
+    let left: [u8; BYTES] = bytes_in(row, LISTS);
+    let n = at_most(row, 23, 2, BYTES);
+    if is_dot(row) {
+        let right: [u8; BYTES] = bytes_in(row, RIGHT);
+        let m = at_most(row, 26, 2, BYTES);
+        return enter_dot(format, settings, &left[..n], &right[..m], answer);
     }
-    enter_sum(f, c, summand_at(s), &left[..n], answer)
+    enter_sum(format, settings, summand_at(row), &left[..n], answer)
 }
 
 // Whether the entry agrees with the row, with as much of the buffer as that says.

@@ -8,7 +8,7 @@ use native.Mathlib.Omega.{arith}
 use lib.Dec.{eqb, eqb-zero-suc, eqb-suc-zero, eqb-suc-suc}
 use lib.ListN.{length, take, drop, get_or}
 use borrow.Author.Tests.{eqb-true, eq-eqb, ne_eqb}
-use Rattle.totals_spec.specs.Program.{onto, lines, hex_digit, more_hex, hex_from}
+use Rattle.totals_spec.specs.program.Program.{onto, lines, hex_digit, more_hex, hex_from}
 use Rattle.text.specs.Reading.{first_line}
 
 -- the lines after the first

@@ -8,7 +8,7 @@ use lib.ListN.{length-drop}
 use lib.Seq.{take_all, take-take, drop-drop, append_snoc}
 use borrow.Author.Tests.{eq-eqb, ne_eqb, le-ltb}
 use Rattle.std.proofs.lemmas.List.{take_more, take_rest, take_min, drop-take}
-use Rattle.totals_spec.specs.Program.{onto, lines, line_value, Read, values, bad_line, taken, read_from}
+use Rattle.totals_spec.specs.program.Program.{onto, lines, line_value, Read, values, bad_line, taken, read_from}
 use Rattle.text.specs.Reading.{first_line}
 use Rattle.text.specs.Answered.{line_at}
 use Rattle.text.proofs.FirstLine.{first-onto, not-empty, first-value, later-lines}

@@ -4,7 +4,7 @@ use Rattle.std.proofs.lemmas.Grind.{common_steps}
 use Rattle.std.proofs.Math.Nat.{pow-suc, pow-le-pow_right}
 use Rattle.std.specs.Prelude as code
 use Rattle.std.proofs.Math.Option.{Option, none, some}
-use Rattle.totals_spec.specs.Program.{hex_digit, more_hex, hex_from}
+use Rattle.totals_spec.specs.program.Program.{hex_digit, more_hex, hex_from}
 use Rattle.hexadecimal.specs.Digits.{option_of, digit_of}
 use Rattle.text.proofs.FirstLine.{hex-none}
 

@@ -10,7 +10,7 @@ use lib.Dec.{ltb}
 use borrow.Author.Tests.{lt-ltb, le-ltb}
 use Rattle.std.specs.Slice.Iter.{chunks_rest, chunks_size, chunks_steps}
 use Rattle.std.specs.declared.slice.Chunks.{Chunks}
-use Rattle.totals_spec.specs.Program.{lines, hex_from, Read, values, bad_line, taken, read_from}
+use Rattle.totals_spec.specs.program.Program.{lines, hex_from, Read, values, bad_line, taken, read_from}
 use Rattle.hexadecimal.specs.Digits.{option_of}
 use Rattle.arrayvec.specs.ArrayVec.{ArrayVec}
 use Rattle.text.specs.declared.read.BadLine.{BadLine}

@@ -10,7 +10,7 @@ use lib.Dec.{ltb}
 use lib.ListN.{take, drop}
 use lib.Seq.{take-nil}
 use borrow.Author.Tests.{lt-ltb}
-use Rattle.totals_spec.specs.Program.{lines, hex_digit, more_hex, Read, bad_line, taken, read_from, text_of, program_text}
+use Rattle.totals_spec.specs.program.Program.{lines, hex_digit, more_hex, Read, bad_line, taken, read_from, text_of, program_text}
 use Rattle.text.specs.Reading.{Prefix}
 use Rattle.text.proofs.FirstLine.{line_from, first-value}
 use Rattle.text.proofs.Steps.{value_of, read_step}

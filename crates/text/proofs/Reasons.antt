@@ -9,7 +9,7 @@ use Rattle.std.proofs.lemmas.List.{length-take, get_or-take}
 use borrow.Author.Tests.{eq-eqb, ltb-true, ltb-false}
 use Rattle.std.specs.Prelude.{is_some}
 use Rattle.std.proofs.lemmas.List.{take_more}
-use Rattle.totals_spec.specs.Program.{hex_digit, more_hex, hex_from, line_value}
+use Rattle.totals_spec.specs.program.Program.{hex_digit, more_hex, hex_from, line_value}
 use Rattle.hexadecimal.specs.Digits.{option_of, digit_of}
 use Rattle.text.specs.Reasons.{AreDigits, StandsFirst, IsCapital, HasCapital, Tells}
 use Rattle.text.specs.declared.reason.Reason.{Reason}

@@ -14,7 +14,7 @@ use lib.ListN.{length, length-append}
 use lib.Pow.{field, mod-mod-pow}
 use borrow.Author.Tests.{lt-ltb}
 use Rattle.io.specs.Digits.{hex_digit_ascii, last_digits, IsDigitCount}
-use Rattle.totals_spec.specs.Program.{hex_byte, hex_text, decimal_from, decimal_text}
+use Rattle.totals_spec.specs.program.Program.{hex_byte, hex_text, decimal_from, decimal_text}
 
 -- ---- hex
 

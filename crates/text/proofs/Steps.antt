@@ -7,7 +7,7 @@ use Prim.Native.Nat.{ℕ, suc, ◌<◌}
 use native.Mathlib.Omega.{arith}
 use lib.Dec.{ltb}
 use lib.ListN.{length, drop}
-use Rattle.totals_spec.specs.Program.{lines, line_value, bad_line, taken, read_from}
+use Rattle.totals_spec.specs.program.Program.{lines, line_value, bad_line, taken, read_from}
 use Rattle.text.specs.Reading.{first_line}
 use Rattle.text.proofs.FirstLine.{later_lines, not-empty, first-value, later-lines}
 

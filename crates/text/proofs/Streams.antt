@@ -5,7 +5,7 @@ use Rattle.std.proofs.Math.Seq.{take-append-add}
 use Rattle.std.specs.Prelude.{Option, None, Some, IfSome, Result, Ok, Err, IfOk, OnErr}
 use Rattle.std.specs.Io.KnownBytes.{Appends, Consumes, IsAtEnd}
 use Rattle.std.proofs.KnownBytes.{Consumes-trans}
-use Rattle.totals_spec.specs.Program.{program_text}
+use Rattle.totals_spec.specs.program.Program.{program_text}
 use Rattle.text.specs.Streams.{ConsumesFewer, AppendsPart}
 use Rattle.text.specs.Answered.{IsAnswered}
 use Rattle.text.specs.declared.answer.Answered.{Answered}

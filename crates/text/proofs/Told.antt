@@ -5,7 +5,7 @@ use Rattle.text.specs.declared.answer.Answered.{Answered}
 use Rattle.text.specs.declared.answer.Answered.TheVariants.{Total, Refused}
 use Rattle.text.specs.declared.answer.RefusedLine.{RefusedLine}
 use Rattle.text.specs.Reasons.{Tells}
-use Rattle.totals_spec.specs.Program.{lines, bad_line, read_from}
+use Rattle.totals_spec.specs.program.Program.{lines, bad_line, read_from}
 use Rattle.text.proofs.Lines.{same_bytes}
 use Rattle.text.proofs.Prefix.{same_read}
 use Rattle.text.proofs.Reasons.{told_of}

@@ -1,7 +1,7 @@
 -- What the program tells of its input beside the text: whether there is a total, or why a line is
 -- refused.
 use Rattle.std.specs.Prelude.{◌≡◌, ◌-◌, List, ℕ, take, drop, Result, Ok, Err}
-use Rattle.totals_spec.specs.Program.{lines, values, bad_line, read_from}
+use Rattle.totals_spec.specs.program.Program.{lines, values, bad_line, read_from}
 use Rattle.text.specs.Reading.{first_line}
 use Rattle.text.specs.Reasons.{Tells}
 use Rattle.text.specs.declared.answer.Answered.{Answered}

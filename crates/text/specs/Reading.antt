@@ -1,7 +1,7 @@
 -- What reading the lines gives, in the code's terms.
 use Rattle.std.specs.Prelude.{◌≡◌, List, [], ◌∷◌, ℕ, take, Result, Ok, Err}
 use Rattle.arrayvec.specs.ArrayVec.{ArrayVec}
-use Rattle.totals_spec.specs.Program.{Read, values, bad_line, program_text}
+use Rattle.totals_spec.specs.program.Program.{Read, values, bad_line, program_text}
 use Rattle.text.specs.declared.read.BadLine.{BadLine}
 
 -- the first of some lines, empty where there is none

@@ -2,18 +2,9 @@
 -- bytes.
 use Rattle.std.specs.Prelude.{◌≡◌, ◌<◌, ◌≤◌, ◌+◌, ◌++◌, [], ◌∷◌, List, ℕ, take, length, get_or}
 use Rattle.std.proofs.Math.Option.{some, none}
-use Rattle.totals_spec.specs.Program.{hex_digit, hex_from}
+use Rattle.totals_spec.specs.program.Program.{hex_digit, hex_from}
 use Rattle.text.specs.declared.reason.Reason.{Reason}
-use Rattle.text.specs.declared.reason.Reason.TheVariants.{
-  TooManyLines,
-  ByteOrderMark,
-  Empty,
-  CarriageReturn,
-  Capital,
-  NotHex,
-  TooShort,
-  TooLong,
-}
+use Rattle.text.specs.declared.reason.Reason.TheVariants.{TooManyLines, ByteOrderMark, Empty, CarriageReturn, Capital, NotHex, TooShort, TooLong}
 
 -- bytes that are hex digits all, and so write a number
 abbrev pub AreDigits : List ℕ → Type 0

@@ -1,21 +1,23 @@
 //! What an input comes to: the text that answers it, and whether that refuses a line.
 
 ghost use Rattle.std.specs.Prelude.{◌≡◌, ◌≤◌, take};
-ghost use Rattle.totals_spec.specs.Program.{lines, bad_line, read_from, program_format};
-ghost use Rattle.totals_spec.specs.Program.{program_settings, answer_text, program_text};
-ghost use Rattle.totals_spec.specs.Totals.{sum_answer};
-ghost use Rattle.totals_spec.specs.Pence.{sum_pence};
-ghost use Rattle.format.specs.Joined.{settings_of};
+ghost use Rattle.totals_spec.specs.program.Program.{lines, bad_line, read_from, program_format};
+ghost use Rattle.totals_spec.specs.program.Program.{program_settings, answer_text, program_text};
+ghost use Rattle.totals_spec.specs.sums.Totals.{sum_answer};
+ghost use Rattle.totals_spec.specs.pence.Pence.{sum_pence};
+ghost use Rattle.format.specs.Settings.{settings_of};
 ghost use Rattle.text.specs.Reasons.{Tells};
 ghost use Rattle.text.specs.Answered.{line_at, IsAnswered};
+ghost use Rattle.text.specs.FourLines.{figure_of};
 
 use crate::read::read_lines;
 use crate::reason::{Reason, first_line, reason_for};
 use crate::write::{Text, answer_lines, refused_line};
-use format::env::Settings;
-use page::binary64;
+use format::settings::Settings;
 use thiserror::Error;
+use totals::formats::binary64;
 use totals::pence::pence_of_sum;
+use totals::refusal::Refusal;
 use totals::sum;
 
 /// A line that is refused, counted from 1, and why.
@@ -45,16 +47,27 @@ fn settings() -> Settings
     }
 }
 
+// The figure of pence, where they are not refused.
+fn figure(pence: Result<i64, Refusal>) -> Option<i64>
+    ensures { result ≡ figure_of pence }
+{
+    match pence {
+        Ok(figure) => Some(figure),
+        Err(_) => None,
+    }
+}
+
 // The text of the sum of some binary64 numbers.
 fn sum_text(values: &[u64]) -> Text
     ensures { result ≡ answer_text (sum_answer program_format program_settings 0 values.now)
         (sum_pence program_format values.now) }
 {
     let format = binary64();
-    let answer = sum(format, settings(), 0, values);
-    let figure = pence_of_sum(format, values);
-    let pence = (figure.refusal == 0).then_some(figure.figure);
-    answer_lines(answer.result, answer.flags, answer.passes, pence)
+    let pence = figure(pence_of_sum(format, values));
+    match sum(format, settings(), 0, values) {
+        Ok(total) => answer_lines(total.result, total.flags, total.passes, pence),
+        Err(_) => answer_lines(0, 0, 0, pence),
+    }
 }
 
 // The first line that is refused, and why. All lines before it have 17 bytes, and 18 bytes of it

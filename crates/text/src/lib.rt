@@ -10,7 +10,7 @@ pub mod stream;
 pub mod write;
 
 ghost use Rattle.std.specs.Prelude.{◌≡◌};
-ghost use Rattle.totals_spec.specs.Program.{program_text};
+ghost use Rattle.totals_spec.specs.program.Program.{program_text};
 
 use crate::answer::answer_to;
 use crate::write::Text;

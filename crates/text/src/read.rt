@@ -4,7 +4,7 @@
 
 ghost use Rattle.std.specs.Prelude.{◌≡◌, ◌≤◌, length};
 ghost use Rattle.std.proofs.Math.Option.{some};
-ghost use Rattle.totals_spec.specs.Program.{lines, hex_from, line_value, read_from};
+ghost use Rattle.totals_spec.specs.program.Program.{lines, hex_from, line_value, read_from};
 ghost use Rattle.hexadecimal.specs.Digits.{option_of};
 ghost use Rattle.text.specs.Reading.{first_line, result_of};
 

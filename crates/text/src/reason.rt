@@ -2,7 +2,7 @@
 
 ghost use Rattle.std.specs.Prelude.{◌≡◌, ◌≤◌, take, IsTrue, IfSome, IsNone};
 ghost use Rattle.std.proofs.Math.Option.{none};
-ghost use Rattle.totals_spec.specs.Program.{lines, line_value};
+ghost use Rattle.totals_spec.specs.program.Program.{lines, line_value};
 ghost use Rattle.text.specs.Reading.{first_line};
 ghost use Rattle.text.specs.Reasons.{AreDigits, StandsFirst, ReturnsLast, Tells, byte_order_mark};
 

@@ -3,7 +3,7 @@
 
 ghost use Rattle.std.specs.Prelude.{◌≡◌, ◌<◌, ◌≤◌, take, length, IfOk, IfSome, OnOk, OnErr};
 ghost use Rattle.std.specs.Io.KnownBytes.{Appends, Consumes, IsAtEnd};
-ghost use Rattle.totals_spec.specs.Program.{program_text};
+ghost use Rattle.totals_spec.specs.program.Program.{program_text};
 ghost use Rattle.text.specs.Streams.{ConsumesFewer, AppendsPart, IsLeft, IsWritten};
 ghost use Rattle.text.specs.Answered.{IsAnswered};
 

@@ -1,7 +1,7 @@
 //! What the program writes: a text of at most 64 bytes, put together by value.
 
 ghost use Rattle.std.specs.Prelude.{[], ◌∷◌, ◌++◌, ◌≡◌, ◌+◌, ◌^◌, ◌≤◌, ◌<◌, length};
-ghost use Rattle.totals_spec.specs.Program.{hex_text, decimal_text, refused_text, line_end};
+ghost use Rattle.totals_spec.specs.program.Program.{hex_text, decimal_text, refused_text, line_end};
 ghost use Rattle.text.specs.FourLines.{figure_text, four_lines};
 
 use arrayvec::ArrayVec;

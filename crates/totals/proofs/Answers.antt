@@ -9,10 +9,10 @@ use lib.Dec.{leb, ltb, eqb}
 use lib.ListN.{length}
 use borrow.Author.Tests.{ne_eqb}
 use Rattle.totals_spec.specs.Basics.{any}
-use Rattle.totals_spec.specs.Format.{Format, valid_format}
-use Rattle.totals_spec.specs.Settings.{Settings, valid_settings, summand_of}
-use Rattle.totals_spec.specs.Totals.{Answer, limit, refuse_if, refused, answered, stray, first_index, pairs}
-use Rattle.totals_spec.specs.Totals.{sum_refusal, sum_accepted, sum_answer, dot_refusal, dot_place, dot_accepted, dot_answer}
+use Rattle.totals_spec.specs.formats.Format.{Format, valid_format}
+use Rattle.totals_spec.specs.formats.Settings.{Settings, valid_settings, summand_of}
+use Rattle.totals_spec.specs.sums.Totals.{Answer, limit, refuse_if, refused, answered, stray, first_index, pairs}
+use Rattle.totals_spec.specs.sums.Totals.{sum_refusal, sum_accepted, sum_answer, dot_refusal, dot_place, dot_accepted, dot_answer}
 use Rattle.totals.specs.declared.refusal.Refusal.{Refusal}
 use Rattle.totals.specs.Refusal.{number_of, place_of, sum_numbers, dot_numbers}
 use Rattle.totals.proofs.Refusals.{number-some, no-place}

@@ -12,34 +12,35 @@ use lib.Ieee.Digits.{size-lt, size_reaches}
 use borrow.Author.Tests.{eq-eqb, ne_eqb, lt-ltb, le-ltb}
 use Rattle.std.specs.Prelude.{is_some}
 use Rattle.totals_spec.specs.Basics.{Signed, flag, any}
-use Rattle.totals_spec.specs.Format.{Format, valid_format, origin, fall}
-use Rattle.totals_spec.specs.Settings.{no_settings, value, ties_to_away}
-use Rattle.totals_spec.specs.Terms.{top_of}
-use Rattle.totals_spec.specs.Chain.{Run}
-use Rattle.totals_spec.specs.Round.{dropped, rounds_up}
-use Rattle.totals_spec.specs.Totals.{limit, stray, first_index, sum_terms}
-use Rattle.totals_spec.specs.Settled.{settled}
-use Rattle.totals_spec.specs.Pence.{refused_pence, refused_at, in_range, not_number, sum_pence}
-use Rattle.totals_spec.specs.Pence as spec
-use Rattle.totals_spec.specs.Words.{misnamed, format_by, pence_entry}
-use Rattle.totals_spec.specs.Hundredfold.{hundred_terms, whole_figure}
-use Rattle.totals_spec.proofs.Hundredfold.{pence-by-chain}
-use Rattle.totals_spec.proofs.HundredTop.{top-some}
-use Rattle.totals_spec.proofs.SumPence.{sum-pence-number, sum-pence-place, none-figure, odd-items}
-use Rattle.totals_spec.proofs.Powers.{size_above}
-use Rattle.totals_spec.proofs.Nearest.{penny, figure-large, figure-cut, kept_small}
+use Rattle.totals_spec.specs.formats.Format.{Format, valid_format, origin, fall}
+use Rattle.totals_spec.specs.formats.Settings.{no_settings, value, ties_to_away}
+use Rattle.totals_spec.specs.terms.Terms.{top_of}
+use Rattle.totals_spec.specs.chain.Chain.{Run}
+use Rattle.totals_spec.specs.rounding.Round.{dropped, rounds_up}
+use Rattle.totals_spec.specs.sums.Totals.{limit, stray, first_index, sum_terms}
+use Rattle.totals_spec.specs.chain.Settled.{settled}
+use Rattle.totals_spec.specs.pence.Pence.{refused_pence, refused_at, in_range, not_number, sum_pence}
+use Rattle.totals_spec.specs.pence.Pence as spec
+use Rattle.totals_spec.specs.entries.Words.{misnamed, format_by}
+use Rattle.totals_spec.specs.pence.Entry.{pence_entry}
+use Rattle.totals_spec.specs.pence.Hundredfold.{hundred_terms, whole_figure}
+use Rattle.totals_spec.proofs.pence.HundredfoldChain.{pence-by-chain}
+use Rattle.totals_spec.proofs.pence.HundredfoldTop.{top-some}
+use Rattle.totals_spec.proofs.pence.PenceOfLists.{sum-pence-number, sum-pence-place, none-figure, odd-items}
+use Rattle.totals_spec.proofs.numbers.Powers.{size_above}
+use Rattle.totals_spec.proofs.pence.NearestWhole.{penny, figure-large, figure-cut, kept_small}
 use Rattle.exact.specs.declared.Unrounded.{Unrounded}
 use Rattle.exact.specs.declared.Cut.{Cut}
-use Rattle.exact.specs.Joined.{dropped_of, significand_of, Stands, end_of}
+use Rattle.exact.specs.Unrounded.{dropped_of, significand_of, Stands, end_of}
 use Rattle.exact.proofs.Standing.{stands-size, some_number, stands-some}
 use Rattle.window.specs.declared.ExactSum.{ExactSum}
-use Rattle.window.specs.Joined.{outcome_of, LeftOf}
-use Rattle.scan.specs.declared.Scan.{Scan}
-use Rattle.scan.specs.Joined.{Scanned}
+use Rattle.window.specs.Chain.{outcome_of, LeftOf}
+use Rattle.reduction.specs.declared.scan.Scan.{Scan}
+use Rattle.reduction.specs.Scan.{Scanned}
 use Rattle.reduction.specs.Held.{Sums}
-use Rattle.totals.specs.declared.pence.Pence.{Pence}
+use Rattle.totals.specs.declared.entry.NamedFormat.{NamedFormat}
 use Rattle.totals.specs.Entered.{EntersFigure}
-use Rattle.totals.specs.PenceRecord.{pence_record, list_figure, Countable}
+use Rattle.totals.specs.PenceRecord.{list_figure, Countable}
 
 -- what is left of a sum of which 64 digits are decided
 pub left-countable : (x : Signed) (v : Unrounded) → LeftOf 64 x v → 0 < significand_of v → Countable v
@@ -130,24 +131,24 @@ module _ (f : Format) (l : List ℕ) where
 
 -- ---- and its entry
 
-module _ (k e w named : ℕ) (b : ℤ) (l : List ℕ) (old : ℤ) where
-  pub misnamed-entry : misnamed named b ≡ true → EntersFigure (pence_entry k e w named b l old) 3 old
+module _ (named : NamedFormat) (l : List ℕ) (old : ℤ) where
+  pub misnamed-entry : misnamed named.bias_named named.bias ≡ true → EntersFigure (pence_entry named.kind named.exponent_bits named.width named.bias_named named.bias l old) 3 old
   unfolding pence_entry
   misnamed-entry t = record { code_is = rw t; figure-is = rw t }
 
-  module _ (t : misnamed named b ≡ false) (p : Pence) (is : pence_record p ≡ sum_pence (format_by k e w named b) l) where
-    pub refused-entry : p.refusal ≢ 0 → EntersFigure (pence_entry k e w named b l old) (p.refusal + 256 * p.place) old
+  module _ (t : misnamed named.bias_named named.bias ≡ false) (p : spec.Pence) (is : p ≡ sum_pence (format_by named.kind named.exponent_bits named.width named.bias_named named.bias) l) where
+    pub refused-entry : p.refusal ≢ 0 → EntersFigure (pence_entry named.kind named.exponent_bits named.width named.bias_named named.bias l old) (p.refusal + 256 * p.place) old
     unfolding pence_entry
     refused-entry h = record { code_is = rw (t, sym is, ne_eqb p.refusal 0 h); figure-is = rw (t, sym is, ne_eqb p.refusal 0 h) }
 
-    pub accepted-entry : p.refusal ≡ 0 → EntersFigure (pence_entry k e w named b l old) 0 p.figure
+    pub accepted-entry : p.refusal ≡ 0 → EntersFigure (pence_entry named.kind named.exponent_bits named.width named.bias_named named.bias l old) 0 p.figure
     unfolding pence_entry
     accepted-entry h = record { code_is = rw (t, sym is, eq-eqb p.refusal 0 h); figure-is = rw (t, sym is, eq-eqb p.refusal 0 h) }
 
     -- number and place fit the one that is returned
     pub code-small : (p.refusal < 256) × (p.place < 4294967296)
     code-small =
-        let f = format_by k e w named b in (
+        let f = format_by named.kind named.exponent_bits named.width named.bias_named named.bias in (
           subst (λ (x : spec.Pence). x.refusal < 256) (sym is) (sum-pence-number f l),
           subst (λ (x : spec.Pence). x.place < 4294967296) (sym is) (sum-pence-place f l),
         )

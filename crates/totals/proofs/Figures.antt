@@ -8,14 +8,14 @@ use native.Mathlib.Omega.{arith}
 use lib.Pow.{pow-add, pow_pos, pow_mono, shl_lt}
 use lib.Ieee.{size}
 use lib.Ieee.Digits.{size-lt, size_reaches}
-use Rattle.totals_spec.specs.Format.{Format, valid_format, depth, lift}
-use Rattle.totals_spec.specs.Decode.{Unpacked, decode, operand}
-use Rattle.totals_spec.specs.Bounds.{FormatBounds}
-use Rattle.totals_spec.specs.Totals.{stray}
-use Rattle.totals_spec.specs.Pence.{refused_pence, pence_of, figure_of, pence_answer}
-use Rattle.totals_spec.proofs.Bits.{pow-split, size-pos}
-use Rattle.arithmetic.specs.Joined.{Bounded}
-use Rattle.arithmetic.proofs.Elements.{operand-bounded}
+use Rattle.totals_spec.specs.formats.Format.{Format, valid_format, depth, lift}
+use Rattle.totals_spec.specs.formats.Decode.{Unpacked, decode, operand}
+use Rattle.totals_spec.specs.formats.Bounds.{FormatBounds}
+use Rattle.totals_spec.specs.sums.Totals.{stray}
+use Rattle.totals_spec.specs.pence.Pence.{refused_pence, pence_of, figure_of, pence_answer}
+use Rattle.totals_spec.proofs.numbers.Bits.{pow-split, size-pos}
+use Rattle.binary.specs.Terms.{Bounded}
+use Rattle.binary.proofs.Elements.{operand-bounded}
 use Rattle.totals.specs.Entered.{settings_from}
 
 -- ---- one rounding

@@ -1,13 +1,13 @@
 -- Refusals by their numbers, and rows of tests by their parts.
 use Rattle.std.proofs.Common.{◌≡◌, ◌≢◌, ◌<◌, ◌≤◌, refl, sym, ℕ, Bool, true, false, not, ◌&&◌, eqb, leb, ltb, arith, le-leb}
 use borrow.Author.Tests.{lt-leb}
-use Rattle.totals_spec.specs.Format.{Format, valid_format}
-use Rattle.totals_spec.specs.Settings.{Settings, summand_of, valid_settings}
-use Rattle.totals_spec.specs.Totals.{limit, refuse_if}
+use Rattle.totals_spec.specs.formats.Format.{Format, valid_format}
+use Rattle.totals_spec.specs.formats.Settings.{Settings, summand_of, valid_settings}
+use Rattle.totals_spec.specs.sums.Totals.{limit, refuse_if}
 use Rattle.totals.specs.Refusal.{number_of, place_of, first_numbers, few_number, sum_numbers, dot_numbers}
-use Rattle.arithmetic.specs.declared.summand.Summand.{Summand}
-use Rattle.arithmetic.specs.declared.summand.Summand.TheVariants.{Value, Magnitude, Square}
-use Rattle.arithmetic.specs.Summands.{summand_in, summand_number}
+use Rattle.binary.specs.declared.summand.Summand.{Summand}
+use Rattle.binary.specs.declared.summand.Summand.TheVariants.{Value, Magnitude, Square}
+use Rattle.binary.specs.Summands.{summand_in, summand_number}
 use Rattle.totals.specs.declared.refusal.Refusal.{Refusal}
 use Rattle.totals.specs.declared.refusal.Refusal.TheVariants.{UnevenLength, ShortBuffer, NoSuchFormat, SettingOutOfRange, DifferentLengths}
 use Rattle.totals.specs.declared.refusal.Refusal.TheVariants.{TooManyElements, StrayBit, NoPence, BadShape, NoRoom, BadAmount, NotAPage, BadSpan, NoAllowance}

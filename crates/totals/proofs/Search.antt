@@ -6,7 +6,7 @@ use Rattle.std.specs.Option.{MatchOption}
 use lib.Pow.{pow_pos, pow_mono}
 use borrow.Author.Tests.{lt-leb}
 use Rattle.totals_spec.specs.Basics.{any}
-use Rattle.totals_spec.specs.Totals.{first_index}
+use Rattle.totals_spec.specs.sums.Totals.{first_index}
 use Rattle.totals.specs.Stray.{stray_at, FoundIn}
 
 module _ (t : ℕ → Bool) where

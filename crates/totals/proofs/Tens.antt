@@ -9,27 +9,27 @@ use lib.ListN.{length, drop}
 use lib.Seq.{drop-drop}
 use borrow.Author.Tests.{eq-eqb, ne_eqb, le-leb, lt-leb}
 use Rattle.totals_spec.specs.Basics.{any}
-use Rattle.totals_spec.specs.Alone.{Alone}
-use Rattle.totals_spec.specs.Decode.{Unpacked}
-use Rattle.totals_spec.specs.Format.{Format, kind_of}
-use Rattle.totals_spec.specs.Settings.{Settings, Summand, summand_of, valid_settings}
-use Rattle.totals_spec.specs.Nan.{default_nan_of}
-use Rattle.totals_spec.specs.Totals.{Answer, limit, refuse_if, special, pairs}
-use Rattle.totals_spec.specs.Bytes.{to_bytes, sum_entry, dot_entry}
-use Rattle.totals_spec.specs.Halves.{joined}
-use Rattle.totals_spec.specs.Extended.{extended, kind4, valid_extended, unsupported, subnormal_extended, with_spread, tens_in, both_of}
-use Rattle.totals_spec.specs.Extended.{extended_item, extended_pair}
-use Rattle.totals_spec.specs.Extended.{extended_sum, extended_sum_refusal, extended_sum_answer, extended_dot, extended_dot_refusal, extended_dot_answer}
-use Rattle.totals_spec.specs.Extended.{uneven_tens, extended_written, extended_entered, extended_sum_entry, extended_dot_entry, sum_call, dot_call}
-use Rattle.totals_spec.proofs.Order.{first-zero}
-use Rattle.totals_spec.proofs.Extended.{extended-sum-refusal, extended-dot-refusal, extended-fits}
-use Rattle.totals_spec.proofs.ExtendedCalls.{sum-extended, dot-extended, other-kinds}
-use Rattle.totals_spec.proofs.ExtendedTerms.{any-both}
-use Rattle.totals_spec.proofs.Halves.{four-words, unsupported-record, supported-record}
-use Rattle.totals_spec.proofs.Encodable.{default-encodes}
+use Rattle.totals_spec.specs.formats.KindValues.{Alone}
+use Rattle.totals_spec.specs.formats.Decode.{Unpacked}
+use Rattle.totals_spec.specs.formats.Format.{Format, kind_of}
+use Rattle.totals_spec.specs.formats.Settings.{Settings, Summand, summand_of, valid_settings}
+use Rattle.totals_spec.specs.sums.Nan.{default_nan_of}
+use Rattle.totals_spec.specs.sums.Totals.{Answer, limit, refuse_if, special, pairs}
+use Rattle.totals_spec.specs.entries.Bytes.{to_bytes, sum_entry, dot_entry}
+use Rattle.totals_spec.specs.ten_bytes.TwoWords.{joined}
+use Rattle.totals_spec.specs.ten_bytes.Extended.{extended, kind4, valid_extended, unsupported, subnormal_extended, with_spread, tens_in, both_of}
+use Rattle.totals_spec.specs.ten_bytes.Extended.{extended_item, extended_pair}
+use Rattle.totals_spec.specs.ten_bytes.Extended.{extended_sum, extended_sum_refusal, extended_sum_answer, extended_dot, extended_dot_refusal, extended_dot_answer}
+use Rattle.totals_spec.specs.ten_bytes.Extended.{uneven_tens, extended_written, extended_entered, extended_sum_entry, extended_dot_entry, sum_call, dot_call}
+use Rattle.totals_spec.proofs.order.Order.{first-zero}
+use Rattle.totals_spec.proofs.ten_bytes.Totals.{extended-sum-refusal, extended-dot-refusal, extended-fits}
+use Rattle.totals_spec.proofs.ten_bytes.Calls.{sum-extended, dot-extended, other-kinds}
+use Rattle.totals_spec.proofs.ten_bytes.Terms.{any-both}
+use Rattle.totals_spec.proofs.ten_bytes.TwoWords.{four-words, unsupported-record, supported-record}
+use Rattle.totals_spec.proofs.formats.Encodable.{default-encodes}
 use Rattle.format.specs.Fits.{Encodes}
 use Rattle.values.specs.Laid.{laid}
-use Rattle.scan.specs.Encodings.{of_tens, signaling_in}
+use Rattle.reduction.specs.Encodings.{of_tens, signaling_in}
 use Rattle.reduction.specs.declared.total.Wide.{Wide}
 use Rattle.reduction.specs.Answered.{wide, Known, answer_as, given_as}
 use Rattle.totals.specs.declared.refusal.Refusal.{Refusal}

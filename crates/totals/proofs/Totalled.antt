@@ -1,30 +1,30 @@
 -- The total of a list of items: what its scan and its chain ask and tell; and the totals of numbers in the definitions' words.
 use Rattle.std.proofs.Common.{◌≡◌, refl, ap, ◌∙◌, ℕ, Bool, false, List, [], ◌∷◌, map, ◌≤◌, zero-le, subst, arith}
 use Rattle.std.specs.Prelude.{Option, Some, None, Ok, Err}
-use Rattle.totals_spec.specs.Format as spec
-use Rattle.totals_spec.specs.Settings as env
-use Rattle.totals_spec.specs.Bounds.{SettingsBounds}
-use Rattle.totals_spec.specs.Alone.{Alone}
-use Rattle.totals_spec.specs.Decode.{decode}
-use Rattle.totals_spec.specs.Terms.{Item, item, pair_item, terms, top_of}
-use Rattle.totals_spec.specs.Totals as totals
-use Rattle.totals_spec.specs.Extended.{both_of}
-use Rattle.totals_spec.specs.Settled.{settled, chain_total}
-use Rattle.totals_spec.proofs.ByChain.{finite-by-chain}
+use Rattle.totals_spec.specs.formats.Format as spec
+use Rattle.totals_spec.specs.formats.Settings as env
+use Rattle.totals_spec.specs.formats.Bounds.{SettingsBounds}
+use Rattle.totals_spec.specs.formats.KindValues.{Alone}
+use Rattle.totals_spec.specs.formats.Decode.{decode}
+use Rattle.totals_spec.specs.terms.Terms.{Item, item, pair_item, terms, top_of}
+use Rattle.totals_spec.specs.sums.Totals as totals
+use Rattle.totals_spec.specs.ten_bytes.Extended.{both_of}
+use Rattle.totals_spec.specs.chain.Settled.{settled, chain_total}
+use Rattle.totals_spec.proofs.chain.ByChain.{finite-by-chain}
 use Rattle.format.specs.declared.shape.Shape.{Shape}
 use Rattle.format.specs.declared.layout.Layout.{Layout}
 use Rattle.format.specs.Shapes.{shape_of}
 use Rattle.format.specs.Layouts.{layout_of}
-use Rattle.format.specs.Joined.{unpacked_of}
+use Rattle.format.specs.Unpacked.{unpacked_of}
 use Rattle.format.specs.Fits.{Encodes}
 use Rattle.format.proofs.Shapes.{range_bounds}
-use Rattle.scan.specs.declared.Scan.{Scan}
-use Rattle.scan.specs.declared.Given.{Given}
-use Rattle.scan.specs.Joined.{Decides}
-use Rattle.scan.specs.Encodings.{of_layout}
+use Rattle.reduction.specs.declared.scan.Scan.{Scan}
+use Rattle.reduction.specs.declared.scan.Given.{Given}
+use Rattle.reduction.specs.Scan.{Decides}
+use Rattle.reduction.specs.Encodings.{of_layout}
 use Rattle.window.specs.declared.ExactSum.{ExactSum}
 use Rattle.window.specs.declared.Stopped.{Stopped}
-use Rattle.window.specs.Joined.{outcome_of, run_of}
+use Rattle.window.specs.Chain.{outcome_of, run_of}
 use Rattle.reduction.specs.declared.total.Wide.{Wide}
 use Rattle.reduction.specs.Held.{Base, Summable, SumsWithin}
 use Rattle.reduction.specs.Answered.{wide, answer_as, given_as}

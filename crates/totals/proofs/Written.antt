@@ -9,13 +9,13 @@ use lib.Dec.{ltb}
 use lib.ListN.{length, drop}
 use lib.Seq.{drop-drop}
 use borrow.Author.Tests.{eq-eqb, ne_eqb, le-ltb, ltb-false}
-use Rattle.totals_spec.specs.Format.{Format}
-use Rattle.totals_spec.specs.Settings.{Settings}
-use Rattle.totals_spec.specs.Totals.{Answer, refuse_if, sum_answer, dot_answer}
-use Rattle.totals_spec.specs.Bytes.{to_bytes, values_in, Entry, uneven, written, entered, sum_entry, dot_entry}
-use Rattle.totals_spec.proofs.Fields.{Fields, two-numbers, sum_fields, dot-fields}
-use Rattle.totals_spec.proofs.Order.{first-zero}
-use Rattle.totals_spec.proofs.Refused.{Small, sum-small, dot-small}
+use Rattle.totals_spec.specs.formats.Format.{Format}
+use Rattle.totals_spec.specs.formats.Settings.{Settings}
+use Rattle.totals_spec.specs.sums.Totals.{Answer, refuse_if, sum_answer, dot_answer}
+use Rattle.totals_spec.specs.entries.Bytes.{to_bytes, values_in, Entry, uneven, written, entered, sum_entry, dot_entry}
+use Rattle.totals_spec.proofs.entries.AnswerFields.{Fields, two-numbers, sum_fields, dot-fields}
+use Rattle.totals_spec.proofs.order.Order.{first-zero}
+use Rattle.totals_spec.proofs.refusals.RefusedRecords.{Small, sum-small, dot-small}
 use Rattle.values.specs.Laid.{laid}
 use Rattle.totals.specs.declared.refusal.Refusal.{Refusal}
 use Rattle.totals.specs.Entered.{Enters, Fits}

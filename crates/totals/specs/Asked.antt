@@ -1,14 +1,15 @@
--- What a total is asked with, once it is in its ranges, or the refusal's number; and the record of what may be refused.
+-- What a total is asked with, once it is in its ranges, or the refusal's number; and the record of
+-- what may be refused.
 use Rattle.std.specs.Prelude.{◌≡◌, Bool, true, false, ℕ, ◌<◌, Result, Ok, Err}
-use Rattle.totals_spec.specs.Format.{Format, valid_format}
-use Rattle.totals_spec.specs.Settings.{Settings, valid_settings}
-use Rattle.totals_spec.specs.Totals.{Answer, refused}
+use Rattle.totals_spec.specs.formats.Format.{Format, valid_format}
+use Rattle.totals_spec.specs.formats.Settings.{Settings, valid_settings}
+use Rattle.totals_spec.specs.sums.Totals.{Answer, refused}
 use Rattle.format.specs.declared.layout.Layout.{Layout}
-use Rattle.format.specs.declared.environment.Env.{Env}
+use Rattle.format.specs.declared.env.Env.{Env}
 use Rattle.format.specs.Layouts.{layout_of, IsLayout}
 use Rattle.format.specs.Environments.{env_of, IsEnv}
-use Rattle.arithmetic.specs.declared.summand.Summand.{Summand}
-use Rattle.arithmetic.specs.Summands.{summand_number}
+use Rattle.binary.specs.declared.summand.Summand.{Summand}
+use Rattle.binary.specs.Summands.{summand_number}
 use Rattle.reduction.specs.declared.total.Answer as code
 use Rattle.reduction.specs.Answered.{answer_of}
 use Rattle.totals.specs.declared.refusal.Refusal.{Refusal}
@@ -38,7 +39,8 @@ Asks f c n (Ok a) = (layout_of a.layout ≡ f) × (env_of a.env ≡ c) × (n ≡
 Asks f c n (Err r) = number_of r ≡ n
 
 abbrev pub AsksSum : Format → Settings → (u n : ℕ) → Result (Asked × Summand) Refusal → Type 0
-AsksSum f c u n (Ok a) = (layout_of a.0.layout ≡ f) × (env_of a.0.env ≡ c) × (summand_number a.1 ≡ u) × (n ≡ 0)
+AsksSum f c u n (Ok a) =
+    (layout_of a.0.layout ≡ f) × (env_of a.0.env ≡ c) × (summand_number a.1 ≡ u) × (n ≡ 0)
 AsksSum f c u n (Err r) = number_of r ≡ n
 
 -- the same of values of ten bytes, which have one format

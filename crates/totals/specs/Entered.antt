@@ -1,14 +1,18 @@
--- What a byte entry leaves behind: the number that it gives, and the buffer. And a format and settings from an entry's numbers, in its order.
-use Rattle.std.specs.Prelude.{◌≡◌, true, false, List, ℕ, ◌^◌, ◌<◌, ◌≤◌, length, ℤ, Option, Result, Ok, Err}
+-- What a byte entry leaves behind: the number that it gives, and the buffer. And a format and
+-- settings from an entry's numbers, in its order.
+use Rattle.std.specs.Prelude.{◌≡◌, true, false, List, ℕ, ◌^◌, ◌<◌, ◌≤◌, length, ℤ, Option, Result}
+use Rattle.std.specs.Prelude.{Ok, Err}
 use Rattle.std.proofs.Math.Option.{none, some}
-use Rattle.totals_spec.specs.Format.{Format}
-use Rattle.totals_spec.specs.Settings.{Settings}
-use Rattle.totals_spec.specs.Totals.{Answer}
-use Rattle.totals_spec.specs.Bytes.{Entry}
-use Rattle.totals_spec.specs.Words.{FigureEntry, TableEntry, misnamed, format_by}
+use Rattle.totals_spec.specs.formats.Format.{Format}
+use Rattle.totals_spec.specs.formats.Settings.{Settings}
+use Rattle.totals_spec.specs.sums.Totals.{Answer}
+use Rattle.totals_spec.specs.entries.Bytes.{Entry}
+use Rattle.totals_spec.specs.pence.Entry.{FigureEntry}
+use Rattle.totals_spec.specs.entries.Words.{misnamed, format_by}
 use Rattle.format.specs.Kinds.{bias_in}
 use Rattle.format.specs.declared.Format as code
-use Rattle.format.specs.Joined.{format_of}
+use Rattle.format.specs.Formats.{format_of}
+use Rattle.totals.specs.declared.entry.NamedFormat.{NamedFormat}
 use Rattle.totals.specs.declared.refusal.Refusal.{Refusal}
 use Rattle.totals.specs.declared.refusal.Refusal.TheVariants.{NoSuchFormat}
 
@@ -20,13 +24,6 @@ pub record Enters (e : Entry) (code : ℕ) (buffer : List ℕ) : Type 0 where
 pub record EntersFigure (e : FigureEntry) (code : ℕ) (figure : ℤ) : Type 0 where
   pub code_is : code ≡ e.code
   pub figure-is : figure ≡ e.figure
-
--- and of one that lends two lists of totals beside the buffer
-pub record EntersTable (e : TableEntry) (code : ℕ) (rows columns buffer : List ℕ) : Type 0 where
-  pub code_is : code ≡ e.code
-  pub rows_are : rows ≡ e.row_totals
-  pub columns-are : columns ≡ e.column_totals
-  pub buffer-is : buffer ≡ e.buffer
 
 -- a record that can be entered: the buffer has room for it, and each field fits where it is written
 pub record Fits (a : Answer) (buffer : List ℕ) : Type 0 where
@@ -51,7 +48,9 @@ format_from k e w = record { kind = k; E = e; W = w; named = none }
 abbrev pub biased_from : (kind exponent_bits width : ℕ) (bias : ℤ) → Format
 biased_from k e w b = record { kind = k; E = e; W = w; named = some b }
 
-abbrev pub settings_from : (rounding tininess nan_propagation default_nan_negative flush_to_zero denormals_are_zero saturate precision : ℕ) → Settings
+abbrev pub settings_from :
+    (rounding tininess nan_propagation default_nan_negative : ℕ)
+    (flush_to_zero denormals_are_zero saturate precision : ℕ) → Settings
 settings_from r t n s f d a q = record {
   rounding = r;
   tininess = t;
@@ -64,6 +63,8 @@ settings_from r t n s f d a q = record {
 }
 
 -- a format that is named as a whole, or not
-abbrev pub Named : (kind exponent_bits width named : ℕ) (bias : ℤ) → Result code.Format Refusal → Type 0
-Named k e w n b (Ok f) = (misnamed n b ≡ false) × (format_of f ≡ format_by k e w n b)
-Named k e w n b (Err r) = (misnamed n b ≡ true) × (r ≡ NoSuchFormat)
+abbrev pub Named : NamedFormat → Result code.Format Refusal → Type 0
+Named n (Ok f) =
+    (misnamed n.bias_named n.bias ≡ false)
+    × (format_of f ≡ format_by n.kind n.exponent_bits n.width n.bias_named n.bias)
+Named n (Err r) = (misnamed n.bias_named n.bias ≡ true) × (r ≡ NoSuchFormat)

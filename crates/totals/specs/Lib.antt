@@ -1,13 +1,7 @@
-pub mod Contributions
 pub mod Refusal
 pub mod Stray
 pub mod Walked
 pub mod Entered
 pub mod PenceRecord
-pub mod Kept
-pub mod Targets
-pub mod Estimates
-pub mod Tables
-pub mod Ranges
 pub mod Asked
-pub mod Spans
+pub mod Laid

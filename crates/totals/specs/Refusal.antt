@@ -1,12 +1,17 @@
 -- The numbers of the refusals, and the refusals 3 to 6, which do not look at the elements.
 use Rattle.std.specs.Prelude.{Bool, not, ◌&&◌, ℕ, leb, ltb, eqb, Result, Ok, Err}
-use Rattle.totals_spec.specs.Format.{Format, valid_format}
-use Rattle.totals_spec.specs.Settings.{Settings, valid_settings}
-use Rattle.totals_spec.specs.Totals.{refuse_if, limit}
+use Rattle.totals_spec.specs.formats.Format.{Format, valid_format}
+use Rattle.totals_spec.specs.formats.Settings.{Settings, valid_settings}
+use Rattle.totals_spec.specs.sums.Totals.{refuse_if, limit}
 use Rattle.totals.specs.declared.refusal.Refusal.{Refusal}
-use Rattle.totals.specs.declared.refusal.Refusal.TheVariants.{UnevenLength, ShortBuffer, NoSuchFormat, SettingOutOfRange, DifferentLengths}
-use Rattle.totals.specs.declared.refusal.Refusal.TheVariants.{TooManyElements, StrayBit, NoPence, BadShape, NoRoom, BadAmount, NotAPage, BadSpan, NoAllowance}
-use Rattle.totals.specs.declared.refusal.Refusal.TheVariants.{NoContribution, NotFinite, TargetOutOfReach}
+use Rattle.totals.specs.declared.refusal.Refusal.TheVariants.{UnevenLength, ShortBuffer}
+use Rattle.totals.specs.declared.refusal.Refusal.TheVariants.{NoSuchFormat, SettingOutOfRange}
+use Rattle.totals.specs.declared.refusal.Refusal.TheVariants.{DifferentLengths}
+use Rattle.totals.specs.declared.refusal.Refusal.TheVariants.{TooManyElements, StrayBit, NoPence}
+use Rattle.totals.specs.declared.refusal.Refusal.TheVariants.{BadShape, NoRoom, BadAmount, NotAPage}
+use Rattle.totals.specs.declared.refusal.Refusal.TheVariants.{BadSpan, NoAllowance}
+use Rattle.totals.specs.declared.refusal.Refusal.TheVariants.{NoContribution, NotFinite}
+use Rattle.totals.specs.declared.refusal.Refusal.TheVariants.{TargetOutOfReach}
 
 abbrev pub number_of : Refusal → ℕ
 number_of UnevenLength = 1
@@ -45,7 +50,8 @@ first_numbers offered f c = refuse_if (not offered) 3 (refuse_if (not (valid_set
 abbrev pub few_number : ℕ → ℕ
 few_number n = refuse_if (ltb limit n) 6 0
 
--- refusals 1 and 2 of a byte entry, where a list is cut short or not, and the answer has so many bytes of those that are needed
+-- refusals 1 and 2 of a byte entry, where a list is cut short or not, and the answer has so many
+-- bytes of those that are needed
 abbrev pub length_numbers : Bool → (room needed : ℕ) → ℕ
 length_numbers cut n m = refuse_if cut 1 (refuse_if (ltb n m) 2 0)
 

@@ -1,7 +1,8 @@
 -- The search for a stray bit.
-use Rattle.std.specs.Prelude.{◌≡◌, Bool, true, false, List, ℕ, ◌^◌, leb, Option, Some, None, Result, Ok, Err}
+use Rattle.std.specs.Prelude.{◌≡◌, Bool, true, false, List, ℕ, ◌^◌, leb, Option, Some, None, Result}
+use Rattle.std.specs.Prelude.{Ok, Err}
 use Rattle.totals_spec.specs.Basics.{any}
-use Rattle.totals_spec.specs.Totals.{first_index}
+use Rattle.totals_spec.specs.sums.Totals.{first_index}
 use Rattle.totals.specs.declared.refusal.Refusal.{Refusal}
 use Rattle.totals.specs.declared.refusal.Refusal.TheVariants.{StrayBit}
 

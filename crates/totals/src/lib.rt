@@ -1,74 +1,120 @@
-// Exact totals of lists of binary floating-point numbers, rounded once. Every call answers: what cannot be totalled is refused, with a number.
+//! Exact totals of lists of binary floating-point numbers, rounded once. Every call answers: what
+//! cannot be totalled is refused, with a number.
 #![tactic(auto)]
 
-pub mod contribution;
 pub mod entry;
-pub mod entry_contribution;
-pub mod entry_within;
-pub mod estimate;
 mod extended;
-mod lists;
-pub mod pages;
+pub mod formats;
+pub mod lists;
 pub mod pence;
-pub mod range;
-mod rank;
 pub mod refusal;
-pub mod several;
-mod stray;
-pub mod table;
+pub mod stray;
 
 ghost use Rattle.std.specs.Prelude.{◌≡◌};
-ghost use Rattle.totals_spec.specs.Totals as spec;
-ghost use Rattle.totals_spec.specs.Bytes.{values_in};
-ghost use Rattle.format.specs.Joined.{format_of, settings_of};
-ghost use Rattle.reduction.specs.Answered.{answer_of};
+ghost use Rattle.totals_spec.specs.sums.Totals as spec;
+ghost use Rattle.totals_spec.specs.entries.Bytes.{values_in};
+ghost use Rattle.format.specs.Formats.{format_of};
+ghost use Rattle.format.specs.Settings.{settings_of};
 ghost use Rattle.totals.specs.Asked.{answer_in};
 
-use crate::refusal::{Refusal, answered, dot_refusal, sum_refusal};
+use crate::refusal::{Refusal, dot_refusal, sum_refusal};
 use format::Format;
-use format::env::Settings;
+use format::settings::Settings;
 use reduction::total::Answer;
 use values::elements::{Bytes, Elements, Words};
 
 // The sum of a list, wherever its elements stand.
-fn sum_of<E: Elements>(f: Format, c: Settings, u: u64, elements: E) -> Result<Answer, Refusal>
-    ensures { answer_in result ≡ spec.sum_answer (format_of f) (settings_of c) u (E.list elements) }
+fn sum_of<E: Elements>(
+    format: Format,
+    settings: Settings,
+    summand: u64,
+    elements: E,
+) -> Result<Answer, Refusal>
+    ensures { answer_in result
+        ≡ spec.sum_answer (format_of format) (settings_of settings) summand (E.list elements) }
 {
-    let (asked, summand) = sum_refusal(f, c, u, elements.count())?;
+    let (asked, summand) = sum_refusal(format, settings, summand, elements.count())?;
     lists::sum(asked.layout, asked.env, summand, elements)
 }
 
 // The sum of the products of the pairs of two lists.
-fn dot_of<E: Elements>(f: Format, c: Settings, left: E, right: E) -> Result<Answer, Refusal>
-    ensures { answer_in result ≡ spec.dot_answer (format_of f) (settings_of c) (E.list left) (E.list right) }
+fn dot_of<E: Elements>(
+    format: Format,
+    settings: Settings,
+    left: E,
+    right: E,
+) -> Result<Answer, Refusal>
+    ensures { answer_in result
+        ≡ spec.dot_answer (format_of format) (settings_of settings) (E.list left) (E.list right) }
 {
-    let asked = dot_refusal(f, c, left.count(), right.count())?;
+    let asked = dot_refusal(format, settings, left.count(), right.count())?;
     lists::dot(asked.layout, asked.env, left, right)
 }
 
-// The sum of the values (u = 0), of their magnitudes (1) or of their squares (2).
-pub fn sum(f: Format, c: Settings, u: u64, values: &[u64]) -> Answer
-    ensures { answer_of result ≡ spec.sum_answer (format_of f) (settings_of c) u values.now }
+/// The sum of the values (summand 0), of their magnitudes (1) or of their squares (2): the exact
+/// sum, rounded once. Values are encodings, one to a word. Refused with 3, 4, 6 or 7 (the
+/// specification, "Totals").
+pub fn sum(
+    format: Format,
+    settings: Settings,
+    summand: u64,
+    values: &[u64],
+) -> Result<Answer, Refusal>
+    ensures { answer_in result
+        ≡ spec.sum_answer (format_of format) (settings_of settings) summand values.now }
 {
-    answered(sum_of(f, c, u, Words { values }))
+    sum_of(format, settings, summand, Words { values })
 }
 
-// The sum of the products of the pairs.
-pub fn dot(f: Format, c: Settings, left: &[u64], right: &[u64]) -> Answer
-    ensures { answer_of result ≡ spec.dot_answer (format_of f) (settings_of c) left.now right.now }
+/// The sum of the products of the pairs, exact and rounded once. Refused with 3 to 7 (the
+/// specification, "Totals").
+pub fn dot(
+    format: Format,
+    settings: Settings,
+    left: &[u64],
+    right: &[u64],
+) -> Result<Answer, Refusal>
+    ensures { answer_in result
+        ≡ spec.dot_answer (format_of format) (settings_of settings) left.now right.now }
 {
-    answered(dot_of(f, c, Words { values: left }, Words { values: right }))
+    dot_of(
+        format,
+        settings,
+        Words { values: left },
+        Words { values: right },
+    )
 }
 
-// The same over bytes, eight to a value, little end first. Bytes past the last whole value are not looked at.
-pub fn sum_bytes(f: Format, c: Settings, u: u64, values: &[u8]) -> Answer
-    ensures { answer_of result ≡ spec.sum_answer (format_of f) (settings_of c) u (values_in values.now) }
+/// `sum` over bytes, eight to a value, little end first. Bytes past the last whole value are not
+/// looked at.
+pub fn sum_bytes(
+    format: Format,
+    settings: Settings,
+    summand: u64,
+    values: &[u8],
+) -> Result<Answer, Refusal>
+    ensures { answer_in result
+        ≡ spec.sum_answer (format_of format) (settings_of settings) summand
+        (values_in values.now) }
 {
-    answered(sum_of(f, c, u, Bytes { values }))
+    sum_of(format, settings, summand, Bytes { values })
 }
 
-pub fn dot_bytes(f: Format, c: Settings, left: &[u8], right: &[u8]) -> Answer
-    ensures { answer_of result ≡ spec.dot_answer (format_of f) (settings_of c) (values_in left.now) (values_in right.now) }
+/// `dot` over bytes, likewise.
+pub fn dot_bytes(
+    format: Format,
+    settings: Settings,
+    left: &[u8],
+    right: &[u8],
+) -> Result<Answer, Refusal>
+    ensures { answer_in result
+        ≡ spec.dot_answer (format_of format) (settings_of settings) (values_in left.now)
+        (values_in right.now) }
 {
-    answered(dot_of(f, c, Bytes { values: left }, Bytes { values: right }))
+    dot_of(
+        format,
+        settings,
+        Bytes { values: left },
+        Bytes { values: right },
+    )
 }

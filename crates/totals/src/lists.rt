@@ -1,237 +1,241 @@
-// The totals of lists that pass the tests that do not look at the elements: wherever these stand, and however they are encoded.
+// The totals of lists that pass the tests that do not look at the elements: wherever these stand,
+// and however they are encoded. These functions serve the crates beside this one.
 ghost use Rattle.std.specs.Prelude.{◌≡◌, ◌<◌, map, length};
 ghost use Rattle.std.specs.Result.{ForOk};
-ghost use Rattle.totals_spec.specs.Bounds.{SettingsBounds};
-ghost use Rattle.totals_spec.specs.Bytes.{values_in};
-ghost use Rattle.totals_spec.specs.Totals as totals;
+ghost use Rattle.totals_spec.specs.formats.Bounds.{SettingsBounds};
+ghost use Rattle.totals_spec.specs.sums.Totals as totals;
 ghost use Rattle.format.specs.Shapes.{shape_of};
 ghost use Rattle.format.specs.Layouts.{layout_of};
 ghost use Rattle.format.specs.Environments.{env_of};
-ghost use Rattle.arithmetic.specs.Summands.{summand_in, summand_number};
+ghost use Rattle.binary.specs.Summands.{summand_in, summand_number};
 ghost use Rattle.reduction.specs.Answered.{answer_of, wide, Known, answer_as, given_as};
-ghost use Rattle.scan.specs.Encodings.{item_in, pair_in};
+ghost use Rattle.reduction.specs.Encodings.{item_in, pair_in};
 ghost use Rattle.reduction.specs.Held.{Summable};
 ghost use Rattle.totals.specs.Refusal.{sum_numbers, dot_numbers};
 ghost use Rattle.totals.specs.Asked.{answer_in};
-ghost use Rattle.totals.specs.Walked.{Scans, Totals, Within, sum_in, dot_in, terms_in, products_in};
-ghost use Rattle.totals.specs.Kept.{met, KeptIn};
+ghost use Rattle.totals.specs.Walked.{met, Scans, Totals, Within, sum_in, dot_in};
+ghost use Rattle.totals.specs.Walked.{terms_in, products_in};
 
 use crate::refusal::Refusal;
 use crate::stray::no_stray;
-use arithmetic::summand::Summand;
-use format::environment::Env;
+use binary::summand::Summand;
+use format::env::Env;
 use format::layout::Layout;
 use format::shape::Shape;
 use near::near;
 use reduction::allowance::{Allowance, Every};
+use reduction::lists::{scan_list, scan_pairs};
+use reduction::numbers::{Encoded, Numbers};
+use reduction::scan::{Scan, decided};
 use reduction::terms::{Paired, Summed, Terms};
 use reduction::total::{Answer, Wide, finish, special};
-use reduction::walk::{exact, within};
-use scan::numbers::{Encoded, Numbers};
-use scan::walk::{scan_list, scan_pairs};
-use scan::{Scan, decided};
-use values::elements::{Bytes, Elements};
-use window::{ExactSum, Stopped};
+use reduction::walk::within;
+use values::elements::Elements;
+use window::Stopped;
 
-// The record of a list of terms, of which s is the scan: what that decides alone, or the sum of the terms; or where this stops, within an allowance of passes.
+// The record of a list of terms, by its scan: what that decides alone, or the sum of the terms; or
+// where this stops, within an allowance of passes.
 #[inline(always)]
 fn total<T: Terms, A: Allowance>(
-    f: Shape,
-    c: Env,
+    shape: Shape,
+    env: Env,
     products: bool,
     infinity_first: bool,
-    s: &Scan,
+    scan: &Scan,
     list: &T,
     allowance: A,
 ) -> Result<Wide, Stopped>
-    requires known { Known (wide (shape_of f)) (shape_of f) × SettingsBounds (shape_of f) (env_of c) × (0 < A.allowed allowance) }
-    requires summable { Summable (shape_of f) (T.items list.now) × Scans (shape_of f) (env_of c) (T.items list.now) s.now }
-    ensures { Totals (shape_of f) (env_of c) products infinity_first (T.items list.now) (A.allowed allowance) s.now result }
+    requires known { Known (wide (shape_of shape)) (shape_of shape)
+        × SettingsBounds (shape_of shape) (env_of env) × (0 < A.allowed allowance) }
+    requires summable { Summable (shape_of shape) (T.items list.now)
+        × Scans (shape_of shape) (env_of env) (T.items list.now) scan.now }
+    ensures { Totals (shape_of shape) (env_of env) products infinity_first (T.items list.now)
+        (A.allowed allowance) scan.now result }
 {
-    match decided(c, infinity_first, s) {
-        Some(given) => Ok(special(f, s.subnormal, given.value, given.invalid)),
-        None => match within(list, f.digits(), s.top, allowance) {
-            Ok(e) => Ok(finish(f, c, products, s.subnormal, e)),
+    match decided(env, infinity_first, scan) {
+        Some(given) => Ok(special(shape, scan.subnormal, given.value, given.invalid)),
+        None => match within(list, shape.digits(), scan.top, allowance) {
+            Ok(sum) => Ok(finish(shape, env, products, scan.subnormal, sum)),
             Err(stopped) => Err(stopped),
         },
     }
 }
 
-// The sum of some numbers, within an allowance of passes.
+/// The sum of some numbers, within an allowance of passes.
 #[inline(always)]
-pub(crate) fn sum_in<N: Numbers, A: Allowance>(
-    c: Env,
-    u: Summand,
+pub fn sum_in<N: Numbers, A: Allowance>(
+    env: Env,
+    summand: Summand,
     numbers: N,
     allowance: A,
 ) -> Result<Wide, Stopped>
-    requires known { Known (wide (N.encoding numbers).format) (N.encoding numbers).format × SettingsBounds (N.encoding numbers).format (env_of c) × (0 < A.allowed allowance) }
-    requires summable { Summable (N.encoding numbers).format (map (item_in (N.encoding numbers) (env_of c) (summand_in u)) (N.codes numbers)) }
-    ensures { Within (N.encoding numbers).format (sum_in (N.encoding numbers) (env_of c) (summand_in u) (N.codes numbers)) (terms_in (N.encoding numbers) (env_of c) (summand_in u) (N.codes numbers)) (A.allowed allowance) result }
+    requires known { let format = (N.encoding numbers).format in
+        Known (wide format) format × SettingsBounds format (env_of env)
+        × (0 < A.allowed allowance) }
+    requires summable { let encoding = N.encoding numbers in
+        Summable encoding.format
+        (map (item_in encoding (env_of env) (summand_in summand)) (N.codes numbers)) }
+    ensures { let encoding = N.encoding numbers in
+        Within encoding.format
+        (sum_in encoding (env_of env) (summand_in summand) (N.codes numbers))
+        (terms_in encoding (env_of env) (summand_in summand) (N.codes numbers))
+        (A.allowed allowance) result }
 {
-    let s = scan_list(&numbers, c, u);
+    let scan = scan_list(&numbers, env, summand);
     total(
         numbers.shape(),
-        c,
-        u == Summand::Square,
-        u != Summand::Value,
-        &s,
+        env,
+        summand == Summand::Square,
+        summand != Summand::Value,
+        &scan,
         &Summed {
             numbers,
-            env: c,
-            summand: u,
+            env,
+            summand,
         },
         allowance,
     )
 }
 
-// The sum of the products of the pairs of two lists, likewise.
+/// The sum of the products of the pairs of two lists, likewise.
 #[inline(always)]
-pub(crate) fn dot_in<N: Numbers, A: Allowance>(
-    c: Env,
+pub fn dot_in<N: Numbers, A: Allowance>(
+    env: Env,
     left: N,
     right: N,
     allowance: A,
 ) -> Result<Wide, Stopped>
     requires as_long { length (N.codes right) ≡ length (N.codes left) }
-    requires known { Known (wide (N.encoding left).format) (N.encoding left).format × SettingsBounds (N.encoding left).format (env_of c) × (0 < A.allowed allowance) }
-    requires summable { Summable (N.encoding left).format (map (pair_in (N.encoding left) (env_of c)) (totals.pairs (N.codes left) (N.codes right))) }
-    ensures { Within (N.encoding left).format (dot_in (N.encoding left) (env_of c) (totals.pairs (N.codes left) (N.codes right))) (products_in (N.encoding left) (env_of c) (totals.pairs (N.codes left) (N.codes right))) (A.allowed allowance) result }
+    requires known { let format = (N.encoding left).format in
+        Known (wide format) format × SettingsBounds format (env_of env)
+        × (0 < A.allowed allowance) }
+    requires summable { let encoding = N.encoding left in
+        Summable encoding.format
+        (map (pair_in encoding (env_of env)) (totals.pairs (N.codes left) (N.codes right))) }
+    ensures { let encoding = N.encoding left in
+        let pairs = totals.pairs (N.codes left) (N.codes right) in
+        Within encoding.format (dot_in encoding (env_of env) pairs)
+        (products_in encoding (env_of env) pairs) (A.allowed allowance) result }
 {
-    let s = scan_pairs(&left, &right, c);
+    let scan = scan_pairs(&left, &right, env);
     total(
         left.shape(),
-        c,
+        env,
         true,
         false,
-        &s,
-        &Paired {
-            left,
-            right,
-            env: c,
-        },
+        &scan,
+        &Paired { left, right, env },
         allowance,
     )
 }
 
-// The same with every pass that they take.
+// The sum of some numbers, with every pass that it takes.
 #[inline(always)]
-pub(crate) fn sum_of<N: Numbers>(c: Env, u: Summand, numbers: N) -> Wide
-    requires known { Known (wide (N.encoding numbers).format) (N.encoding numbers).format × SettingsBounds (N.encoding numbers).format (env_of c) }
-    requires summable { Summable (N.encoding numbers).format (map (item_in (N.encoding numbers) (env_of c) (summand_in u)) (N.codes numbers)) }
-    ensures { answer_as (wide (N.encoding numbers).format) result ≡ given_as (wide (N.encoding numbers).format) (sum_in (N.encoding numbers) (env_of c) (summand_in u) (N.codes numbers)) }
+pub(crate) fn sum_of<N: Numbers>(env: Env, summand: Summand, numbers: N) -> Wide
+    requires known { let format = (N.encoding numbers).format in
+        Known (wide format) format × SettingsBounds format (env_of env) }
+    requires summable { let encoding = N.encoding numbers in
+        Summable encoding.format
+        (map (item_in encoding (env_of env) (summand_in summand)) (N.codes numbers)) }
+    ensures { let encoding = N.encoding numbers in
+        answer_as (wide encoding.format) result
+        ≡ given_as (wide encoding.format)
+        (sum_in encoding (env_of env) (summand_in summand) (N.codes numbers)) }
 {
-    match sum_in(c, u, numbers, Every) {
-        Ok(w) => w,
+    match sum_in(env, summand, numbers, Every) {
+        Ok(total) => total,
         Err(_) => unreachable!(),
     }
 }
 
+// The sum of the products of the pairs, likewise.
 #[inline(always)]
-pub(crate) fn dot_of<N: Numbers>(c: Env, left: N, right: N) -> Wide
+pub(crate) fn dot_of<N: Numbers>(env: Env, left: N, right: N) -> Wide
     requires as_long { length (N.codes right) ≡ length (N.codes left) }
-    requires known { Known (wide (N.encoding left).format) (N.encoding left).format × SettingsBounds (N.encoding left).format (env_of c) }
-    requires summable { Summable (N.encoding left).format (map (pair_in (N.encoding left) (env_of c)) (totals.pairs (N.codes left) (N.codes right))) }
-    ensures { answer_as (wide (N.encoding left).format) result ≡ given_as (wide (N.encoding left).format) (dot_in (N.encoding left) (env_of c) (totals.pairs (N.codes left) (N.codes right))) }
+    requires known { let format = (N.encoding left).format in
+        Known (wide format) format × SettingsBounds format (env_of env) }
+    requires summable { let encoding = N.encoding left in
+        Summable encoding.format
+        (map (pair_in encoding (env_of env)) (totals.pairs (N.codes left) (N.codes right))) }
+    ensures { let encoding = N.encoding left in
+        answer_as (wide encoding.format) result
+        ≡ given_as (wide encoding.format)
+        (dot_in encoding (env_of env) (totals.pairs (N.codes left) (N.codes right))) }
 {
-    match dot_in(c, left, right, Every) {
-        Ok(w) => w,
+    match dot_in(env, left, right, Every) {
+        Ok(total) => total,
         Err(_) => unreachable!(),
     }
 }
 
-// The sum of a list that is accepted.
+/// The sum of a list that is accepted.
 #[inline(always)]
-pub(crate) fn unstrayed_sum<E: Elements>(f: Layout, c: Env, u: Summand, elements: E) -> Answer
-    requires { totals.sum_refusal (layout_of f) (env_of c) (summand_number u) (E.list elements) ≡ 0 }
-    ensures { answer_of result ≡ totals.sum_answer (layout_of f) (env_of c) (summand_number u) (E.list elements) }
+pub fn unstrayed_sum<E: Elements>(layout: Layout, env: Env, summand: Summand, elements: E) -> Answer
+    requires { totals.sum_refusal (layout_of layout) (env_of env) (summand_number summand)
+        (E.list elements) ≡ 0 }
+    ensures { answer_of result
+        ≡ totals.sum_answer (layout_of layout) (env_of env) (summand_number summand)
+        (E.list elements) }
 {
-    if let Some(a) = near(f, c, u, &elements) {
-        return a;
+    if let Some(answer) = near(layout, env, summand, &elements) {
+        return answer;
     }
-    let w = sum_of(
-        c,
-        u,
-        Encoded {
-            layout: f,
-            elements,
-        },
-    );
-    w.answer
+    let total = sum_of(env, summand, Encoded { layout, elements });
+    total.answer
 }
 
-// The sum of the elements of a list, unless one of them has a stray bit.
-pub(crate) fn sum<E: Elements>(
-    f: Layout,
-    c: Env,
-    u: Summand,
+/// The sum of the elements of a list, unless one of them has a stray bit.
+pub fn sum<E: Elements>(
+    layout: Layout,
+    env: Env,
+    summand: Summand,
     elements: E,
 ) -> Result<Answer, Refusal>
-    requires { sum_numbers (layout_of f) (env_of c) (summand_number u) (length (E.list elements)) ≡ 0 }
-    ensures told { answer_in result ≡ totals.sum_answer (layout_of f) (env_of c) (summand_number u) (E.list elements) }
-    ensures accepted { ForOk result (λ a. totals.sum_refusal (layout_of f) (env_of c) (summand_number u) (E.list elements) ≡ 0) }
+    requires { sum_numbers (layout_of layout) (env_of env) (summand_number summand)
+        (length (E.list elements)) ≡ 0 }
+    ensures told { answer_in result
+        ≡ totals.sum_answer (layout_of layout) (env_of env) (summand_number summand)
+        (E.list elements) }
+    ensures accepted { ForOk result (λ a.
+        totals.sum_refusal (layout_of layout) (env_of env) (summand_number summand)
+        (E.list elements) ≡ 0) }
 {
-    no_stray(f.shape.width, &elements)?;
-    Ok(unstrayed_sum(f, c, u, elements))
+    no_stray(layout.shape.width, &elements)?;
+    Ok(unstrayed_sum(layout, env, summand, elements))
 }
 
 // The sum of the products of the pairs, likewise: a stray bit is looked for in the left list first.
-pub(crate) fn dot<E: Elements>(f: Layout, c: Env, left: E, right: E) -> Result<Answer, Refusal>
-    requires { dot_numbers (layout_of f) (env_of c) (length (E.list left)) (length (E.list right)) ≡ 0 }
-    ensures { answer_in result ≡ totals.dot_answer (layout_of f) (env_of c) (E.list left) (E.list right) }
+pub(crate) fn dot<E: Elements>(
+    layout: Layout,
+    env: Env,
+    left: E,
+    right: E,
+) -> Result<Answer, Refusal>
+    requires { dot_numbers (layout_of layout) (env_of env) (length (E.list left))
+        (length (E.list right)) ≡ 0 }
+    ensures { answer_in result
+        ≡ totals.dot_answer (layout_of layout) (env_of env) (E.list left) (E.list right) }
 {
-    let width = f.shape.width;
+    let width = layout.shape.width;
     no_stray(width, &left)?;
     no_stray(width, &right)?;
-    let w = dot_of(
-        c,
+    let total = dot_of(
+        env,
         Encoded {
-            layout: f,
+            layout,
             elements: left,
         },
         Encoded {
-            layout: f,
+            layout,
             elements: right,
         },
     );
-    Ok(w.answer)
+    Ok(total.answer)
 }
 
-// Whether a scan met a NaN or an infinity.
-pub(crate) fn met_special(s: &Scan) -> bool
-    ensures { result ≡ met s.now }
+/// Whether a scan met a NaN or an infinity.
+pub fn met_special(scan: &Scan) -> bool
+    ensures { result ≡ met scan.now }
 {
-    s.nan.is_some() || s.positive_infinity || s.negative_infinity
-}
-
-// What a plain sum keeps for further roundings: its scan, and the exact sum of its terms where there are some and all is finite.
-#[derive(Clone, Copy)]
-pub struct Kept {
-    pub scan: Scan,
-    pub sum: Option<ExactSum>,
-}
-
-// Of values in bytes, unless one of them has a stray bit.
-pub(crate) fn keep(f: Layout, c: Env, values: &[u8]) -> Result<Kept, Refusal>
-    requires { sum_numbers (layout_of f) (env_of c) 0 (length (values_in values.now)) ≡ 0 }
-    ensures { KeptIn (layout_of f) (env_of c) (values_in values.now) result }
-{
-    let elements = Bytes { values };
-    no_stray(f.shape.width, &elements)?;
-    let numbers = Encoded {
-        layout: f,
-        elements,
-    };
-    let scan = scan_list(&numbers, c, Summand::Value);
-    let sum = if met_special(&scan) || scan.top == 0 {
-        None
-    } else {
-        let list = Summed {
-            numbers,
-            env: c,
-            summand: Summand::Value,
-        };
-        Some(exact(&list, f.shape.digits(), scan.top))
-    };
-    Ok(Kept { scan, sum })
+    scan.nan.is_some() || scan.positive_infinity || scan.negative_infinity
 }

@@ -1,29 +1,29 @@
-// Pence: a hundred times a number, rounded to an integer, half a penny away from zero. Of the number that an encoding stands for, and of the exact sum of
-// a list.
+// Pence: a hundred times a number, rounded to an integer, half a penny away from zero. Of the
+// number that an encoding stands for, and of the exact sum of a list.
 ghost use Rattle.std.specs.Prelude.{◌≡◌, cond, ℕ, ◌+◌, ◌/◌, ◌^◌, ◌<◌, ◌≤◌, min, pos, neg_ℤ, length};
 ghost use Rattle.totals_spec.specs.Basics.{Signed};
-ghost use Rattle.totals_spec.specs.Pence as spec;
-ghost use Rattle.totals_spec.specs.Totals.{limit};
-ghost use Rattle.totals_spec.specs.Hundredfold.{whole_figure};
+ghost use Rattle.totals_spec.specs.pence.Pence as spec;
+ghost use Rattle.totals_spec.specs.sums.Totals.{limit};
+ghost use Rattle.totals_spec.specs.pence.Hundredfold.{whole_figure};
 ghost use Rattle.format.specs.Shapes.{shape_of};
 ghost use Rattle.format.specs.Layouts.{layout_of};
-ghost use Rattle.format.specs.Joined.{format_of, unpacked_of};
-ghost use Rattle.exact.specs.Joined.{significand_of, Stands};
-ghost use Rattle.arithmetic.specs.Joined.{Bounded};
-ghost use Rattle.window.specs.Joined.{LeftOf};
-ghost use Rattle.totals.specs.Refusal.{number_of, place_of};
-ghost use Rattle.totals.specs.PenceRecord.{pence_record, figure_in, list_figure, Countable};
+ghost use Rattle.format.specs.Formats.{format_of};
+ghost use Rattle.format.specs.Unpacked.{unpacked_of};
+ghost use Rattle.exact.specs.Unrounded.{significand_of, Stands};
+ghost use Rattle.binary.specs.Terms.{Bounded};
+ghost use Rattle.window.specs.Chain.{LeftOf};
+ghost use Rattle.totals.specs.PenceRecord.{figure_in, list_figure, Countable};
 
 use crate::lists::met_special;
 use crate::refusal::{Refusal, layout_for, refuse_if};
 use crate::stray::no_stray;
-use arithmetic::summand::Summand;
 use binary::decode;
+use binary::summand::Summand;
 use exact::Unrounded;
 use exact::rounding::rounds_up;
 use format::Format;
-use format::env::flag;
-use format::environment::Env;
+use format::env::Env;
+use format::flags::flag;
 use format::layout::Layout;
 use format::modes::Rounding;
 use format::shape::Shape;
@@ -31,21 +31,13 @@ use format::unpacked::Unpacked;
 use limbs::pair;
 use limbs::word::{ones, widening_mul};
 use near::hundredfold as near_hundredfold;
+use reduction::lists::scan_list;
+use reduction::numbers::Encoded;
 use reduction::terms::Hundreds;
 use reduction::total::left;
 use reduction::walk::exact;
-use scan::numbers::Encoded;
-use scan::walk::scan_list;
 use values::LIMIT;
 use values::elements::{Elements, Words};
-
-// The record of a pence figure.
-#[derive(Clone, Copy, PartialEq, Eq, Debug)]
-pub struct Pence {
-    pub figure: i64,
-    pub refusal: u64,
-    pub place: u64,
-}
 
 // The digits that decide a figure below 2^63 and the half penny beside it.
 const DIGITS: u64 = 64;
@@ -53,178 +45,144 @@ const DIGITS: u64 = 64;
 // A hundred has 7 bits: each value, taken a hundred times, has its T so much higher.
 const HUNDRED_BITS: u64 = 7;
 
+// Pence are cut at half a penny: two hundred times the number.
+const HALF_PENCE: u64 = 200;
+
+// A figure's magnitude has at most 63 bits, and twice the magnitude 64: a word.
+const FIGURE_BITS: u64 = 63;
+
+const WORD_BITS: u64 = 64;
+
 // 2^63, the least magnitude that is refused.
 const TOO_LARGE: u64 = 9223372036854775808;
 
-impl From<Refusal> for Pence {
-    ghost from_gives = { λ e p. pence_record p ≡ spec.refused_at (number_of e) (place_of e) };
-
-    fn from(refusal: Refusal) -> Pence {
-        Pence {
-            figure: 0,
-            refusal: refusal.number(),
-            place: refusal.place(),
-        }
-    }
-}
-
-// The record of a figure that may be refused.
-fn recorded(figure: Result<i64, Refusal>) -> Pence
-    ensures { pence_record result ≡ figure_in figure }
-{
-    match figure {
-        Ok(figure) => Pence {
-            figure,
-            refusal: 0,
-            place: 0,
-        },
-        Err(refusal) => Pence::from(refusal),
-    }
-}
-
 // Half of a number, a half upwards; 2^63 where it is more.
-fn halved(n: u128) -> u64
-    ensures { result ≡ min ((n + 1) / 2) (2 ^ 63) }
+fn halved(twice: u128) -> u64
+    ensures { result ≡ min ((twice + 1) / 2) (2 ^ 63) }
 {
-    (n / 2 + n % 2).min(u128::from(TOO_LARGE)) as u64
+    (twice / 2 + twice % 2).min(u128::from(TOO_LARGE)) as u64
 }
 
-// The magnitude of the figure of m * 2^k / 2^d; 2^63 where it is more. Twice the magnitude is cut to a
-// whole number, then halved: the bits that the cut drops lie below the one that decides.
+// The magnitude of the figure of m * 2^k / 2^d; 2^63 where it is more. Twice the magnitude is cut
+// to a whole number, then halved: the bits that the cut drops lie below the one that decides.
 fn magnitude(d: u64, k: u64, m: u64) -> u64
     requires { (k < 536870912) × (0 < m) }
     ensures { result ≡ min (spec.pence_of d k m) (2 ^ 63) }
 {
-    let t = widening_mul(200, m);
+    let twice = widening_mul(HALF_PENCE, m);
     if k <= d {
-        return halved(pair::shr(t, (d - k) as usize));
+        return halved(pair::shr(twice, (d - k) as usize));
     }
     let up = k - d;
-    if u64::from(pair::bit_length(t)) + up > 64 {
+    if u64::from(pair::bit_length(twice)) + up > WORD_BITS {
         return TOO_LARGE;
     }
-    halved(t << up)
+    halved(twice << up)
 }
 
-fn signed(negative: bool, n: u64) -> i64
-    requires { n < 2 ^ 63 }
-    ensures { result ≡ cond negative (neg_ℤ (pos n)) (pos n) }
+fn signed(negative: bool, magnitude: u64) -> i64
+    requires { magnitude < 2 ^ 63 }
+    ensures { result ≡ cond negative (neg_ℤ (pos magnitude)) (pos magnitude) }
 {
-    let x = n as i64;
-    if negative { -x } else { x }
+    let whole = magnitude as i64;
+    if negative { -whole } else { whole }
 }
 
 // The figure of a sign and a magnitude.
-fn in_range(negative: bool, n: u64) -> Result<i64, Refusal>
-    ensures { figure_in result ≡ spec.in_range negative n }
+fn in_range(negative: bool, magnitude: u64) -> Result<i64, Refusal>
+    ensures { figure_in result ≡ spec.in_range negative magnitude }
 {
-    if n >= TOO_LARGE {
+    if magnitude >= TOO_LARGE {
         return Err(Refusal::NoPence);
     }
-    Ok(signed(negative, n))
+    Ok(signed(negative, magnitude))
 }
 
-// The figure of a decoded value, where the least number is 2^(n - d).
-fn figure_of(d: u64, n: u64, v: Unpacked) -> Result<i64, Refusal>
-    requires { (n ≤ 268435456) × Bounded (unpacked_of v) }
-    ensures { figure_in result ≡ spec.figure_of d n (unpacked_of v) }
+// The figure of a decoded value, where the least number is 2^(lift - depth).
+fn figure_of(depth: u64, lift: u64, value: Unpacked) -> Result<i64, Refusal>
+    requires { (lift ≤ 268435456) × Bounded (unpacked_of value) }
+    ensures { figure_in result ≡ spec.figure_of depth lift (unpacked_of value) }
 {
-    match v {
+    match value {
         Unpacked::Zero(_) => Ok(0),
         Unpacked::Finite {
             negative,
             shift,
             significand,
-        } => in_range(negative, magnitude(d, shift + n, significand)),
+        } => in_range(negative, magnitude(depth, shift + lift, significand)),
         Unpacked::Infinity(_) | Unpacked::Nan { .. } => Err(Refusal::NoPence),
     }
 }
 
-// The figure of an encoding.
-fn figure(f: Format, b: u64) -> Result<i64, Refusal>
-    ensures { figure_in result ≡ spec.pence_answer (format_of f) b }
+/// The pence of the number that an encoding stands for. Refused with 3, 7 or 8 (the specification,
+/// "Pence").
+pub fn pence_of(format: Format, bits: u64) -> Result<i64, Refusal>
+    ensures { figure_in result ≡ spec.pence_answer (format_of format) bits }
 {
-    let layout = layout_for(f)?;
-    refuse_if(b > ones(f.width), Refusal::StrayBit(0))?;
+    let layout = layout_for(format)?;
+    refuse_if(bits > ones(format.width), Refusal::StrayBit(0))?;
     let shape = layout.shape;
-    figure_of(shape.depth(), shape.lift(), decode(layout, b))
+    figure_of(shape.depth(), shape.lift(), decode(layout, bits))
 }
 
-// The pence of an encoding, or why there are none.
-pub fn pence_of(f: Format, b: u64) -> Pence
-    ensures { pence_record result ≡ spec.pence_answer (format_of f) b }
+// The figure of a sum in pence. What has its highest bit at 2^63 pence or above is too large; of
+// all else the whole pence fit a word, with room for one more.
+fn nearest(shape: Shape, sum: Unrounded) -> Result<i64, Refusal>
+    requires { Countable sum }
+    ensures { (x : ℕ) → Stands sum x → figure_in result
+        ≡ whole_figure (shape_of shape) (record { neg = sum.negative; mag = x }) }
 {
-    recorded(figure(f, b))
-}
-
-// The figure of a sum in pence. What has its highest bit at 2^63 pence or above is too large; of all else the whole pence fit a word, with room for one
-// more.
-fn nearest(f: Shape, v: Unrounded) -> Result<i64, Refusal>
-    requires { Countable v }
-    ensures { (x : ℕ) → Stands v x → figure_in result ≡ whole_figure (shape_of f) (record { neg = v.negative; mag = x }) }
-{
-    let one = f.origin(false);
-    let down = f.fall(false);
-    let end = v.position + v.length();
-    if end + down > one + 63 {
+    let one = shape.origin(false);
+    let down = shape.fall(false);
+    let end = sum.position + sum.length();
+    if end + down > one + FIGURE_BITS {
         return Err(Refusal::NoPence);
     }
-    let whole = v.cut(one - down);
-    let d = whole.dropped;
-    let up = rounds_up(Rounding::TiesToAway, v.negative, whole.kept, d);
-    in_range(v.negative, whole.kept + flag(1, up))
+    let whole = sum.cut(one - down);
+    let dropped = whole.dropped;
+    let up = rounds_up(Rounding::TiesToAway, sum.negative, whole.kept, dropped);
+    in_range(sum.negative, whole.kept + flag(1, up))
 }
 
-// The figure of a sum of hundredfold terms, of which v is left.
-fn whole_pence(f: Shape, v: Unrounded) -> Result<i64, Refusal>
-    requires { 0 < significand_of v → Countable v }
-    ensures { (x : Signed) → LeftOf 64 x v → figure_in result ≡ whole_figure (shape_of f) x }
+// The figure of a sum of hundredfold terms, by what is left of it.
+fn whole_pence(shape: Shape, sum: Unrounded) -> Result<i64, Refusal>
+    requires { 0 < significand_of sum → Countable sum }
+    ensures { (x : Signed) → LeftOf 64 x sum → figure_in result
+        ≡ whole_figure (shape_of shape) x }
 {
-    if v.is_nothing() {
+    if sum.is_nothing() {
         return Ok(0);
     }
-    nearest(f, v)
+    nearest(shape, sum)
 }
 
 // The figure of a list without a stray bit.
-fn hundredfold<E: Elements>(f: Layout, elements: E) -> Result<i64, Refusal>
+fn hundredfold<E: Elements>(layout: Layout, elements: E) -> Result<i64, Refusal>
     requires { length (E.list elements) ≤ limit }
-    ensures { figure_in result ≡ list_figure (layout_of f) (E.list elements) }
+    ensures { figure_in result ≡ list_figure (layout_of layout) (E.list elements) }
 {
-    if let Some(v) = near_hundredfold(f, &elements) {
-        return whole_pence(f.shape, v);
+    if let Some(sum) = near_hundredfold(layout, &elements) {
+        return whole_pence(layout.shape, sum);
     }
-    let numbers = Encoded {
-        layout: f,
-        elements,
-    };
-    let s = scan_list(&numbers, Env::default(), Summand::Value);
-    refuse_if(met_special(&s), Refusal::NoPence)?;
-    if s.top == 0 {
+    let numbers = Encoded { layout, elements };
+    let scan = scan_list(&numbers, Env::default(), Summand::Value);
+    refuse_if(met_special(&scan), Refusal::NoPence)?;
+    if scan.top == 0 {
         return Ok(0);
     }
-    let list = Hundreds {
-        layout: f,
-        elements,
-    };
-    let e = exact(&list, DIGITS, s.top + HUNDRED_BITS);
-    whole_pence(f.shape, left(DIGITS, e))
+    let list = Hundreds { layout, elements };
+    let sum = exact(&list, DIGITS, scan.top + HUNDRED_BITS);
+    whole_pence(layout.shape, left(DIGITS, sum))
 }
 
-// The figure of the exact sum of a list.
-fn sum_figure(f: Format, values: &[u64]) -> Result<i64, Refusal>
-    ensures { figure_in result ≡ spec.sum_pence (format_of f) values.now }
+/// The pence of the exact sum of a list: no rounding to the format is in between. Its settings are
+/// all 0. Refused with 3, 6, 7 or 8 (the specification, "Pence").
+pub fn pence_of_sum(format: Format, values: &[u64]) -> Result<i64, Refusal>
+    ensures { figure_in result ≡ spec.sum_pence (format_of format) values.now }
 {
-    let layout = layout_for(f)?;
+    let layout = layout_for(format)?;
     refuse_if(values.len() > LIMIT, Refusal::TooManyElements)?;
     let elements = Words { values };
     no_stray(layout.shape.width, &elements)?;
     hundredfold(layout, elements)
-}
-
-// The pence of the exact sum of a list, or why there are none. Its settings are all 0.
-pub fn pence_of_sum(f: Format, values: &[u64]) -> Pence
-    ensures { pence_record result ≡ spec.sum_pence (format_of f) values.now }
-{
-    recorded(sum_figure(f, values))
 }

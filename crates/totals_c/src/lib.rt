@@ -1,18 +1,76 @@
-// The byte entries as C calls them: each is that of `totals::entry` under its name, and says the same.
+//! The exported functions, as C calls them: each builds the records that its numbers stand for, and
+//! calls the entry over them.
 #![tactic(auto)]
 
-ghost use Rattle.totals_spec.specs.Extended as ten;
-ghost use Rattle.totals_spec.specs.Pages as pages;
-ghost use Rattle.further_spec.specs.Contribution as contribution;
-ghost use Rattle.further_spec.specs.Estimate as estimate;
-ghost use Rattle.further_spec.specs.Several as several;
-ghost use Rattle.totals_spec.specs.Words as words;
-ghost use Rattle.totals.specs.Ranges.{EntersRange};
-ghost use Rattle.totals.specs.Entered.{Enters, EntersFigure, EntersTable, format_from, biased_from, settings_from};
+ghost use Rattle.std.specs.Prelude.{◌≡◌};
+ghost use Rattle.totals_spec.specs.ten_bytes.Extended as ten;
+ghost use Rattle.pages_spec.specs.Pages as pages;
+ghost use Rattle.targets_spec.specs.contribution.Contribution as contribution;
+ghost use Rattle.targets_spec.specs.within.Estimate as estimate;
+ghost use Rattle.targets_spec.specs.several.Several as several;
+ghost use Rattle.totals_spec.specs.pence.Entry.{pence_entry};
+ghost use Rattle.figures_spec.specs.ranges.Entry.{range_entry};
+ghost use Rattle.figures_spec.specs.tables.Entry.{table_entry};
+ghost use Rattle.format.specs.Kinds.{bias_in};
+ghost use Rattle.format.specs.Formats.{format_of};
+ghost use Rattle.format.specs.Settings.{settings_of};
+ghost use Rattle.totals.specs.Entered.{Enters, EntersFigure};
+ghost use Rattle.totals.specs.Entered.{format_with, format_from, biased_from, settings_from};
+ghost use Rattle.figures.specs.Ranges.{EntersRange};
+ghost use Rattle.figures.specs.Tables.{EntersTable};
 
-use totals::{entry, entry_contribution, entry_within};
+use figures::entry::{enter_range, enter_table};
+use format::Format;
+use format::settings::Settings;
+use pages::entry::{enter_page_sum, enter_page_write};
+use targets::entry::enter_sum_into;
+use targets::entry_contribution::enter_contribution;
+use targets::entry_within::{enter_dot_within, enter_sum_within};
+use totals::entry::{NamedFormat, enter_dot, enter_pence, enter_sum};
 
-// The sum of the values (summand 0), of their magnitudes (1) or of their squares (2). Kind 4 is told apart before anything else is looked at.
+// A format from an entry's numbers, and the bias where it names one.
+#[inline(always)]
+fn format(kind: u64, exponent_bits: u64, width: u64, named: Option<i64>) -> Format
+    ensures { format_of result ≡ format_with kind exponent_bits width named }
+{
+    Format {
+        kind,
+        exponent_bits,
+        width,
+        named,
+    }
+}
+
+// Settings from an entry's numbers, in its order.
+#[inline(always)]
+fn settings(
+    rounding: u64,
+    tininess: u64,
+    nan_propagation: u64,
+    default_nan_negative: u64,
+    flush_to_zero: u64,
+    denormals_are_zero: u64,
+    saturate: u64,
+    precision: u64,
+) -> Settings
+    ensures { settings_of result
+        ≡ settings_from rounding tininess nan_propagation default_nan_negative flush_to_zero
+        denormals_are_zero saturate precision }
+{
+    Settings {
+        rounding,
+        tininess,
+        nan_propagation,
+        default_nan_negative,
+        flush_to_zero,
+        denormals_are_zero,
+        saturate,
+        precision,
+    }
+}
+
+/// The sum of the values (summand 0), of their magnitudes (1) or of their squares (2), as bytes.
+/// Kind 4 is told apart before anything else is looked at (the specification, "Byte entries").
 #[unsafe(no_mangle)]
 pub extern "C" fn totals_sum(
     kind: u64,
@@ -30,12 +88,13 @@ pub extern "C" fn totals_sum(
     values: &[u8],
     answer: &mut [u8],
 ) -> u64
-    ensures { Enters (ten.sum_call (format_from kind exponent_bits width) (settings_from rounding tininess nan_propagation default_nan_negative flush_to_zero denormals_are_zero saturate precision) summand values.now answer.old) result answer.new }
+    ensures { Enters
+        (ten.sum_call (format_from kind exponent_bits width)
+        (settings_from rounding tininess nan_propagation default_nan_negative flush_to_zero
+        denormals_are_zero saturate precision)
+        summand values.now answer.old) result answer.new }
 {
-    entry::totals_sum(
-        kind,
-        exponent_bits,
-        width,
+    let settings = settings(
         rounding,
         tininess,
         nan_propagation,
@@ -44,13 +103,12 @@ pub extern "C" fn totals_sum(
         denormals_are_zero,
         saturate,
         precision,
-        summand,
-        values,
-        answer,
-    )
+    );
+    let format = format(kind, exponent_bits, width, None);
+    enter_sum(format, settings, summand, values, answer)
 }
 
-// The sum of the products of the pairs.
+/// The sum of the products of the pairs: all else is as in `totals_sum`.
 #[unsafe(no_mangle)]
 pub extern "C" fn totals_dot(
     kind: u64,
@@ -68,12 +126,13 @@ pub extern "C" fn totals_dot(
     right: &[u8],
     answer: &mut [u8],
 ) -> u64
-    ensures { Enters (ten.dot_call (format_from kind exponent_bits width) (settings_from rounding tininess nan_propagation default_nan_negative flush_to_zero denormals_are_zero saturate precision) left.now right.now answer.old) result answer.new }
+    ensures { Enters
+        (ten.dot_call (format_from kind exponent_bits width)
+        (settings_from rounding tininess nan_propagation default_nan_negative flush_to_zero
+        denormals_are_zero saturate precision)
+        left.now right.now answer.old) result answer.new }
 {
-    entry::totals_dot(
-        kind,
-        exponent_bits,
-        width,
+    let settings = settings(
         rounding,
         tininess,
         nan_propagation,
@@ -82,13 +141,12 @@ pub extern "C" fn totals_dot(
         denormals_are_zero,
         saturate,
         precision,
-        left,
-        right,
-        answer,
-    )
+    );
+    let format = format(kind, exponent_bits, width, None);
+    enter_dot(format, settings, left, right, answer)
 }
 
-// The same in a format that names its bias.
+/// `totals_sum` in a format that names its bias.
 #[unsafe(no_mangle)]
 pub extern "C" fn totals_sum_biased(
     kind: u64,
@@ -107,13 +165,13 @@ pub extern "C" fn totals_sum_biased(
     values: &[u8],
     answer: &mut [u8],
 ) -> u64
-    ensures { Enters (ten.sum_call (biased_from kind exponent_bits width bias) (settings_from rounding tininess nan_propagation default_nan_negative flush_to_zero denormals_are_zero saturate precision) summand values.now answer.old) result answer.new }
+    ensures { Enters
+        (ten.sum_call (biased_from kind exponent_bits width bias)
+        (settings_from rounding tininess nan_propagation default_nan_negative flush_to_zero
+        denormals_are_zero saturate precision)
+        summand values.now answer.old) result answer.new }
 {
-    entry::totals_sum_biased(
-        kind,
-        exponent_bits,
-        width,
-        bias,
+    let settings = settings(
         rounding,
         tininess,
         nan_propagation,
@@ -122,12 +180,12 @@ pub extern "C" fn totals_sum_biased(
         denormals_are_zero,
         saturate,
         precision,
-        summand,
-        values,
-        answer,
-    )
+    );
+    let format = format(kind, exponent_bits, width, Some(bias));
+    enter_sum(format, settings, summand, values, answer)
 }
 
+/// `totals_dot` in a format that names its bias.
 #[unsafe(no_mangle)]
 pub extern "C" fn totals_dot_biased(
     kind: u64,
@@ -146,13 +204,13 @@ pub extern "C" fn totals_dot_biased(
     right: &[u8],
     answer: &mut [u8],
 ) -> u64
-    ensures { Enters (ten.dot_call (biased_from kind exponent_bits width bias) (settings_from rounding tininess nan_propagation default_nan_negative flush_to_zero denormals_are_zero saturate precision) left.now right.now answer.old) result answer.new }
+    ensures { Enters
+        (ten.dot_call (biased_from kind exponent_bits width bias)
+        (settings_from rounding tininess nan_propagation default_nan_negative flush_to_zero
+        denormals_are_zero saturate precision)
+        left.now right.now answer.old) result answer.new }
 {
-    entry::totals_dot_biased(
-        kind,
-        exponent_bits,
-        width,
-        bias,
+    let settings = settings(
         rounding,
         tininess,
         nan_propagation,
@@ -161,13 +219,12 @@ pub extern "C" fn totals_dot_biased(
         denormals_are_zero,
         saturate,
         precision,
-        left,
-        right,
-        answer,
-    )
+    );
+    let format = format(kind, exponent_bits, width, Some(bias));
+    enter_dot(format, settings, left, right, answer)
 }
 
-// The pence of the exact sum of a list of words.
+/// The pence of the exact sum of a list of words (the specification, "Pence").
 #[unsafe(no_mangle)]
 pub extern "C" fn totals_pence(
     kind: u64,
@@ -178,12 +235,22 @@ pub extern "C" fn totals_pence(
     values: &[u64],
     figure: &mut i64,
 ) -> u64
-    ensures { EntersFigure (words.pence_entry kind exponent_bits width bias_named bias values.now figure.old) result figure.new }
+    ensures { EntersFigure
+        (pence_entry kind exponent_bits width bias_named bias values.now figure.old) result
+        figure.new }
 {
-    entry::totals_pence(kind, exponent_bits, width, bias_named, bias, values, figure)
+    let format = NamedFormat {
+        kind,
+        exponent_bits,
+        width,
+        bias_named,
+        bias,
+    };
+    enter_pence(format, values, figure)
 }
 
-// The totals of a table of words: the answer's 24 bytes are those of the total of all cells.
+/// The totals of a table of words: the answer's 24 bytes are those of the total of all cells (the
+/// specification, "Tables").
 #[unsafe(no_mangle)]
 pub extern "C" fn totals_table(
     kind: u64,
@@ -206,14 +273,21 @@ pub extern "C" fn totals_table(
     column_totals: &mut [u64],
     answer: &mut [u8],
 ) -> u64
-    ensures { EntersTable (words.table_entry kind exponent_bits width bias_named bias (settings_from rounding tininess nan_propagation default_nan_negative flush_to_zero denormals_are_zero saturate precision) rows columns cells.now row_totals.old column_totals.old answer.old) result row_totals.new column_totals.new answer.new }
+    ensures { EntersTable
+        (table_entry kind exponent_bits width bias_named bias
+        (settings_from rounding tininess nan_propagation default_nan_negative flush_to_zero
+        denormals_are_zero saturate precision)
+        rows columns cells.now row_totals.old column_totals.old answer.old)
+        result row_totals.new column_totals.new answer.new }
 {
-    entry::totals_table(
+    let format = NamedFormat {
         kind,
         exponent_bits,
         width,
         bias_named,
         bias,
+    };
+    let settings = settings(
         rounding,
         tininess,
         nan_propagation,
@@ -222,6 +296,10 @@ pub extern "C" fn totals_table(
         denormals_are_zero,
         saturate,
         precision,
+    );
+    enter_table(
+        format,
+        settings,
         rows,
         columns,
         cells,
@@ -231,8 +309,8 @@ pub extern "C" fn totals_table(
     )
 }
 
-// The lower and the upper total of amounts known within a range, as two words. Each entry's low and high are left in the place of its figures: only figures
-// that are not used change.
+/// The lower and the upper total of amounts known within a range, as two words. Each entry's low
+/// and high are left in the place of its figures (the specification, "Ranges").
 #[unsafe(no_mangle)]
 pub extern "C" fn totals_range(
     tags: &[u64],
@@ -241,12 +319,14 @@ pub extern "C" fn totals_range(
     ceiling: u64,
     pair: &mut [u64],
 ) -> u64
-    ensures { EntersRange (words.range_entry tags.now first.old second.old ceiling pair.old) result first.new second.new pair.new }
+    ensures { EntersRange (range_entry tags.now first.old second.old ceiling pair.old) result
+        first.new second.new pair.new }
 {
-    entry::totals_range(tags, first, second, ceiling, pair)
+    enter_range(tags, first, second, ceiling, pair)
 }
 
-// The plain sum of a list in three targets: each has 32 bytes of the answer.
+/// The plain sum of a list in three targets: each has 32 bytes of the answer (the specification,
+/// "Targets").
 #[unsafe(no_mangle)]
 pub extern "C" fn totals_sum_into(
     kind: u64,
@@ -259,22 +339,21 @@ pub extern "C" fn totals_sum_into(
     values: &[u8],
     answer: &mut [u8],
 ) -> u64
-    ensures { Enters (several.target_entry kind exponent_bits width bias_named bias denormals_are_zero targets.now values.now answer.old) result answer.new }
+    ensures { Enters
+        (several.target_entry kind exponent_bits width bias_named bias denormals_are_zero
+        targets.now values.now answer.old) result answer.new }
 {
-    entry::totals_sum_into(
+    let format = NamedFormat {
         kind,
         exponent_bits,
         width,
         bias_named,
         bias,
-        denormals_are_zero,
-        targets,
-        values,
-        answer,
-    )
+    };
+    enter_sum_into(format, denormals_are_zero, targets, values, answer)
 }
 
-// The total of a span of a career page.
+/// The total of a span of a career page (the specification, "Career pages").
 #[unsafe(no_mangle)]
 pub extern "C" fn totals_page_sum(
     page: &[u8],
@@ -291,12 +370,13 @@ pub extern "C" fn totals_page_sum(
     summand: u64,
     answer: &mut [u8],
 ) -> u64
-    ensures { Enters (pages.page_entry (settings_from rounding tininess nan_propagation default_nan_negative flush_to_zero denormals_are_zero saturate precision) summand page.now start end answer.old) result answer.new }
+    ensures { Enters
+        (pages.page_entry
+        (settings_from rounding tininess nan_propagation default_nan_negative flush_to_zero
+        denormals_are_zero saturate precision)
+        summand page.now start end answer.old) result answer.new }
 {
-    entry::totals_page_sum(
-        page,
-        start,
-        end,
+    let settings = settings(
         rounding,
         tininess,
         nan_propagation,
@@ -305,20 +385,20 @@ pub extern "C" fn totals_page_sum(
         denormals_are_zero,
         saturate,
         precision,
-        summand,
-        answer,
-    )
+    );
+    enter_page_sum(settings, summand, page, start, end, answer)
 }
 
-// The career page of some values.
+/// The career page of some values (the specification, "Career pages").
 #[unsafe(no_mangle)]
 pub extern "C" fn totals_page_write(values: &[u64], page: &mut [u8]) -> u64
     ensures { Enters (pages.page_written values.now page.old) result page.new }
 {
-    entry::totals_page_write(values, page)
+    enter_page_write(values, page)
 }
 
-// The sum of the values within an allowance of passes.
+/// The sum of the values (summand 0), of their magnitudes (1) or of their squares (2), within an
+/// allowance of passes (the specification, "Within an allowance").
 #[unsafe(no_mangle)]
 pub extern "C" fn totals_sum_within(
     kind: u64,
@@ -339,14 +419,20 @@ pub extern "C" fn totals_sum_within(
     values: &[u8],
     answer: &mut [u8],
 ) -> u64
-    ensures { Enters (estimate.sum_within_entry kind exponent_bits width bias_named bias (settings_from rounding tininess nan_propagation default_nan_negative flush_to_zero denormals_are_zero saturate precision) summand allowance values.now answer.old) result answer.new }
+    ensures { Enters
+        (estimate.sum_within_entry kind exponent_bits width bias_named bias
+        (settings_from rounding tininess nan_propagation default_nan_negative flush_to_zero
+        denormals_are_zero saturate precision)
+        summand allowance values.now answer.old) result answer.new }
 {
-    entry_within::totals_sum_within(
+    let format = NamedFormat {
         kind,
         exponent_bits,
         width,
         bias_named,
         bias,
+    };
+    let settings = settings(
         rounding,
         tininess,
         nan_propagation,
@@ -355,14 +441,11 @@ pub extern "C" fn totals_sum_within(
         denormals_are_zero,
         saturate,
         precision,
-        summand,
-        allowance,
-        values,
-        answer,
-    )
+    );
+    enter_sum_within(format, settings, summand, allowance, values, answer)
 }
 
-// The sum of the products of the pairs, likewise.
+/// The sum of the products of the pairs, likewise.
 #[unsafe(no_mangle)]
 pub extern "C" fn totals_dot_within(
     kind: u64,
@@ -383,14 +466,20 @@ pub extern "C" fn totals_dot_within(
     right: &[u8],
     answer: &mut [u8],
 ) -> u64
-    ensures { Enters (estimate.dot_within_entry kind exponent_bits width bias_named bias (settings_from rounding tininess nan_propagation default_nan_negative flush_to_zero denormals_are_zero saturate precision) allowance left.now right.now answer.old) result answer.new }
+    ensures { Enters
+        (estimate.dot_within_entry kind exponent_bits width bias_named bias
+        (settings_from rounding tininess nan_propagation default_nan_negative flush_to_zero
+        denormals_are_zero saturate precision)
+        allowance left.now right.now answer.old) result answer.new }
 {
-    entry_within::totals_dot_within(
+    let format = NamedFormat {
         kind,
         exponent_bits,
         width,
         bias_named,
         bias,
+    };
+    let settings = settings(
         rounding,
         tininess,
         nan_propagation,
@@ -399,14 +488,12 @@ pub extern "C" fn totals_dot_within(
         denormals_are_zero,
         saturate,
         precision,
-        allowance,
-        left,
-        right,
-        answer,
-    )
+    );
+    enter_dot_within(format, settings, allowance, left, right, answer)
 }
 
-// The least number with which, behind the values, the plain sum is the wanted total.
+/// The least number with which, behind the values, the plain sum is the wanted total (the
+/// specification, "Contributions").
 #[unsafe(no_mangle)]
 pub extern "C" fn totals_contribution(
     kind: u64,
@@ -426,14 +513,20 @@ pub extern "C" fn totals_contribution(
     values: &[u64],
     answer: &mut [u8],
 ) -> u64
-    ensures { Enters (contribution.contribution_entry kind exponent_bits width bias_named bias (settings_from rounding tininess nan_propagation default_nan_negative flush_to_zero denormals_are_zero saturate precision) wanted values.now answer.old) result answer.new }
+    ensures { Enters
+        (contribution.contribution_entry kind exponent_bits width bias_named bias
+        (settings_from rounding tininess nan_propagation default_nan_negative flush_to_zero
+        denormals_are_zero saturate precision)
+        wanted values.now answer.old) result answer.new }
 {
-    entry_contribution::totals_contribution(
+    let format = NamedFormat {
         kind,
         exponent_bits,
         width,
         bias_named,
         bias,
+    };
+    let settings = settings(
         rounding,
         tininess,
         nan_propagation,
@@ -442,8 +535,6 @@ pub extern "C" fn totals_contribution(
         denormals_are_zero,
         saturate,
         precision,
-        wanted,
-        values,
-        answer,
-    )
+    );
+    enter_contribution(format, settings, wanted, values, answer)
 }

@@ -8,10 +8,10 @@ use lib.ListN.{length, drop, get_or, length-take, length-drop}
 use lib.Seq.{take_all}
 use Rattle.std.specs.Int.{w64, from_le_bytes}
 use Rattle.std.specs.Simd.{first_chunks}
-use Rattle.totals_spec.specs.Bytes.{from_bytes, wide_from, values_in}
-use Rattle.totals_spec.specs.Extended.{tens_in}
-use Rattle.totals_spec.specs.Halves.{joined}
-use Rattle.totals_spec.proofs.Values.{one_byte, eight-bytes}
+use Rattle.totals_spec.specs.entries.Bytes.{from_bytes, wide_from, values_in}
+use Rattle.totals_spec.specs.ten_bytes.Extended.{tens_in}
+use Rattle.totals_spec.specs.ten_bytes.TwoWords.{joined}
+use Rattle.totals_spec.proofs.entries.ValuesInBytes.{one_byte, eight-bytes}
 
 chunk_at : (w n : ℕ) (bytes : List ℕ) (i : ℕ) → i < n → get_or (wide_from w n bytes) i 0 ≡ from_bytes (get_or (first_chunks w n bytes) i [])
 chunk_at w zero bytes i h = absurd (not-suc-le-zero h)

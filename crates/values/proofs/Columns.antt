@@ -7,8 +7,8 @@ use native.Mathlib.Numerals.{add-one-le}
 use native.Mathlib.Omega.{arith}
 use lib.ListN.{length, get_or, drop}
 use lib.Seq.{get_or-drop}
-use Rattle.totals_spec.specs.Table.{column_of}
-use Rattle.totals_spec.proofs.Table.{column-length, column-cell}
+use Rattle.totals_spec.specs.entries.Columns.{column_of}
+use Rattle.totals_spec.proofs.lists.Columns.{column-length, column-cell}
 
 module _ (count step first : ℕ) (cells : List ℕ) (i : ℕ) (h : i < length (column_of count step cells first)) where
   row : i < count

@@ -1,6 +1,6 @@
 -- A value of ten bytes as a number.
 use Rattle.std.specs.Prelude.{ℕ}
-use Rattle.totals_spec.specs.Halves.{joined}
+use Rattle.totals_spec.specs.ten_bytes.TwoWords.{joined}
 use Rattle.values.specs.declared.Ten.{Ten}
 
 abbrev pub ten_of : Ten → ℕ

@@ -1,16 +1,17 @@
 // The elements of a list, wherever they stand.
 ghost use Rattle.std.specs.Prelude.{◌≡◌, List, [], ◌∷◌, ◌++◌, ℕ, ◌+◌, ◌*◌, ◌^◌, ◌<◌, ◌≤◌, length, get_or};
-ghost use Rattle.totals_spec.specs.Bytes.{values_in};
-ghost use Rattle.totals_spec.specs.Table.{column_of};
+ghost use Rattle.totals_spec.specs.entries.Bytes.{values_in};
+ghost use Rattle.totals_spec.specs.entries.Columns.{column_of};
 
 use crate::word_at;
 use std::alloc::AllocError;
 
-// Elements that are read one after another. A walk has a copy of its own for each such list, with these methods inlined.
+/// Elements that are read one after another. A walk has a copy of its own for each such list, with
+/// these methods inlined.
 pub trait Elements: Copy {
     ghost list: { Self → List ℕ };
 
-    // How many they are. Each fits a word.
+    /// How many they are. Each fits a word.
     fn count(&self) -> usize
         ensures value { result ≡ length (list self.now) }
         ensures fit { (i : ℕ) → get_or (list self.now) i 0 < 2 ^ 64 };
@@ -38,7 +39,7 @@ fn bytes_in(bytes: &[u8]) -> usize
     bytes.len()
 }
 
-// Words.
+/// Words.
 #[derive(Clone, Copy)]
 pub struct Words<'a> {
     pub values: &'a [u64],
@@ -58,13 +59,13 @@ impl Elements for Words<'_> {
     }
 }
 
-// Values in bytes, eight to a value. Bytes beyond the last whole one are none.
+/// Values in bytes, eight to a value. Bytes beyond the last whole one are none.
 #[derive(Clone, Copy)]
 pub struct Bytes<'a> {
     pub values: &'a [u8],
 }
 
-#[tactic(auto, using(totals_spec::proofs::Values::values_length))]
+#[tactic(auto, using(totals_spec::proofs::entries::ValuesInBytes::values_length))]
 impl Elements for Bytes<'_> {
     ghost list = { λ s. values_in s.values.now };
 
@@ -79,7 +80,8 @@ impl Elements for Bytes<'_> {
     }
 }
 
-// Of the first rows of a table, the cells of one column: `count` of them, a row of `step` cells apart.
+/// Of the first rows of a table, the cells of one column: `count` of them, a row of `step` cells
+/// apart.
 #[derive(Clone, Copy)]
 pub struct Column<'a> {
     pub cells: &'a [u64],
@@ -104,7 +106,7 @@ impl Elements for Column<'_> {
     }
 }
 
-// A list with one element more behind it.
+/// A list with one element more behind it.
 pub struct Appended<E: Elements> {
     pub list: E,
     pub last: u64,

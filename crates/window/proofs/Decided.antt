@@ -1,4 +1,5 @@
--- The step that the definitions' chain takes, by the tests that the code makes; and the code's step follows it.
+-- The step that the definitions' chain takes, by the tests that the code makes; and the code's step
+-- follows it.
 use mathlib.Core.Path.{◌≡◌, refl, sym, ap, ap₂, ◌∙◌, subst}
 use mathlib.Core.Bool.{Bool, true, false, not, ◌&&◌, beq, cond, true≢false}
 use mathlib.Core.Logic.{◌⊎◌, inl, inr}
@@ -17,8 +18,8 @@ use Rattle.std.specs.Prelude.{Some}
 use Rattle.limbs.specs.Value.{value}
 use Rattle.limbs.proofs.Length.{size-zero}
 use Rattle.totals_spec.specs.Basics as words
-use Rattle.totals_spec.specs.Chain as chain
-use Rattle.window.specs.Joined.{signed_of, boundary_of, bound_of, outcome_by, beside_of, near_by, counted, Goes, Bounds, Follows}
+use Rattle.totals_spec.specs.chain.Chain as chain
+use Rattle.window.specs.Chain.{signed_of, boundary_of, bound_of, outcome_by, beside_of, near_by, counted, Goes, Bounds, Follows}
 use Rattle.window.specs.declared.Units.{Units}
 use Rattle.window.specs.declared.Chain.{Chain}
 use Rattle.window.specs.declared.Outcome.{Outcome}

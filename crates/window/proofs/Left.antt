@@ -1,4 +1,5 @@
--- The value that a chain's end leaves to round, outcome by outcome; and that `round` of the crate exact takes it.
+-- The value that a chain's end leaves to round, outcome by outcome; and that `round` of the crate
+-- exact takes it.
 use mathlib.Core.Path.{◌≡◌, refl, sym, ap, ◌∙◌, subst}
 use mathlib.Core.Bool.{Bool, true, false, true≢false}
 use Prim.Native.Nat.{ℕ, ◌+◌, ◌-◌, ◌*◌, ◌%◌, ◌^◌, ◌≤◌, ◌<◌, suc-le-suc}
@@ -11,18 +12,18 @@ use lib.Ieee.Digits.{size_reaches}
 use borrow.Author.Tests.{ne_eqb}
 use Rattle.limbs.specs.Value.{value}
 use Rattle.totals_spec.specs.Basics.{Signed, raised}
-use Rattle.totals_spec.specs.Format.{Format, digits}
-use Rattle.totals_spec.specs.Settings.{Settings}
-use Rattle.totals_spec.specs.Bounds.{RangeBounds, SettingsBounds}
-use Rattle.totals_spec.specs.Settled.{settled}
-use Rattle.totals_spec.specs.Round.{round}
-use Rattle.totals_spec.specs.Totals.{sum_rounded}
-use Rattle.totals_spec.proofs.Powers.{size_above}
+use Rattle.totals_spec.specs.formats.Format.{Format, digits}
+use Rattle.totals_spec.specs.formats.Settings.{Settings}
+use Rattle.totals_spec.specs.formats.Bounds.{RangeBounds, SettingsBounds}
+use Rattle.totals_spec.specs.chain.Settled.{settled}
+use Rattle.totals_spec.specs.rounding.Round.{round}
+use Rattle.totals_spec.specs.sums.Totals.{sum_rounded}
+use Rattle.totals_spec.proofs.numbers.Powers.{size_above}
 use Rattle.exact.specs.declared.Unrounded.{Unrounded}
 use Rattle.exact.specs.declared.Rounded.{Rounded}
-use Rattle.exact.specs.Joined.{significand_of, StandsAt, Stands, Narrows, raised_by, Rounds, rounded_of, RoundedOnce}
+use Rattle.exact.specs.Unrounded.{significand_of, StandsAt, Stands, Narrows, raised_by, Rounds, rounded_of, RoundedOnce}
 use Rattle.exact.proofs.Raised.{stands-raised}
-use Rattle.window.specs.Joined.{outcome_by, Deep, Bordered, EndsWith, Roundable, Quarters, LeavesAt, Leaves, Remains, LeftOf}
+use Rattle.window.specs.Chain.{outcome_by, Deep, Bordered, EndsWith, Roundable, Quarters, LeavesAt, Leaves, Remains, LeftOf}
 use Rattle.window.specs.declared.Units.{Units}
 use Rattle.window.specs.declared.Outcome.{Outcome}
 use Rattle.window.specs.declared.Outcome.TheVariants as out
@@ -69,7 +70,8 @@ module _ (s : Units) (v : Unrounded) where
   }
 
 -- a quarter of a unit off the boundary: x is four times its whole number, or one less
-module _ (b : Units) (v : Unrounded) (x : ℕ) (deep : 3 ≤ b.place) (some : 0 < value b.whole) (few : value b.whole ≤ 2 ^ 65) (a : Quarters b.negative b.place x v) where
+module _ (b : Units) (v : Unrounded) (x : ℕ) (deep : 3 ≤ b.place) (some : 0 < value b.whole)
+    (few : value b.whole ≤ 2 ^ 65) (a : Quarters b.negative b.place x v) where
   quarters : Stands v (x * 2 ^ (b.place - 2) + 2 ^ (b.place - 2 - 1))
   quarters = rw (a.sticky, a.position, a.is) (midway x (b.place - 2) (omega arith))
 
@@ -154,7 +156,8 @@ module _ (p : ℕ) (x : Signed) (v : Unrounded) (some : 0 < significand_of v) (l
   left-mag = stands-some v.sticky (significand_of v) (2 ^ v.position) _ some (pow_pos v.position) l.stands
 
   module _ (f : Format) (c : Settings) (g n : ℕ) where
-    -- counted from a unit n positions lower, and rounded, it is the sum, counted from there and rounded
+    -- counted from a unit n positions lower, and rounded, it is the sum, counted from there and
+    -- rounded
     pub left-sum : (towards : Bool) (r : Rounded) → RoundedOnce f c g (raised_by n v) r → rounded_of r ≡ sum_rounded f c g towards (raised n x)
     unfolding sum_rounded raised
     left-sum towards r o =

@@ -1,5 +1,5 @@
--- Laws over plain numbers: the window as a signed number, differences and quotients in it, how two numbers compare, and the value a quarter of a
--- unit off a boundary.
+-- Laws over plain numbers: the window as a signed number, differences and quotients in it, how two
+-- numbers compare, and the value a quarter of a unit off a boundary.
 use mathlib.Core.Path.{◌≡◌, refl, sym, ap, ◌∙◌}
 use mathlib.Core.Bool.{Bool, true, false, not, cond}
 use Prim.Native.Nat.{ℕ, suc, ◌+◌, ◌-◌, ◌*◌, ◌/◌, ◌%◌, ◌^◌, ◌≤◌, ◌<◌}
@@ -9,11 +9,11 @@ use lib.Dec.{T, ltb, eqb, ltb→lt, nltb→le, lit<, lit≤}
 use lib.Pow.{pow-add, pow_pos, pow_mono, pow-lt, shr_lt}
 use borrow.Author.Tests.{ltb-true, le-ltb}
 use Rattle.std.specs.Ordering.{is_lt, is_gt}
-use Rattle.limbs_window.specs.Compared.{order_of, compared}
+use Rattle.limbs.specs.Compared.{order_of, compared}
 use Rattle.totals_spec.specs.Basics.{Signed}
-use Rattle.totals_spec.specs.Chain.{half, signed_from}
+use Rattle.totals_spec.specs.chain.Chain.{half, signed_from}
 
--- ---- the window's numbers. Its size is kept as a variable, H or 2h: `omega` reads no number so large
+-- ---- the window's numbers, its size a variable, H or 2h: `omega` reads no number so large
 
 pub window : half + half ≡ 2 ^ 768
 unfolding half

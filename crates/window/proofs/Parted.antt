@@ -1,4 +1,5 @@
--- A term x × 2^s at an edge w: its part at or above w and its lost bit, where it lies at w or above, wholly below, and across.
+-- A term x × 2^s at an edge w: its part at or above w and its lost bit, where it lies at w or
+-- above, wholly below, and across.
 use mathlib.Core.Path.{◌≡◌, refl, sym, ap, ap₂, ◌∙◌, subst}
 use mathlib.Core.Bool.{Bool, true, false, not, cond}
 use Prim.Native.Nat.{ℕ, zero, suc, ◌+◌, ◌-◌, ◌*◌, ◌/◌, ◌%◌, ◌^◌, ◌≤◌, ◌<◌}
@@ -10,10 +11,10 @@ use lib.Pow.{pow_pos, pow_mono, shl_lt, shl-shr, shr-shr, mod-pow-add}
 use lib.Ieee.{size}
 use lib.Ieee.Digits.{size-lt, size_reaches}
 use Rattle.limbs.proofs.Length.{size_above, size-zero}
-use Rattle.limbs_window.proofs.Below.{same-zero}
+use Rattle.limbs.proofs.Below.{same-zero}
 use borrow.Author.Tests.{lt-ltb, le-ltb}
-use Rattle.totals_spec.proofs.Bits.{pow-split, multiple-mod, multiple-ge}
-use Rattle.totals_spec.specs.Chain.{lost_end}
+use Rattle.totals_spec.proofs.numbers.Bits.{pow-split, multiple-mod, multiple-ge}
+use Rattle.totals_spec.specs.chain.Chain.{lost_end}
 
 -- what is no term loses nothing
 pub lost-of-zero : (w : ℕ) → lost_end w 0 ≡ 0

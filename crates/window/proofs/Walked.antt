@@ -1,5 +1,6 @@
--- The loop of passes: the code's chain holds what `Reached` of further_spec and `Kept` of totals_spec say, from one pass to the next, and where it is done
--- it is the chain of the definitions.
+-- The loop of passes: the code's chain holds what `Reached` of further_spec and `Kept` of
+-- totals_spec say, from one pass to the next, and where it is done it is the chain of the
+-- definitions.
 use mathlib.Core.Path.{◌≡◌, refl, sym, ap, ap₂, ◌∙◌, subst}
 use mathlib.Core.Bool.{Bool, true, false, cond}
 use mathlib.Core.List.{List}
@@ -12,22 +13,22 @@ use lib.ListN.{length}
 use lib.Ieee.{size}
 use Rattle.std.specs.declared.ops.ControlFlow.TheVariants.{Continue, Break}
 use Rattle.totals_spec.specs.Basics as basics
-use Rattle.totals_spec.specs.Terms as terms
-use Rattle.totals_spec.specs.Chain as chain
-use Rattle.totals_spec.proofs.Good.{AllGood}
-use Rattle.totals_spec.proofs.Margin.{terms-max}
-use Rattle.totals_spec.proofs.Invariant.{Inv}
-use Rattle.totals_spec.proofs.Limit.{GoesOn, fair-look, pass-goes-on, lost-deep}
-use Rattle.totals_spec.proofs.Vanish.{vanishes}
-use Rattle.further_spec.proofs.Reached.{Reached, at-start, at_next, at_done, at_onward}
-use Rattle.totals_spec.proofs.Kept.{Kept, KeptStep, EndsAs, kept-start, kept-pass}
-use Rattle.further_spec.proofs.Skip.{Empty, Skipped, pass-empty, skip, empty-sum, inside}
+use Rattle.totals_spec.specs.terms.Terms as terms
+use Rattle.totals_spec.specs.chain.Chain as chain
+use Rattle.totals_spec.proofs.terms.GoodTerms.{AllGood}
+use Rattle.totals_spec.proofs.chain.Margin.{terms-max}
+use Rattle.totals_spec.proofs.chain.Invariant.{Inv}
+use Rattle.totals_spec.proofs.chain.PassLimit.{GoesOn, fair-look, pass-goes-on, lost-deep}
+use Rattle.totals_spec.proofs.chain.VanishingBoundary.{vanishes}
+use Rattle.totals_spec.proofs.chain.Reached.{Reached, at-start, at_next, at_done, at_onward}
+use Rattle.totals_spec.proofs.chain.Sizes.{Kept, KeptStep, EndsAs, kept-start, kept-pass}
+use Rattle.totals_spec.proofs.chain.EmptyPasses.{Empty, Skipped, pass-empty, skip, empty-sum, inside}
 use Rattle.window.specs.declared.Pass.{Pass}
 use Rattle.window.specs.declared.Chain.{Chain}
 use Rattle.window.specs.declared.Outcome.{Outcome}
 use Rattle.window.specs.declared.Outcome.TheVariants as out
 use Rattle.window.specs.declared.ExactSum.{ExactSum}
-use Rattle.window.specs.Joined.{Passed, bound_of, outcome_by, run_of, Ready, Follows, total_of, width_of, Steps, Deep, EndsWith, Ended, started, StoppedAt}
+use Rattle.window.specs.Chain.{Passed, bound_of, outcome_by, run_of, Ready, Follows, total_of, width_of, Steps, Deep, EndsWith, Ended, started, StoppedAt}
 use Rattle.window.proofs.Decided.{no_bits}
 
 -- S without the boundary is S
@@ -171,7 +172,8 @@ module _ (p : ℕ) (ts : List terms.Term) (hp : p ≤ 64) (good : AllGood ts) (l
       },
     )
 
-    -- a step that goes on past the allowance: pass number a is the pass at hand, or an empty one that was counted with it, 766 lower each
+    -- a step that goes on past the allowance: pass number a is the pass at hand, or an empty one
+    -- that was counted with it, 766 lower each
     module _ (r : Chain) (s : Steps p c q (Continue r)) (a : ℕ) (l : c.passes < a) (m : a ≤ r.passes) where
       abbrev down : ℕ
       down = 766 * (a - c.passes - 1)

@@ -6,17 +6,17 @@ use Rattle.binary.proofs.assemble.Goals as goal
 
 pub scaled-requires : goal.scaled-requires
 scaled-requires c =
-    let r = room _ _ _ (layout_bounds c.args.f) c.requires.0 c.requires.1 in
+    let r = room _ _ _ (layout_bounds c.args.layout) c.requires.0 c.requires.1 in
     (omega arith, rw c.fraction_bits.ensures (omega (arith, r)))
 
 pub overflow_add-result : goal.overflow_add-result
 overflow_add-result c =
-    let r = room _ _ _ (layout_bounds c.args.f) c.requires.0 c.requires.1 in
-    let s = sign_le (c.args.f.shape.width - 1) (omega (arith, c.args.f.narrow)) in
+    let r = room _ _ _ (layout_bounds c.args.layout) c.requires.0 c.requires.1 in
+    let s = sign_le (c.args.layout.shape.width - 1) (omega (arith, c.args.layout.narrow)) in
     record { fits = omega (arith, r, s, rw c.fraction_bits.ensures at c.scaled.ensures) }
 
 pub overflow_add-result-2 : goal.overflow_add-result-2
 overflow_add-result-2 c =
-    let r = room _ _ _ (layout_bounds c.args.f) c.requires.0 c.requires.1 in
-    let s = sign_le (c.args.f.shape.width - 1) (omega (arith, c.args.f.narrow)) in
+    let r = room _ _ _ (layout_bounds c.args.layout) c.requires.0 c.requires.1 in
+    let s = sign_le (c.args.layout.shape.width - 1) (omega (arith, c.args.layout.narrow)) in
     record { fits = omega (arith, r, s, rw c.fraction_bits.ensures at c.scaled.ensures) }

@@ -22,38 +22,38 @@ highest n t h e =
 most : (w : List ℕ) (n : ℕ) → value w < 2 ^ 768 → n ≡ bit_length (value w) → n ≤ 768
 most w n h e = omega (arith, e, size-le (value w) 768 h)
 
-pub returns-then-n-le128 : goal.returns-then-n-le128
-returns-then-n-le128 c =
-    let w = c.args.w in
-    all-narrowed w (words 12 w _ c.well_formed.1.1.1.0).fit _ _ _ (omega (arith, c.if-n-le128.true, c.bit_length-n.ensures))
+pub returns-then-length-le-TWO_WORDS : goal.returns-then-length-le-TWO_WORDS
+returns-then-length-le-TWO_WORDS c =
+    let w = c.args.window in
+    all-narrowed w (words 12 w _ c.well_formed.1.1.1.0).fit _ _ _ (omega (arith, c.if-length-le-TWO_WORDS.true, c.bit_length-length.ensures))
     c.joined.ensures
 
 pub overflow_add-result : goal.overflow_add-result
 overflow_add-result c =
-    let n = c.bit_length-n.result in
-    let l = most c.args.w n (value-lt (words 12 c.args.w _ c.well_formed.1.1.1.0)) c.bit_length-n.ensures in
+    let n = c.bit_length-length.result in
+    let l = most c.args.window n (value-lt (words 12 c.args.window _ c.well_formed.1.1.1.0)) c.bit_length-length.ensures in
     record { fits = omega (arith, l, (highest n c.split-top.result.word (omega arith) c.split-top.ensures.word).low, c.requires) }
 
-pub bounds-w-under : goal.bounds-w-under
-bounds-w-under c =
-    let n = c.bit_length-n.result in
-    let l = most c.args.w n (value-lt (words 12 c.args.w _ c.well_formed.1.1.1.0)) c.bit_length-n.ensures in
+pub bounds-window-under : goal.bounds-window-under
+bounds-window-under c =
+    let n = c.bit_length-length.result in
+    let l = most c.args.window n (value-lt (words 12 c.args.window _ c.well_formed.1.1.1.0)) c.bit_length-length.ensures in
     omega (arith, l, (highest n c.split-top.result.word (omega arith) c.split-top.ensures.word).low)
 
-pub bounds-w-top : goal.bounds-w-top
-bounds-w-top c =
-    let n = c.bit_length-n.result in
-    let l = most c.args.w n (value-lt (words 12 c.args.w _ c.well_formed.1.1.1.0)) c.bit_length-n.ensures in
+pub bounds-window-top : goal.bounds-window-top
+bounds-window-top c =
+    let n = c.bit_length-length.result in
+    let l = most c.args.window n (value-lt (words 12 c.args.window _ c.well_formed.1.1.1.0)) c.bit_length-length.ensures in
     omega (arith, l, (highest n c.split-top.result.word (omega arith) c.split-top.ensures.word).low)
 
 pub returns : goal.returns
 returns c =
-    let w = c.args.w in
+    let w = c.args.window in
     let its-words = words 12 w _ c.well_formed.1.1.1.0 in
-    let n = c.bit_length-n.result in
+    let n = c.bit_length-length.result in
     let h = highest n c.split-top.result.word (omega arith) c.split-top.ensures.word in
-    top-narrowed w its-words.fit _ _ _ c.split-top.result.word c.bit_length-n.ensures c.if-n-le128.false h.low h.high
-    (most w n (value-lt its-words) c.bit_length-n.ensures)
+    top-narrowed w its-words.fit _ _ _ c.split-top.result.word c.bit_length-length.ensures c.if-length-le-TWO_WORDS.false h.low h.high
+    (most w n (value-lt its-words) c.bit_length-length.ensures)
     (elim c.if-sticky.branch [
       | then-sticky k ↦ rw (k.result-is, k.if-sticky.true)
       | else-sticky k ↦ rw (k.result-is, k.if-sticky.false) k.any_below.ensures

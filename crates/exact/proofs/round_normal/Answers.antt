@@ -11,13 +11,13 @@ returns-then-overflows c =
     record { equal = λ x st. r.0 ∙ over x st; encodes = r.1; flags = r.2 }
 
 pub scaled-requires : goal.scaled-requires
-scaled-requires c = let b = c.requires.0 in rw c.digits-p.ensures (stays-word b.ends b.keeps b.first c.requires.1)
+scaled-requires c = let b = c.requires.0 in rw c.digits-digits.ensures (stays-word b.ends b.keeps b.first c.requires.1)
 
 pub returns : goal.returns
 returns c =
     let b = c.requires.0 in
     let o = sym c.overflows.ensures ∙ c.if-overflows.false in
-    let p = c.digits-p.ensures in
+    let p = c.digits-digits.ensures in
     record {
       equal = λ x st. rw (c.flag.ensures.0, c.flag-2.ensures.0, c.scaled.ensures, p) (stays b.ends b.keeps b.first c.requires.1 o x st);
       encodes = rw (c.scaled.ensures, p) (stays-encodes b.ends b.keeps b.first c.requires.1 o);

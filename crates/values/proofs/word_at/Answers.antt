@@ -3,4 +3,4 @@ use Rattle.values.proofs.Chunks.{value-chunk}
 use Rattle.values.proofs.word_at.Goals as goal
 
 pub returns : goal.returns
-returns c = cc (value-chunk c.args.values.now c.args.i c.requires)
+returns c = cc (value-chunk c.args.values.now c.args.index c.requires)

@@ -2,7 +2,7 @@ use Rattle.std.proofs.Common.{◌≡◌, ℕ, ◌-◌, ◌%◌, ◌^◌, Bool, l
 use Rattle.std.specs.Ordering.{is_lt, is_gt}
 use Rattle.std.specs.declared.cmp.Ordering.{Ordering}
 use Rattle.limbs.specs.Value.{value}
-use Rattle.limbs_window.specs.Compared.{compared}
+use Rattle.limbs.specs.Compared.{compared}
 use Rattle.window.proofs.Numbers.{ceiling-is, compared-less, compared-greater}
 use Rattle.window.proofs.how_near.Goals as goal
 

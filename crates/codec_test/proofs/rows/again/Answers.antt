@@ -4,4 +4,4 @@ use Rattle.binary.proofs.Encodable.{decode-encodes}
 use Rattle.codec_test.proofs.rows.again.Goals as goal
 
 pub encode-requires : goal.encode-requires
-encode-requires c = rw c.decode.ensures (decode-encodes _ (layout_bounds c.args.f) c.args.b)
+encode-requires c = rw c.decode.ensures (decode-encodes _ (layout_bounds c.args.layout) c.args.bits)

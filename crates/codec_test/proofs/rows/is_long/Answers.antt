@@ -4,5 +4,5 @@ use Rattle.std.proofs.lemmas.Grind.{common_steps}
 use lib.Ieee.Digits.{size_reaches}
 use Rattle.codec_test.proofs.rows.is_long.Goals as goal
 
-pub returns-else-not-v : goal.returns-else-not-v
-returns-else-not-v c = λ e t. size_reaches _ _ (grind (arith, common_steps))
+pub returns-else-not-value : goal.returns-else-not-value
+returns-else-not-value c = λ e t. size_reaches _ _ (grind (arith, common_steps))

@@ -1,7 +1,7 @@
 -- A cut at or below a value's position, and above it.
 use Rattle.std.proofs.Common.{◌≡◌, ℕ, ◌+◌, ◌-◌, ◌*◌, ◌%◌, ◌^◌, not, ◌||◌, eqb, sym, ap, ◌∙◌, arith}
 use Rattle.exact.specs.declared.Unrounded.{Unrounded}
-use Rattle.exact.specs.Joined.{significand_of}
+use Rattle.exact.specs.Unrounded.{significand_of}
 use Rattle.exact.proofs.Standing.{CutUp, cut_up, cut_down, half_digits, stands-kept, stands-dropped}
 use Rattle.exact.proofs.Unrounded.cut.Goals as goal
 

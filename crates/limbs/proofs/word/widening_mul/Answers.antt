@@ -4,8 +4,8 @@ use Rattle.limbs.proofs.word.widening_mul.Goals as goal
 
 pub returns : goal.returns
 returns c = c.joined.ensures ∙ (
-    let a = c.args.a in
-    let b = c.args.b in
+    let a = c.args.left in
+    let b = c.args.right in
     let p = a % 4294967296 * (b % 4294967296) in
     let q = a / 4294967296 * (b % 4294967296) + p / 4294967296 in
     let s = q % 4294967296 + a % 4294967296 * (b / 4294967296) in

@@ -1,4 +1,5 @@
-use Rattle.format.specs.Joined.{format_of, settings_of}
+use Rattle.format.specs.Formats.{format_of}
+use Rattle.format.specs.Settings.{settings_of}
 use Rattle.promised_calls.proofs.Lent.{contribution-alike, contribution-keeps}
 use Rattle.promised_calls.proofs.contributions.contributions_entered.Goals as goal
 

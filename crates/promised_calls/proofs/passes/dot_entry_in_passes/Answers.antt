@@ -1,4 +1,5 @@
-use Rattle.format.specs.Joined.{format_of, settings_of}
+use Rattle.format.specs.Formats.{format_of}
+use Rattle.format.specs.Settings.{settings_of}
 use Rattle.promised_calls.proofs.Written.{dot-limit-written, dot-limit-tens, dot-most-tens}
 use Rattle.promised_calls.proofs.passes.dot_entry_in_passes.Goals as goal
 

@@ -1,4 +1,5 @@
-use Rattle.format.specs.Joined.{format_of, settings_of}
+use Rattle.format.specs.Formats.{format_of}
+use Rattle.format.specs.Settings.{settings_of}
 use Rattle.promised_calls.proofs.Written.{sum-limit-written, sum-limit-tens, sum-most-tens, square-most-tens}
 use Rattle.promised_calls.proofs.passes.sum_entry_in_passes.Goals as goal
 

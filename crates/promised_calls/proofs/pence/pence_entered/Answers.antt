@@ -1,4 +1,4 @@
-use Rattle.format.specs.Joined.{format_of}
+use Rattle.format.specs.Formats.{format_of}
 use Rattle.promised_calls.proofs.Lent.{pence-alike, pence-kept}
 use Rattle.promised_calls.proofs.pence.pence_entered.Goals as goal
 

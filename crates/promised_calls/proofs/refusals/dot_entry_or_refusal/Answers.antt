@@ -1,4 +1,5 @@
-use Rattle.format.specs.Joined.{format_of, settings_of}
+use Rattle.format.specs.Formats.{format_of}
+use Rattle.format.specs.Settings.{settings_of}
 use Rattle.promised_calls.proofs.Entered.{dot-exactly, dot-exactly-tens, dot-placed, dot-writes-nothing}
 use Rattle.promised_calls.proofs.refusals.dot_entry_or_refusal.Goals as goal
 

@@ -1,12 +1,14 @@
-use Rattle.format.specs.Joined.{format_of, settings_of}
+use Rattle.format.specs.Formats.{format_of}
+use Rattle.format.specs.Settings.{settings_of}
 use Rattle.promised_calls.proofs.Calls.{sum-exactly, sum-nothing-else, sum-placed}
+use Rattle.totals.specs.Asked.{answer_in}
 use Rattle.promised_calls.proofs.refusals.sum_or_refusal.Goals as goal
 
 pub returns-clause-exactly : goal.returns-clause-exactly
-returns-clause-exactly c = sum-exactly (format_of c.args.f) (settings_of c.args.c) c.args.u c.args.values.now c.sum.result c.sum.ensures
+returns-clause-exactly c = sum-exactly (format_of c.args.f) (settings_of c.args.c) c.args.u c.args.values.now (answer_in c.sum.result) c.sum.ensures
 
 pub returns-clause-nothing_else : goal.returns-clause-nothing_else
-returns-clause-nothing_else c = sum-nothing-else (format_of c.args.f) (settings_of c.args.c) c.args.u c.args.values.now c.sum.result c.sum.ensures
+returns-clause-nothing_else c = sum-nothing-else (format_of c.args.f) (settings_of c.args.c) c.args.u c.args.values.now (answer_in c.sum.result) c.sum.ensures
 
 pub returns-clause-place : goal.returns-clause-place
-returns-clause-place c = sum-placed (format_of c.args.f) (settings_of c.args.c) c.args.u c.args.values.now c.sum.result c.sum.ensures
+returns-clause-place c = sum-placed (format_of c.args.f) (settings_of c.args.c) c.args.u c.args.values.now (answer_in c.sum.result) c.sum.ensures

@@ -1,4 +1,5 @@
-use Rattle.format.specs.Joined.{format_of, settings_of}
+use Rattle.format.specs.Formats.{format_of}
+use Rattle.format.specs.Settings.{settings_of}
 use Rattle.promised_calls.proofs.Written.{dot-holds, dot-holds-tens}
 use Rattle.promised_calls.proofs.rounded.dot_entry_rounded_once.Goals as goal
 

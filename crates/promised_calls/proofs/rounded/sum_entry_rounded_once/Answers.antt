@@ -1,4 +1,5 @@
-use Rattle.format.specs.Joined.{format_of, settings_of}
+use Rattle.format.specs.Formats.{format_of}
+use Rattle.format.specs.Settings.{settings_of}
 use Rattle.promised_calls.proofs.Written.{sum-holds, sum-holds-tens}
 use Rattle.promised_calls.proofs.rounded.sum_entry_rounded_once.Goals as goal
 

@@ -1,16 +1,17 @@
-use Rattle.format.specs.Joined.{format_of, settings_of}
-use Rattle.totals.specs.Estimates.{estimate_of}
+use Rattle.format.specs.Formats.{format_of}
+use Rattle.format.specs.Settings.{settings_of}
+use Rattle.targets.specs.Estimates.{estimate_in}
 use Rattle.promised_calls.proofs.Allowed.{dot-exactly, dot-nothing-else, dot-placed}
 use Rattle.promised_calls.proofs.within.dot_within_or_refusal.Goals as goal
 
 pub returns-clause-exactly : goal.returns-clause-exactly
 returns-clause-exactly c =
-    dot-exactly (format_of c.args.f) (settings_of c.args.c) c.args.left.now c.args.right.now c.args.allowance (estimate_of c.dot_within.result) c.dot_within.ensures.answer
+    dot-exactly (format_of c.args.f) (settings_of c.args.c) c.args.left.now c.args.right.now c.args.allowance (estimate_in c.dot_within.result) c.dot_within.ensures.answer
 
 pub returns-clause-nothing_else : goal.returns-clause-nothing_else
 returns-clause-nothing_else c =
-    dot-nothing-else (format_of c.args.f) (settings_of c.args.c) c.args.left.now c.args.right.now c.args.allowance (estimate_of c.dot_within.result) c.dot_within.ensures.answer
+    dot-nothing-else (format_of c.args.f) (settings_of c.args.c) c.args.left.now c.args.right.now c.args.allowance (estimate_in c.dot_within.result) c.dot_within.ensures.answer
 
 pub returns-clause-place : goal.returns-clause-place
 returns-clause-place c =
-    dot-placed (format_of c.args.f) (settings_of c.args.c) c.args.left.now c.args.right.now c.args.allowance (estimate_of c.dot_within.result) c.dot_within.ensures.answer
+    dot-placed (format_of c.args.f) (settings_of c.args.c) c.args.left.now c.args.right.now c.args.allowance (estimate_in c.dot_within.result) c.dot_within.ensures.answer

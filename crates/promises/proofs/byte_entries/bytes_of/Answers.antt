@@ -1,4 +1,4 @@
-use Rattle.promises.proofs.InBytes.{bytes-of}
+use Rattle.promises.proofs.records.ByteEntries.{bytes-of}
 use Rattle.promises.proofs.byte_entries.bytes_of.Goals as goal
 
 pub returns : goal.returns

@@ -1,4 +1,4 @@
-use Rattle.promises.proofs.InBytes.{dot-call-does}
+use Rattle.promises.proofs.records.ByteEntries.{dot-call-does}
 use Rattle.promises.proofs.byte_entries.dot_call_does.Goals as goal
 
 pub returns : goal.returns

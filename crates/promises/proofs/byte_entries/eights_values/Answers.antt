@@ -1,4 +1,4 @@
-use Rattle.promises.proofs.InBytes.{eights-values}
+use Rattle.promises.proofs.records.ByteEntries.{eights-values}
 use Rattle.promises.proofs.byte_entries.eights_values.Goals as goal
 
 pub returns : goal.returns

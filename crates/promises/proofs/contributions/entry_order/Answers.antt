@@ -1,4 +1,4 @@
-use Rattle.further_spec.proofs.Promises.{contribution-entry-order}
+use Rattle.targets_spec.proofs.contribution.Records.{contribution-entry-order}
 use Rattle.promises.proofs.contributions.entry_order.Goals as goal
 
 pub returns : goal.returns

@@ -1,4 +1,4 @@
-use Rattle.further_spec.proofs.Promises.{contribution-entry-refused}
+use Rattle.targets_spec.proofs.contribution.Records.{contribution-entry-refused}
 use Rattle.promises.proofs.contributions.entry_refused.Goals as goal
 
 pub returns : goal.returns

@@ -1,4 +1,4 @@
-use Rattle.further_spec.proofs.Promises.{contribution-least}
+use Rattle.targets_spec.proofs.contribution.LeastNumber.{contribution-least}
 use Rattle.promises.proofs.contributions.least.Goals as goal
 
 pub returns : goal.returns

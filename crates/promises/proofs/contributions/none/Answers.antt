@@ -1,4 +1,4 @@
-use Rattle.further_spec.proofs.Promises.{contribution-none}
+use Rattle.targets_spec.proofs.contribution.Records.{contribution-none}
 use Rattle.promises.proofs.contributions.none.Goals as goal
 
 pub returns : goal.returns

@@ -1,4 +1,4 @@
-use Rattle.further_spec.proofs.Promises.{contribution-order}
+use Rattle.targets_spec.proofs.contribution.Records.{contribution-order}
 use Rattle.promises.proofs.contributions.order.Goals as goal
 
 pub returns : goal.returns

@@ -1,4 +1,4 @@
-use Rattle.further_spec.proofs.Promises.{contribution-place}
+use Rattle.targets_spec.proofs.contribution.Records.{contribution-place}
 use Rattle.promises.proofs.contributions.place.Goals as goal
 
 pub returns : goal.returns

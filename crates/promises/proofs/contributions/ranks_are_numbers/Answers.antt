@@ -1,4 +1,4 @@
-use Rattle.further_spec.proofs.Promises.{rank-number}
+use Rattle.targets_spec.proofs.contribution.NumbersOfRanks.{rank-number}
 use Rattle.promises.proofs.contributions.ranks_are_numbers.Goals as goal
 
 pub returns : goal.returns

@@ -1,4 +1,4 @@
-use Rattle.further_spec.proofs.Promises.{rank-order}
+use Rattle.targets_spec.proofs.contribution.NumbersOfRanks.{rank-order}
 use Rattle.promises.proofs.contributions.ranks_are_ordered.Goals as goal
 
 pub returns : goal.returns

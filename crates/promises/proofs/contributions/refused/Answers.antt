@@ -1,4 +1,4 @@
-use Rattle.further_spec.proofs.Promises.{contribution-refused}
+use Rattle.targets_spec.proofs.contribution.Records.{contribution-refused}
 use Rattle.promises.proofs.contributions.refused.Goals as goal
 
 pub returns : goal.returns

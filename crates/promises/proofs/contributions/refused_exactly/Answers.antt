@@ -1,4 +1,4 @@
-use Rattle.further_spec.proofs.Promises.{contribution-refusal}
+use Rattle.targets_spec.proofs.contribution.Records.{contribution-refusal}
 use Rattle.promises.proofs.contributions.refused_exactly.Goals as goal
 
 pub returns : goal.returns

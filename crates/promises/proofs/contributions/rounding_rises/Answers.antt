@@ -1,4 +1,4 @@
-use Rattle.further_spec.proofs.Promises.{rounding-rises}
+use Rattle.targets_spec.proofs.contribution.RoundingRises.{rounding-rises}
 use Rattle.promises.proofs.contributions.rounding_rises.Goals as goal
 
 pub returns : goal.returns

@@ -1,4 +1,4 @@
-use Rattle.further_spec.proofs.Promises.{contribution-rises}
+use Rattle.targets_spec.proofs.contribution.LeastNumber.{contribution-rises}
 use Rattle.promises.proofs.contributions.sum_rises.Goals as goal
 
 pub returns : goal.returns

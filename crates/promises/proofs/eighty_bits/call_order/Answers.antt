@@ -1,4 +1,4 @@
-use Rattle.totals_spec.proofs.Promises.{extended-call-order}
+use Rattle.totals_spec.proofs.ten_bytes.Calls.{extended-call-order}
 use Rattle.promises.proofs.eighty_bits.call_order.Goals as goal
 
 pub returns : goal.returns

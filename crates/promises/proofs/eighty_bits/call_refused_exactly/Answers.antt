@@ -1,4 +1,4 @@
-use Rattle.totals_spec.proofs.Promises.{extended-call-refused-exactly}
+use Rattle.totals_spec.proofs.ten_bytes.Calls.{extended-call-refused-exactly}
 use Rattle.promises.proofs.eighty_bits.call_refused_exactly.Goals as goal
 
 pub returns : goal.returns

@@ -1,4 +1,4 @@
-use Rattle.totals_spec.proofs.Promises.{extended-edges}
+use Rattle.totals_spec.proofs.ten_bytes.Totals.{extended-edges}
 use Rattle.promises.proofs.eighty_bits.edges.Goals as goal
 
 pub returns : goal.returns

@@ -1,4 +1,4 @@
-use Rattle.totals_spec.proofs.Promises.{extended-most}
+use Rattle.totals_spec.proofs.ten_bytes.Totals.{extended-most}
 use Rattle.promises.proofs.eighty_bits.most_passes.Goals as goal
 
 pub returns : goal.returns

@@ -1,4 +1,4 @@
-use Rattle.totals_spec.proofs.Promises.{extended-order}
+use Rattle.totals_spec.proofs.ten_bytes.Totals.{extended-order}
 use Rattle.promises.proofs.eighty_bits.order.Goals as goal
 
 pub returns : goal.returns

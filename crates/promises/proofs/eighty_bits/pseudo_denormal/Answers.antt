@@ -1,4 +1,4 @@
-use Rattle.totals_spec.proofs.Promises.{pseudo-denormal}
+use Rattle.totals_spec.proofs.ten_bytes.WrittenOut.{pseudo-denormal}
 use Rattle.promises.proofs.eighty_bits.pseudo_denormal.Goals as goal
 
 pub returns : goal.returns

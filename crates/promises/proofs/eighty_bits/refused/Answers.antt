@@ -1,4 +1,4 @@
-use Rattle.totals_spec.proofs.Promises.{extended-refused}
+use Rattle.totals_spec.proofs.ten_bytes.Totals.{extended-refused}
 use Rattle.promises.proofs.eighty_bits.refused.Goals as goal
 
 pub returns : goal.returns

@@ -1,4 +1,4 @@
-use Rattle.promises.proofs.Encodings.{encodings-are-numbers}
+use Rattle.promises.proofs.roundings.EncodedNumbers.{encodings-are-numbers}
 use Rattle.promises.proofs.encodings_of_numbers.encodings_are_numbers.Goals as goal
 
 pub returns : goal.returns

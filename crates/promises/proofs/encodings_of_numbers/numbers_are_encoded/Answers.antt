@@ -1,4 +1,4 @@
-use Rattle.promises.proofs.Encodings.{numbers-are-encoded}
+use Rattle.promises.proofs.roundings.EncodedNumbers.{numbers-are-encoded}
 use Rattle.promises.proofs.encodings_of_numbers.numbers_are_encoded.Goals as goal
 
 pub returns : goal.returns

@@ -1,4 +1,4 @@
-use Rattle.totals_spec.proofs.Promises.{call-refused}
+use Rattle.totals_spec.proofs.ten_bytes.Calls.{call-refused}
 use Rattle.promises.proofs.entries.call_refused.Goals as goal
 
 pub returns : goal.returns

@@ -1,4 +1,4 @@
-use Rattle.totals_spec.proofs.Promises.{entry-refused-exactly}
+use Rattle.totals_spec.proofs.entries.RefusedExactly.{entry-refused-exactly}
 use Rattle.promises.proofs.entries.entry_refused_exactly.Goals as goal
 
 pub returns : goal.returns

@@ -1,4 +1,4 @@
-use Rattle.totals_spec.proofs.Promises.{other-kinds}
+use Rattle.totals_spec.proofs.ten_bytes.Calls.{other-kinds}
 use Rattle.promises.proofs.entries.other_kinds.Goals as goal
 
 pub returns : goal.returns

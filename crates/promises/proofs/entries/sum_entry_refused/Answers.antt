@@ -1,4 +1,4 @@
-use Rattle.totals_spec.proofs.Promises.{sum-entry-refused}
+use Rattle.totals_spec.proofs.refusals.RefusedRecords.{sum-entry-refused}
 use Rattle.promises.proofs.entries.sum_entry_refused.Goals as goal
 
 pub returns : goal.returns

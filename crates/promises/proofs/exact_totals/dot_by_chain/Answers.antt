@@ -1,4 +1,4 @@
-use Rattle.totals_spec.proofs.Promises.{dot-by-chain}
+use Rattle.totals_spec.proofs.chain.ByChain.{dot-by-chain}
 use Rattle.promises.proofs.exact_totals.dot_by_chain.Goals as goal
 
 pub returns : goal.returns

@@ -1,4 +1,4 @@
-use Rattle.totals_spec.proofs.Promises.{dot-zeros}
+use Rattle.totals_spec.proofs.sums.ZeroTotals.{dot-zeros}
 use Rattle.promises.proofs.exact_totals.dot_zeros.Goals as goal
 
 pub returns : goal.returns

@@ -1,4 +1,4 @@
-use Rattle.totals_spec.proofs.Promises.{rounded-back}
+use Rattle.totals_spec.proofs.rounding.RoundedBack.{rounded-back}
 use Rattle.promises.proofs.exact_totals.rounded_back.Goals as goal
 
 pub returns : goal.returns

@@ -1,4 +1,4 @@
-use Rattle.totals_spec.proofs.Promises.{sum-no-side}
+use Rattle.totals_spec.proofs.sums.Sides.{sum-no-side}
 use Rattle.promises.proofs.exact_totals.sum_no_side.Goals as goal
 
 pub returns : goal.returns

@@ -1,4 +1,4 @@
-use Rattle.totals_spec.proofs.Promises.{sum-side}
+use Rattle.totals_spec.proofs.sums.Sides.{sum-side}
 use Rattle.promises.proofs.exact_totals.sum_side.Goals as goal
 
 pub returns : goal.returns

@@ -1,4 +1,4 @@
-use Rattle.totals_spec.proofs.Promises.{sum-zeros}
+use Rattle.totals_spec.proofs.sums.ZeroTotals.{sum-zeros}
 use Rattle.promises.proofs.exact_totals.sum_zeros.Goals as goal
 
 pub returns : goal.returns

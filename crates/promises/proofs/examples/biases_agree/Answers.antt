@@ -1,4 +1,4 @@
-use Rattle.totals_spec.proofs.Promises.{biases-agree}
+use Rattle.totals_spec.proofs.examples.Examples.{biases-agree}
 use Rattle.promises.proofs.examples.biases_agree.Goals as goal
 
 pub returns : goal.returns

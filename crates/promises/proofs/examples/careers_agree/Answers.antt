@@ -1,4 +1,4 @@
-use Rattle.totals_spec.proofs.Promises.{careers-agree}
+use Rattle.totals_spec.proofs.examples.Examples.{careers-agree}
 use Rattle.promises.proofs.examples.careers_agree.Goals as goal
 
 pub returns : goal.returns

@@ -1,4 +1,4 @@
-use Rattle.further_spec.proofs.Promises.{contributions-agree}
+use Rattle.targets_spec.proofs.contribution.Examples.{contributions-agree}
 use Rattle.promises.proofs.examples.contributions_agree.Goals as goal
 
 pub returns : goal.returns

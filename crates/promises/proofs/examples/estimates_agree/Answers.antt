@@ -1,4 +1,4 @@
-use Rattle.further_spec.proofs.Promises.{estimates-agree}
+use Rattle.targets_spec.proofs.within.Examples.{estimates-agree}
 use Rattle.promises.proofs.examples.estimates_agree.Goals as goal
 
 pub returns : goal.returns

@@ -1,4 +1,4 @@
-use Rattle.totals_spec.proofs.Promises.{extended-agree}
+use Rattle.totals_spec.proofs.ten_bytes.Examples.{extended-agree}
 use Rattle.promises.proofs.examples.extended_agree.Goals as goal
 
 pub returns : goal.returns

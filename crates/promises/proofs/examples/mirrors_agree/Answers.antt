@@ -1,4 +1,4 @@
-use Rattle.totals_spec.proofs.Promises.{mirrors-agree}
+use Rattle.mirror_spec.proofs.Examples.{mirrors-agree}
 use Rattle.promises.proofs.examples.mirrors_agree.Goals as goal
 
 pub returns : goal.returns

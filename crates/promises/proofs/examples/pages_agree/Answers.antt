@@ -1,4 +1,4 @@
-use Rattle.totals_spec.proofs.Promises.{pages-agree}
+use Rattle.pages_spec.proofs.Examples.{pages-agree}
 use Rattle.promises.proofs.examples.pages_agree.Goals as goal
 
 pub returns : goal.returns

@@ -1,4 +1,4 @@
-use Rattle.totals_spec.proofs.Promises.{ranges-agree}
+use Rattle.figures_spec.proofs.ranges.Examples.{ranges-agree}
 use Rattle.promises.proofs.examples.ranges_agree.Goals as goal
 
 pub returns : goal.returns

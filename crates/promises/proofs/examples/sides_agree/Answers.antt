@@ -1,4 +1,4 @@
-use Rattle.totals_spec.proofs.Promises.{sides-agree}
+use Rattle.totals_spec.proofs.examples.Examples.{sides-agree}
 use Rattle.promises.proofs.examples.sides_agree.Goals as goal
 
 pub returns : goal.returns

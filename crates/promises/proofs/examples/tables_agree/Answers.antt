@@ -1,4 +1,4 @@
-use Rattle.totals_spec.proofs.Promises.{tables-agree}
+use Rattle.figures_spec.proofs.tables.Examples.{tables-agree}
 use Rattle.promises.proofs.examples.tables_agree.Goals as goal
 
 pub returns : goal.returns

@@ -1,4 +1,4 @@
-use Rattle.further_spec.proofs.Promises.{targets-agree}
+use Rattle.targets_spec.proofs.several.Examples.{targets-agree}
 use Rattle.promises.proofs.examples.targets_agree.Goals as goal
 
 pub returns : goal.returns

@@ -1,4 +1,4 @@
-use Rattle.promises.proofs.Pennies.{pence-one}
+use Rattle.promises.proofs.roundings.NearestPence.{pence-one}
 use Rattle.promises.proofs.figures.pence_one.Goals as goal
 
 pub returns : goal.returns

@@ -1,4 +1,4 @@
-use Rattle.promises.proofs.Pennies.{pence-round}
+use Rattle.promises.proofs.roundings.NearestPence.{pence-round}
 use Rattle.promises.proofs.figures.pence_round.Goals as goal
 
 pub returns : goal.returns

@@ -1,4 +1,4 @@
-use Rattle.promises.proofs.HeldText.{decimal-reads}
+use Rattle.promises.proofs.records.DigitsRead.{decimal-reads}
 use Rattle.promises.proofs.held_text.decimal_reads.Goals as goal
 
 pub returns : goal.returns

@@ -1,4 +1,4 @@
-use Rattle.promises.proofs.HeldText.{figure-reads}
+use Rattle.promises.proofs.records.DigitsRead.{figure-reads}
 use Rattle.promises.proofs.held_text.figure_reads.Goals as goal
 
 pub returns : goal.returns

@@ -1,4 +1,4 @@
-use Rattle.promises.proofs.HeldText.{four-lines}
+use Rattle.promises.proofs.records.DigitsRead.{four-lines}
 use Rattle.promises.proofs.held_text.four_lines.Goals as goal
 
 pub returns : goal.returns

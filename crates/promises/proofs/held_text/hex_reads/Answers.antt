@@ -1,4 +1,4 @@
-use Rattle.promises.proofs.HeldText.{hex-reads}
+use Rattle.promises.proofs.records.DigitsRead.{hex-reads}
 use Rattle.promises.proofs.held_text.hex_reads.Goals as goal
 
 pub returns : goal.returns

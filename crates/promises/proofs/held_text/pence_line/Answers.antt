@@ -1,4 +1,4 @@
-use Rattle.promises.proofs.HeldText.{pence-line}
+use Rattle.promises.proofs.records.DigitsRead.{pence-line}
 use Rattle.promises.proofs.held_text.pence_line.Goals as goal
 
 pub returns : goal.returns

@@ -1,4 +1,4 @@
-use Rattle.promises.proofs.Decodes.{decodes-alike}
+use Rattle.promises.proofs.roundings.IeeeDecoding.{decodes-alike}
 use Rattle.promises.proofs.ieee_model.decodes_alike.Goals as goal
 
 pub returns : goal.returns

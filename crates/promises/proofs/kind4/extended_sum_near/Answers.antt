@@ -1,4 +1,4 @@
-use Rattle.promises.proofs.ExtendedSums.{extended-sum-near}
+use Rattle.promises.proofs.roundings.TenByteSums.{extended-sum-near}
 use Rattle.promises.proofs.kind4.extended_sum_near.Goals as goal
 
 pub returns : goal.returns

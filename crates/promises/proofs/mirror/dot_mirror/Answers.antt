@@ -1,4 +1,4 @@
-use Rattle.totals_spec.proofs.Promises.{dot-mirror}
+use Rattle.mirror_spec.proofs.Totals.{dot-mirror}
 use Rattle.promises.proofs.mirror.dot_mirror.Goals as goal
 
 pub returns : goal.returns

@@ -1,4 +1,4 @@
-use Rattle.totals_spec.proofs.Promises.{extended-mirror}
+use Rattle.mirror_spec.proofs.TenBytes.{extended-mirror}
 use Rattle.promises.proofs.mirror.extended_mirror.Goals as goal
 
 pub returns : goal.returns

@@ -1,4 +1,4 @@
-use Rattle.totals_spec.proofs.Promises.{negated-extended}
+use Rattle.mirror_spec.proofs.TenBytes.{negated-extended}
 use Rattle.promises.proofs.mirror.negated_extended.Goals as goal
 
 pub returns : goal.returns

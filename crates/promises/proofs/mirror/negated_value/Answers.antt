@@ -1,4 +1,4 @@
-use Rattle.totals_spec.proofs.Promises.{negated-value}
+use Rattle.mirror_spec.proofs.Encodings.{negated-value}
 use Rattle.promises.proofs.mirror.negated_value.Goals as goal
 
 pub returns : goal.returns

@@ -1,4 +1,4 @@
-use Rattle.totals_spec.proofs.Promises.{sum-mirror}
+use Rattle.mirror_spec.proofs.Totals.{sum-mirror}
 use Rattle.promises.proofs.mirror.sum_mirror.Goals as goal
 
 pub returns : goal.returns

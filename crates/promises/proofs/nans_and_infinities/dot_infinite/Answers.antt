@@ -1,4 +1,4 @@
-use Rattle.promises.proofs.Special.{dot-infinite}
+use Rattle.promises.proofs.records.WithoutAPass.{dot-infinite}
 use Rattle.promises.proofs.nans_and_infinities.dot_infinite.Goals as goal
 
 pub returns : goal.returns

@@ -1,4 +1,4 @@
-use Rattle.promises.proofs.Special.{dot-invalid}
+use Rattle.promises.proofs.records.WithoutAPass.{dot-invalid}
 use Rattle.promises.proofs.nans_and_infinities.dot_invalid.Goals as goal
 
 pub returns : goal.returns

@@ -1,4 +1,4 @@
-use Rattle.promises.proofs.SpecialExtended.{extended-signaling}
+use Rattle.promises.proofs.records.TenByteNans.{extended-signaling}
 use Rattle.promises.proofs.nans_and_infinities.extended_signaling.Goals as goal
 
 pub returns : goal.returns

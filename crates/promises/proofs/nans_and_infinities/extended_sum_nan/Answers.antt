@@ -1,4 +1,4 @@
-use Rattle.promises.proofs.SpecialExtended.{extended-sum-nan}
+use Rattle.promises.proofs.records.TenByteNans.{extended-sum-nan}
 use Rattle.promises.proofs.nans_and_infinities.extended_sum_nan.Goals as goal
 
 pub returns : goal.returns

@@ -1,4 +1,4 @@
-use Rattle.promises.proofs.Special.{magnitudes-signaling}
+use Rattle.promises.proofs.records.WithoutAPass.{magnitudes-signaling}
 use Rattle.promises.proofs.nans_and_infinities.magnitudes_signaling.Goals as goal
 
 pub returns : goal.returns

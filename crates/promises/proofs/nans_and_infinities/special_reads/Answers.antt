@@ -1,4 +1,4 @@
-use Rattle.promises.proofs.Patterns.{special-reads}
+use Rattle.promises.proofs.records.NanPatterns.{special-reads}
 use Rattle.promises.proofs.nans_and_infinities.special_reads.Goals as goal
 
 pub returns : goal.returns

@@ -1,4 +1,4 @@
-use Rattle.promises.proofs.Special.{sum-infinities}
+use Rattle.promises.proofs.records.WithoutAPass.{sum-infinities}
 use Rattle.promises.proofs.nans_and_infinities.sum_infinities.Goals as goal
 
 pub returns : goal.returns

@@ -1,4 +1,4 @@
-use Rattle.totals_spec.proofs.Promises.{dot-order}
+use Rattle.totals_spec.proofs.order.Order.{dot-order}
 use Rattle.promises.proofs.order.dot_order.Goals as goal
 
 pub returns : goal.returns

@@ -1,4 +1,4 @@
-use Rattle.totals_spec.proofs.Promises.{sum-entry-order}
+use Rattle.totals_spec.proofs.order.Order.{sum-entry-order}
 use Rattle.promises.proofs.order.sum_entry_order.Goals as goal
 
 pub returns : goal.returns

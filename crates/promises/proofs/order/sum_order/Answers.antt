@@ -1,4 +1,4 @@
-use Rattle.totals_spec.proofs.Promises.{sum-order}
+use Rattle.totals_spec.proofs.order.Order.{sum-order}
 use Rattle.promises.proofs.order.sum_order.Goals as goal
 
 pub returns : goal.returns

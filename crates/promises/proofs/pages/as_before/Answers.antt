@@ -1,4 +1,4 @@
-use Rattle.totals_spec.proofs.Promises.{page-as-before}
+use Rattle.pages_spec.proofs.Pages.{page-as-before}
 use Rattle.promises.proofs.pages.as_before.Goals as goal
 
 pub returns : goal.returns

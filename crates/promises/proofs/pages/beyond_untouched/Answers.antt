@@ -1,4 +1,4 @@
-use Rattle.totals_spec.proofs.Promises.{page-beyond}
+use Rattle.pages_spec.proofs.Refused.{page-beyond}
 use Rattle.promises.proofs.pages.beyond_untouched.Goals as goal
 
 pub returns : goal.returns

@@ -1,4 +1,4 @@
-use Rattle.totals_spec.proofs.Promises.{page-both}
+use Rattle.pages_spec.proofs.Pages.{page-both}
 use Rattle.promises.proofs.pages.both_readers.Goals as goal
 
 pub returns : goal.returns

@@ -1,4 +1,4 @@
-use Rattle.totals_spec.proofs.Promises.{page-range}
+use Rattle.pages_spec.proofs.Pages.{page-range}
 use Rattle.promises.proofs.pages.counts_in_range.Goals as goal
 
 pub returns : goal.returns

@@ -1,4 +1,4 @@
-use Rattle.totals_spec.proofs.Promises.{page-earlier}
+use Rattle.pages_spec.proofs.Pages.{page-earlier}
 use Rattle.promises.proofs.pages.earlier_reader.Goals as goal
 
 pub returns : goal.returns

@@ -1,4 +1,4 @@
-use Rattle.totals_spec.proofs.Promises.{page-empty}
+use Rattle.pages_spec.proofs.Refused.{page-empty}
 use Rattle.promises.proofs.pages.empty_span.Goals as goal
 
 pub returns : goal.returns

@@ -1,4 +1,4 @@
-use Rattle.totals_spec.proofs.Promises.{page-entry-read-back}
+use Rattle.pages_spec.proofs.Refused.{page-entry-read-back}
 use Rattle.promises.proofs.pages.entry_read_back.Goals as goal
 
 pub returns : goal.returns

@@ -1,4 +1,4 @@
-use Rattle.totals_spec.proofs.Promises.{page-entry-refused-exactly}
+use Rattle.pages_spec.proofs.Refused.{page-entry-refused-exactly}
 use Rattle.promises.proofs.pages.entry_refused_exactly.Goals as goal
 
 pub returns : goal.returns

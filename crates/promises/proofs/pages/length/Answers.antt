@@ -1,4 +1,4 @@
-use Rattle.totals_spec.proofs.Promises.{page-length}
+use Rattle.pages_spec.proofs.Pages.{page-length}
 use Rattle.promises.proofs.pages.length.Goals as goal
 
 pub returns : goal.returns

@@ -1,4 +1,4 @@
-use Rattle.totals_spec.proofs.Promises.{page-longer}
+use Rattle.pages_spec.proofs.Pages.{page-longer}
 use Rattle.promises.proofs.pages.longer.Goals as goal
 
 pub returns : goal.returns

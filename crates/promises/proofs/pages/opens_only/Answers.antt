@@ -1,4 +1,4 @@
-use Rattle.totals_spec.proofs.Promises.{page-only}
+use Rattle.pages_spec.proofs.Pages.{page-only}
 use Rattle.promises.proofs.pages.opens_only.Goals as goal
 
 pub returns : goal.returns

@@ -1,4 +1,4 @@
-use Rattle.totals_spec.proofs.Promises.{page-span-numbers}
+use Rattle.pages_spec.proofs.Refused.{page-span-numbers}
 use Rattle.promises.proofs.pages.span_numbers.Goals as goal
 
 pub returns : goal.returns

@@ -1,4 +1,4 @@
-use Rattle.totals_spec.proofs.Promises.{page-span-read}
+use Rattle.pages_spec.proofs.Pages.{page-span-read}
 use Rattle.promises.proofs.pages.span_of_opened.Goals as goal
 
 pub returns : goal.returns

@@ -1,4 +1,4 @@
-use Rattle.totals_spec.proofs.Promises.{page-span}
+use Rattle.pages_spec.proofs.Pages.{page-span}
 use Rattle.promises.proofs.pages.span_of_written.Goals as goal
 
 pub returns : goal.returns

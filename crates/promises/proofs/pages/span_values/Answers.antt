@@ -1,4 +1,4 @@
-use Rattle.totals_spec.proofs.Promises.{span-values}
+use Rattle.pages_spec.proofs.Pages.{span-values}
 use Rattle.promises.proofs.pages.span_values.Goals as goal
 
 pub returns : goal.returns

@@ -1,4 +1,4 @@
-use Rattle.totals_spec.proofs.Promises.{page-summary}
+use Rattle.pages_spec.proofs.Pages.{page-summary}
 use Rattle.promises.proofs.pages.summaries.Goals as goal
 
 pub returns : goal.returns

@@ -1,4 +1,4 @@
-use Rattle.totals_spec.proofs.Promises.{page-summarizes}
+use Rattle.pages_spec.proofs.Pages.{page-summarizes}
 use Rattle.promises.proofs.pages.summarizes.Goals as goal
 
 pub returns : goal.returns

@@ -1,4 +1,4 @@
-use Rattle.totals_spec.proofs.Promises.{page-refused}
+use Rattle.pages_spec.proofs.Refused.{page-refused}
 use Rattle.promises.proofs.pages.writing_refused.Goals as goal
 
 pub returns : goal.returns

@@ -1,4 +1,4 @@
-use Rattle.totals_spec.proofs.Promises.{page-opens}
+use Rattle.pages_spec.proofs.Refused.{page-opens}
 use Rattle.promises.proofs.pages.written_opens.Goals as goal
 
 pub returns : goal.returns

@@ -1,4 +1,4 @@
-use Rattle.totals_spec.proofs.Promises.{binary64-sum-limit}
+use Rattle.totals_spec.proofs.chain.Binary64Limit.{binary64-sum-limit}
 use Rattle.promises.proofs.passes.binary64_sum_limit.Goals as goal
 
 pub returns : goal.returns

@@ -1,4 +1,4 @@
-use Rattle.totals_spec.proofs.Promises.{dot-limit}
+use Rattle.totals_spec.proofs.chain.PassesOfRecords.{dot-limit}
 use Rattle.promises.proofs.passes.dot_limit.Goals as goal
 
 pub returns : goal.returns

@@ -1,4 +1,4 @@
-use Rattle.totals_spec.proofs.Promises.{low-bit}
+use Rattle.totals_spec.proofs.numbers.LowestAndHighestBit.{low-bit}
 use Rattle.promises.proofs.passes.low_bit.Goals as goal
 
 pub returns : goal.returns

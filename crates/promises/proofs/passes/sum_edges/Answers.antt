@@ -1,4 +1,4 @@
-use Rattle.totals_spec.proofs.Promises.{sum-edges}
+use Rattle.totals_spec.proofs.chain.EndsAndEdges.{sum-edges}
 use Rattle.promises.proofs.passes.sum_edges.Goals as goal
 
 pub returns : goal.returns

@@ -1,4 +1,4 @@
-use Rattle.totals_spec.proofs.Promises.{sum-limit}
+use Rattle.totals_spec.proofs.chain.PassesOfRecords.{sum-limit}
 use Rattle.promises.proofs.passes.sum_limit.Goals as goal
 
 pub returns : goal.returns

@@ -1,4 +1,4 @@
-use Rattle.totals_spec.proofs.Promises.{pence-by-chain}
+use Rattle.totals_spec.proofs.pence.HundredfoldChain.{pence-by-chain}
 use Rattle.promises.proofs.pence.by_chain.Goals as goal
 
 pub returns : goal.returns

@@ -1,4 +1,4 @@
-use Rattle.totals_spec.proofs.Promises.{pence-entry-refused}
+use Rattle.totals_spec.proofs.pence.PenceOfLists.{pence-entry-refused}
 use Rattle.promises.proofs.pence.entry_refused.Goals as goal
 
 pub returns : goal.returns

@@ -1,4 +1,4 @@
-use Rattle.totals_spec.proofs.Promises.{pence-entry-refused-exactly}
+use Rattle.totals_spec.proofs.pence.RefusedExactly.{pence-entry-refused-exactly}
 use Rattle.promises.proofs.pence.entry_refused_exactly.Goals as goal
 
 pub returns : goal.returns

@@ -1,4 +1,4 @@
-use Rattle.totals_spec.proofs.Promises.{sum-pence-refused-exactly}
+use Rattle.totals_spec.proofs.pence.RefusedExactly.{sum-pence-refused-exactly}
 use Rattle.promises.proofs.pence.list_refused_exactly.Goals as goal
 
 pub returns : goal.returns

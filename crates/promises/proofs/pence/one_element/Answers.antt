@@ -1,4 +1,4 @@
-use Rattle.totals_spec.proofs.Promises.{one-pence}
+use Rattle.totals_spec.proofs.pence.PenceOfLists.{one-pence}
 use Rattle.promises.proofs.pence.one_element.Goals as goal
 
 pub returns : goal.returns

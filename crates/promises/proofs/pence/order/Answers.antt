@@ -1,4 +1,4 @@
-use Rattle.totals_spec.proofs.Promises.{pence-order}
+use Rattle.totals_spec.proofs.pence.PenceOfLists.{pence-order}
 use Rattle.promises.proofs.pence.order.Goals as goal
 
 pub returns : goal.returns

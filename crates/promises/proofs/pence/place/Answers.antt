@@ -1,4 +1,4 @@
-use Rattle.totals_spec.proofs.Promises.{pence-place}
+use Rattle.totals_spec.proofs.pence.PenceOfLists.{pence-place}
 use Rattle.promises.proofs.pence.place.Goals as goal
 
 pub returns : goal.returns

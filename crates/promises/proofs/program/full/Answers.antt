@@ -1,4 +1,4 @@
-use Rattle.promises.proofs.Lines.{program-full}
+use Rattle.promises.proofs.records.LinesRead.{program-full}
 use Rattle.promises.proofs.program.full.Goals as goal
 
 pub returns : goal.returns

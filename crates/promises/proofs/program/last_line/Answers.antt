@@ -1,4 +1,4 @@
-use Rattle.promises.proofs.Lines.{program-last}
+use Rattle.promises.proofs.records.LinesRead.{program-last}
 use Rattle.promises.proofs.program.last_line.Goals as goal
 
 pub returns : goal.returns

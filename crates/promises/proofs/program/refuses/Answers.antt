@@ -1,4 +1,4 @@
-use Rattle.promises.proofs.Lines.{program-refuses}
+use Rattle.promises.proofs.records.LinesRead.{program-refuses}
 use Rattle.promises.proofs.program.refuses.Goals as goal
 
 pub returns : goal.returns

@@ -1,4 +1,4 @@
-use Rattle.promises.proofs.Lines.{program-totals}
+use Rattle.promises.proofs.records.LinesRead.{program-totals}
 use Rattle.promises.proofs.program.totals.Goals as goal
 
 pub returns : goal.returns

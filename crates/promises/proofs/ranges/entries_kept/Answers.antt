@@ -1,4 +1,4 @@
-use Rattle.totals_spec.proofs.Promises.{range-entries-kept}
+use Rattle.figures_spec.proofs.ranges.Refused.{range-entries-kept}
 use Rattle.promises.proofs.ranges.entries_kept.Goals as goal
 
 pub returns : goal.returns

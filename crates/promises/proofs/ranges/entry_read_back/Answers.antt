@@ -1,4 +1,4 @@
-use Rattle.totals_spec.proofs.Promises.{range-entry-read-back}
+use Rattle.figures_spec.proofs.ranges.Refused.{range-entry-read-back}
 use Rattle.promises.proofs.ranges.entry_read_back.Goals as goal
 
 pub returns : goal.returns

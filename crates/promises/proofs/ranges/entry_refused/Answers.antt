@@ -1,4 +1,4 @@
-use Rattle.totals_spec.proofs.Promises.{range-entry-refused}
+use Rattle.figures_spec.proofs.ranges.Refused.{range-entry-refused}
 use Rattle.promises.proofs.ranges.entry_refused.Goals as goal
 
 pub returns : goal.returns

@@ -1,4 +1,4 @@
-use Rattle.totals_spec.proofs.Promises.{range-entry-refused-exactly}
+use Rattle.figures_spec.proofs.ranges.Refused.{range-entry-refused-exactly}
 use Rattle.promises.proofs.ranges.entry_refused_exactly.Goals as goal
 
 pub returns : goal.returns

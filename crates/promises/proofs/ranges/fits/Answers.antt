@@ -1,4 +1,4 @@
-use Rattle.totals_spec.proofs.Promises.{range-fits}
+use Rattle.figures_spec.proofs.ranges.NarrowestPair.{range-fits}
 use Rattle.promises.proofs.ranges.fits.Goals as goal
 
 pub returns : goal.returns

@@ -1,4 +1,4 @@
-use Rattle.totals_spec.proofs.Promises.{range-holds}
+use Rattle.figures_spec.proofs.ranges.NarrowestPair.{range-holds}
 use Rattle.promises.proofs.ranges.holds.Goals as goal
 
 pub returns : goal.returns

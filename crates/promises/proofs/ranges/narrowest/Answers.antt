@@ -1,4 +1,4 @@
-use Rattle.totals_spec.proofs.Promises.{range-narrowest}
+use Rattle.figures_spec.proofs.ranges.NarrowestPair.{range-narrowest}
 use Rattle.promises.proofs.ranges.narrowest.Goals as goal
 
 pub returns : goal.returns

@@ -1,4 +1,4 @@
-use Rattle.totals_spec.proofs.Promises.{range-order}
+use Rattle.figures_spec.proofs.ranges.Order.{range-order}
 use Rattle.promises.proofs.ranges.order.Goals as goal
 
 pub returns : goal.returns

@@ -1,4 +1,4 @@
-use Rattle.totals_spec.proofs.Promises.{range-plain}
+use Rattle.figures_spec.proofs.ranges.NarrowestPair.{range-plain}
 use Rattle.promises.proofs.ranges.plain_sums.Goals as goal
 
 pub returns : goal.returns

@@ -1,4 +1,4 @@
-use Rattle.totals_spec.proofs.Promises.{range-refused}
+use Rattle.figures_spec.proofs.ranges.Refused.{range-refused}
 use Rattle.promises.proofs.ranges.refused.Goals as goal
 
 pub returns : goal.returns

@@ -1,4 +1,4 @@
-use Rattle.totals_spec.proofs.Promises.{range-refused-exactly}
+use Rattle.figures_spec.proofs.ranges.Refused.{range-refused-exactly}
 use Rattle.promises.proofs.ranges.refused_exactly.Goals as goal
 
 pub returns : goal.returns

@@ -1,4 +1,4 @@
-use Rattle.totals_spec.proofs.Promises.{range-zero}
+use Rattle.figures_spec.proofs.ranges.NarrowestPair.{range-zero}
 use Rattle.promises.proofs.ranges.zero.Goals as goal
 
 pub returns : goal.returns

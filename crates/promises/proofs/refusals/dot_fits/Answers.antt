@@ -1,4 +1,4 @@
-use Rattle.totals_spec.proofs.Promises.{dot-fits}
+use Rattle.totals_spec.proofs.sums.FieldsFit.{dot-fits}
 use Rattle.promises.proofs.refusals.dot_fits.Goals as goal
 
 pub returns : goal.returns

@@ -1,4 +1,4 @@
-use Rattle.totals_spec.proofs.Promises.{dot-refusal}
+use Rattle.totals_spec.proofs.refusals.RefusedRecords.{dot-refusal}
 use Rattle.promises.proofs.refusals.dot_refusal.Goals as goal
 
 pub returns : goal.returns

@@ -1,4 +1,4 @@
-use Rattle.totals_spec.proofs.Promises.{dot-refused}
+use Rattle.totals_spec.proofs.refusals.RefusedRecords.{dot-refused}
 use Rattle.promises.proofs.refusals.dot_refused.Goals as goal
 
 pub returns : goal.returns

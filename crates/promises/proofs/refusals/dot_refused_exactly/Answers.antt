@@ -1,4 +1,4 @@
-use Rattle.totals_spec.proofs.Promises.{dot-refused-exactly}
+use Rattle.totals_spec.proofs.refusals.Exactly.{dot-refused-exactly}
 use Rattle.promises.proofs.refusals.dot_refused_exactly.Goals as goal
 
 pub returns : goal.returns

@@ -1,4 +1,4 @@
-use Rattle.totals_spec.proofs.Promises.{sum-place}
+use Rattle.totals_spec.proofs.refusals.RefusedRecords.{sum-place}
 use Rattle.promises.proofs.refusals.sum_place.Goals as goal
 
 pub returns : goal.returns

@@ -1,4 +1,4 @@
-use Rattle.totals_spec.proofs.Promises.{sum-refusal}
+use Rattle.totals_spec.proofs.refusals.RefusedRecords.{sum-refusal}
 use Rattle.promises.proofs.refusals.sum_refusal.Goals as goal
 
 pub returns : goal.returns

@@ -1,4 +1,4 @@
-use Rattle.totals_spec.proofs.Promises.{sum-refused}
+use Rattle.totals_spec.proofs.refusals.RefusedRecords.{sum-refused}
 use Rattle.promises.proofs.refusals.sum_refused.Goals as goal
 
 pub returns : goal.returns

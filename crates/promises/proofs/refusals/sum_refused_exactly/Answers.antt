@@ -1,4 +1,4 @@
-use Rattle.totals_spec.proofs.Promises.{sum-refused-exactly}
+use Rattle.totals_spec.proofs.refusals.Exactly.{sum-refused-exactly}
 use Rattle.promises.proofs.refusals.sum_refused_exactly.Goals as goal
 
 pub returns : goal.returns

@@ -1,4 +1,4 @@
-use Rattle.totals_spec.proofs.Promises.{zeros-refused}
+use Rattle.totals_spec.proofs.refusals.ManyZeros.{zeros-refused}
 use Rattle.promises.proofs.refusals.zeros_refused.Goals as goal
 
 pub returns : goal.returns

@@ -1,4 +1,4 @@
-use Rattle.promises.proofs.RisesTotals.{amounts-rise}
+use Rattle.promises.proofs.roundings.TotalsRise.{amounts-rise}
 use Rattle.promises.proofs.rising.amounts_rise.Goals as goal
 
 pub returns : goal.returns

@@ -1,4 +1,4 @@
-use Rattle.promises.proofs.RisesTotals.{factors-rise}
+use Rattle.promises.proofs.roundings.TotalsRise.{factors-rise}
 use Rattle.promises.proofs.rising.factors_rise.Goals as goal
 
 pub returns : goal.returns

@@ -1,4 +1,4 @@
-use Rattle.promises.proofs.RisesOnce.{once-nan}
+use Rattle.promises.proofs.roundings.RoundingRises.{once-nan}
 use Rattle.promises.proofs.rising.once_nan.Goals as goal
 
 pub returns : goal.returns

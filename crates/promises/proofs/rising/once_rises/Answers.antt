@@ -1,4 +1,4 @@
-use Rattle.promises.proofs.RisesOnce.{once-rises}
+use Rattle.promises.proofs.roundings.RoundingRises.{once-rises}
 use Rattle.promises.proofs.rising.once_rises.Goals as goal
 
 pub returns : goal.returns

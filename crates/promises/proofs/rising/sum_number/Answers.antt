@@ -1,4 +1,4 @@
-use Rattle.promises.proofs.RisesTotals.{sum-number}
+use Rattle.promises.proofs.roundings.TotalsRise.{sum-number}
 use Rattle.promises.proofs.rising.sum_number.Goals as goal
 
 pub returns : goal.returns

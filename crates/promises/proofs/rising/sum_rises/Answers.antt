@@ -1,4 +1,4 @@
-use Rattle.promises.proofs.RisesTotals.{sum-rises}
+use Rattle.promises.proofs.roundings.TotalsRise.{sum-rises}
 use Rattle.promises.proofs.rising.sum_rises.Goals as goal
 
 pub returns : goal.returns

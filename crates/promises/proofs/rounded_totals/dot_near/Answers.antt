@@ -1,4 +1,4 @@
-use Rattle.promises.proofs.Sums.{dot-near}
+use Rattle.promises.proofs.roundings.SumsRoundedOnce.{dot-near}
 use Rattle.promises.proofs.rounded_totals.dot_near.Goals as goal
 
 pub returns : goal.returns

@@ -1,4 +1,4 @@
-use Rattle.promises.proofs.Sums.{extended-rounded-once}
+use Rattle.promises.proofs.roundings.SumsRoundedOnce.{extended-rounded-once}
 use Rattle.promises.proofs.rounded_totals.extended_rounded_once.Goals as goal
 
 pub returns : goal.returns

@@ -1,4 +1,4 @@
-use Rattle.promises.proofs.One.{one-stays}
+use Rattle.promises.proofs.roundings.OneElement.{one-stays}
 use Rattle.promises.proofs.rounded_totals.one_stays.Goals as goal
 
 pub returns : goal.returns

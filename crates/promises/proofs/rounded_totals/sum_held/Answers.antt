@@ -1,4 +1,4 @@
-use Rattle.promises.proofs.Sums.{sum-held}
+use Rattle.promises.proofs.roundings.SumsRoundedOnce.{sum-held}
 use Rattle.promises.proofs.rounded_totals.sum_held.Goals as goal
 
 pub returns : goal.returns

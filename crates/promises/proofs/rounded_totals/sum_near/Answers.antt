@@ -1,4 +1,4 @@
-use Rattle.promises.proofs.Sums.{sum-near}
+use Rattle.promises.proofs.roundings.SumsRoundedOnce.{sum-near}
 use Rattle.promises.proofs.rounded_totals.sum_near.Goals as goal
 
 pub returns : goal.returns

@@ -1,4 +1,4 @@
-use Rattle.promises.proofs.Follows.{half-unit}
+use Rattle.promises.proofs.roundings.OfEveryRounding.{half-unit}
 use Rattle.promises.proofs.rounding.half_a_unit.Goals as goal
 
 pub returns : goal.returns

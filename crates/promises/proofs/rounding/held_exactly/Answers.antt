@@ -1,4 +1,4 @@
-use Rattle.promises.proofs.Follows.{held-exactly}
+use Rattle.promises.proofs.roundings.OfEveryRounding.{held-exactly}
 use Rattle.promises.proofs.rounding.held_exactly.Goals as goal
 
 pub returns : goal.returns

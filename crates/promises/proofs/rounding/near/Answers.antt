@@ -1,4 +1,4 @@
-use Rattle.promises.proofs.Follows.{once-near}
+use Rattle.promises.proofs.roundings.OfEveryRounding.{once-near}
 use Rattle.promises.proofs.rounding.near.Goals as goal
 
 pub returns : goal.returns

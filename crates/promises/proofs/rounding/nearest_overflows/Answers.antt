@@ -1,4 +1,4 @@
-use Rattle.promises.proofs.Threshold.{nearest-overflows}
+use Rattle.promises.proofs.roundings.OverflowThreshold.{nearest-overflows}
 use Rattle.promises.proofs.rounding.nearest_overflows.Goals as goal
 
 pub returns : goal.returns

@@ -1,4 +1,4 @@
-use Rattle.promises.proofs.Pins.{once-pins}
+use Rattle.promises.proofs.roundings.OneAnswer.{once-pins}
 use Rattle.promises.proofs.rounding.one_answer.Goals as goal
 
 pub returns : goal.returns

@@ -1,4 +1,4 @@
-use Rattle.promises.proofs.Follows.{rises}
+use Rattle.promises.proofs.roundings.OfEveryRounding.{rises}
 use Rattle.promises.proofs.rounding.rises.Goals as goal
 
 pub returns : goal.returns

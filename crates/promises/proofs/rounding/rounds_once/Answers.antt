@@ -1,4 +1,4 @@
-use Rattle.promises.proofs.Rounds.{round-once}
+use Rattle.promises.proofs.roundings.RoundedByProperties.{round-once}
 use Rattle.promises.proofs.rounding.rounds_once.Goals as goal
 
 pub returns : goal.returns

@@ -1,4 +1,4 @@
-use Rattle.promises.proofs.Follows.{within-unit}
+use Rattle.promises.proofs.roundings.OfEveryRounding.{within-unit}
 use Rattle.promises.proofs.rounding.within_a_unit.Goals as goal
 
 pub returns : goal.returns

@@ -1,4 +1,4 @@
-use Rattle.promises.proofs.Sums.{zero-only}
+use Rattle.promises.proofs.roundings.SumsRoundedOnce.{zero-only}
 use Rattle.promises.proofs.rounding.zero_only.Goals as goal
 
 pub returns : goal.returns

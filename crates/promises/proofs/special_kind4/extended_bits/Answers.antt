@@ -1,4 +1,4 @@
-use Rattle.promises.proofs.ExtendedReads.{extended-bits}
+use Rattle.promises.proofs.records.TenByteReads.{extended-bits}
 use Rattle.promises.proofs.special_kind4.extended_bits.Goals as goal
 
 pub returns : goal.returns

@@ -1,4 +1,4 @@
-use Rattle.promises.proofs.SpecialKind4.{extended-sum-of-zeros}
+use Rattle.promises.proofs.records.TenByteRecords.{extended-sum-of-zeros}
 use Rattle.promises.proofs.special_kind4.extended_sum_of_zeros.Goals as goal
 
 pub returns : goal.returns

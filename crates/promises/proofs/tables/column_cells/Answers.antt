@@ -1,4 +1,4 @@
-use Rattle.totals_spec.proofs.Promises.{column-cells}
+use Rattle.figures_spec.proofs.tables.Tables.{column-cells}
 use Rattle.promises.proofs.tables.column_cells.Goals as goal
 
 pub returns : goal.returns

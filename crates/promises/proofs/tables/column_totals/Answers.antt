@@ -1,4 +1,4 @@
-use Rattle.totals_spec.proofs.Promises.{table-column}
+use Rattle.figures_spec.proofs.tables.Tables.{table-column}
 use Rattle.promises.proofs.tables.column_totals.Goals as goal
 
 pub returns : goal.returns

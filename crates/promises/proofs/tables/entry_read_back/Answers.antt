@@ -1,4 +1,4 @@
-use Rattle.totals_spec.proofs.Promises.{table-entry-read-back}
+use Rattle.figures_spec.proofs.tables.ReadBack.{table-entry-read-back}
 use Rattle.promises.proofs.tables.entry_read_back.Goals as goal
 
 pub returns : goal.returns

@@ -1,4 +1,4 @@
-use Rattle.totals_spec.proofs.Promises.{table-entry-refused}
+use Rattle.figures_spec.proofs.tables.Tables.{table-entry-refused}
 use Rattle.promises.proofs.tables.entry_refused.Goals as goal
 
 pub returns : goal.returns

@@ -1,4 +1,4 @@
-use Rattle.totals_spec.proofs.Promises.{table-entry-refused-exactly}
+use Rattle.figures_spec.proofs.tables.RefusedExactly.{table-entry-refused-exactly}
 use Rattle.promises.proofs.tables.entry_refused_exactly.Goals as goal
 
 pub returns : goal.returns

@@ -1,4 +1,4 @@
-use Rattle.totals_spec.proofs.Promises.{table-grand}
+use Rattle.figures_spec.proofs.tables.Tables.{table-grand}
 use Rattle.promises.proofs.tables.grand_total.Goals as goal
 
 pub returns : goal.returns

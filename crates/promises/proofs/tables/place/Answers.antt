@@ -1,4 +1,4 @@
-use Rattle.totals_spec.proofs.Promises.{table-place}
+use Rattle.figures_spec.proofs.tables.Tables.{table-place}
 use Rattle.promises.proofs.tables.place.Goals as goal
 
 pub returns : goal.returns

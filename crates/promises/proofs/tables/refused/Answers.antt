@@ -1,4 +1,4 @@
-use Rattle.totals_spec.proofs.Promises.{table-refused}
+use Rattle.figures_spec.proofs.tables.Tables.{table-refused}
 use Rattle.promises.proofs.tables.refused.Goals as goal
 
 pub returns : goal.returns

@@ -1,4 +1,4 @@
-use Rattle.totals_spec.proofs.Promises.{table-refused-exactly}
+use Rattle.figures_spec.proofs.tables.RefusedExactly.{table-refused-exactly}
 use Rattle.promises.proofs.tables.refused_exactly.Goals as goal
 
 pub returns : goal.returns

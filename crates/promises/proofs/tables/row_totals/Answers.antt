@@ -1,4 +1,4 @@
-use Rattle.totals_spec.proofs.Promises.{table-row}
+use Rattle.figures_spec.proofs.tables.Tables.{table-row}
 use Rattle.promises.proofs.tables.row_totals.Goals as goal
 
 pub returns : goal.returns

@@ -1,4 +1,4 @@
-use Rattle.totals_spec.proofs.Promises.{table-untouched}
+use Rattle.figures_spec.proofs.tables.Tables.{table-untouched}
 use Rattle.promises.proofs.tables.untouched.Goals as goal
 
 pub returns : goal.returns

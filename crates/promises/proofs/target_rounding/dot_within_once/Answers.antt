@@ -1,4 +1,4 @@
-use Rattle.promises.proofs.RoundedTargets.{dot-within-once}
+use Rattle.promises.proofs.roundings.RoundedTargets.{dot-within-once}
 use Rattle.promises.proofs.target_rounding.dot_within_once.Goals as goal
 
 pub returns : goal.returns

@@ -1,4 +1,4 @@
-use Rattle.promises.proofs.RoundedTargets.{sum-within-full}
+use Rattle.promises.proofs.roundings.RoundedTargets.{sum-within-full}
 use Rattle.promises.proofs.target_rounding.sum_within_full.Goals as goal
 
 pub returns : goal.returns

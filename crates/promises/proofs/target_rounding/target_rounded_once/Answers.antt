@@ -1,4 +1,4 @@
-use Rattle.promises.proofs.RoundedTargets.{target-rounded-once}
+use Rattle.promises.proofs.roundings.RoundedTargets.{target-rounded-once}
 use Rattle.promises.proofs.target_rounding.target_rounded_once.Goals as goal
 
 pub returns : goal.returns

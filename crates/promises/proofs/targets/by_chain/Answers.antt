@@ -1,4 +1,4 @@
-use Rattle.further_spec.proofs.Promises.{target-by-chain}
+use Rattle.targets_spec.proofs.several.RoundedAsTheSum.{target-by-chain}
 use Rattle.promises.proofs.targets.by_chain.Goals as goal
 
 pub returns : goal.returns

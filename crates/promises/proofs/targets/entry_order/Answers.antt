@@ -1,4 +1,4 @@
-use Rattle.further_spec.proofs.Promises.{target-entry-order}
+use Rattle.targets_spec.proofs.several.Entry.{target-entry-order}
 use Rattle.promises.proofs.targets.entry_order.Goals as goal
 
 pub returns : goal.returns

@@ -1,4 +1,4 @@
-use Rattle.further_spec.proofs.Promises.{target-entry-read-back}
+use Rattle.targets_spec.proofs.several.Entry.{target-entry-read-back}
 use Rattle.promises.proofs.targets.entry_read_back.Goals as goal
 
 pub returns : goal.returns

@@ -1,4 +1,4 @@
-use Rattle.further_spec.proofs.Promises.{target-entry-refused}
+use Rattle.targets_spec.proofs.several.Entry.{target-entry-refused}
 use Rattle.promises.proofs.targets.entry_refused.Goals as goal
 
 pub returns : goal.returns

@@ -1,4 +1,4 @@
-use Rattle.further_spec.proofs.Promises.{target-entry-refusal}
+use Rattle.targets_spec.proofs.several.Entry.{target-entry-refusal}
 use Rattle.promises.proofs.targets.entry_refused_exactly.Goals as goal
 
 pub returns : goal.returns

@@ -1,4 +1,4 @@
-use Rattle.further_spec.proofs.Promises.{target-exact}
+use Rattle.targets_spec.proofs.several.RoundedAsTheSum.{target-exact}
 use Rattle.promises.proofs.targets.exact.Goals as goal
 
 pub returns : goal.returns

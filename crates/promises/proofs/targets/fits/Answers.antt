@@ -1,4 +1,4 @@
-use Rattle.further_spec.proofs.Promises.{target-fits}
+use Rattle.targets_spec.proofs.several.Records.{target-fits}
 use Rattle.promises.proofs.targets.fits.Goals as goal
 
 pub returns : goal.returns

@@ -1,4 +1,4 @@
-use Rattle.further_spec.proofs.Promises.{target-limit}
+use Rattle.targets_spec.proofs.several.Records.{target-limit}
 use Rattle.promises.proofs.targets.limit.Goals as goal
 
 pub returns : goal.returns

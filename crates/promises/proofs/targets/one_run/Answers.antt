@@ -1,4 +1,4 @@
-use Rattle.further_spec.proofs.Promises.{target-passes}
+use Rattle.targets_spec.proofs.several.RoundedAsTheSum.{target-passes}
 use Rattle.promises.proofs.targets.one_run.Goals as goal
 
 pub returns : goal.returns

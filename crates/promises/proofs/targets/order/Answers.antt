@@ -1,4 +1,4 @@
-use Rattle.further_spec.proofs.Promises.{target-order}
+use Rattle.targets_spec.proofs.several.Records.{target-order}
 use Rattle.promises.proofs.targets.order.Goals as goal
 
 pub returns : goal.returns

@@ -1,4 +1,4 @@
-use Rattle.further_spec.proofs.Promises.{target-own}
+use Rattle.targets_spec.proofs.several.RoundedAsTheSum.{target-own}
 use Rattle.promises.proofs.targets.own_format.Goals as goal
 
 pub returns : goal.returns

@@ -1,4 +1,4 @@
-use Rattle.further_spec.proofs.Promises.{target-place}
+use Rattle.targets_spec.proofs.several.Records.{target-place}
 use Rattle.promises.proofs.targets.place.Goals as goal
 
 pub returns : goal.returns

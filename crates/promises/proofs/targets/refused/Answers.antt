@@ -1,4 +1,4 @@
-use Rattle.further_spec.proofs.Promises.{target-refused}
+use Rattle.targets_spec.proofs.several.Records.{target-refused}
 use Rattle.promises.proofs.targets.refused.Goals as goal
 
 pub returns : goal.returns

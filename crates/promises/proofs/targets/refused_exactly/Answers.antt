@@ -1,4 +1,4 @@
-use Rattle.further_spec.proofs.Promises.{target-refusal}
+use Rattle.targets_spec.proofs.several.Records.{target-refusal}
 use Rattle.promises.proofs.targets.refused_exactly.Goals as goal
 
 pub returns : goal.returns

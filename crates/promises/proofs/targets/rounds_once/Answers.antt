@@ -1,4 +1,4 @@
-use Rattle.further_spec.proofs.Promises.{target-rounds}
+use Rattle.totals_spec.proofs.rounding.IntoFormat.{target-rounds}
 use Rattle.promises.proofs.targets.rounds_once.Goals as goal
 
 pub returns : goal.returns

@@ -1,4 +1,4 @@
-use Rattle.further_spec.proofs.Promises.{target-side}
+use Rattle.targets_spec.proofs.several.RoundedAsTheSum.{target-side}
 use Rattle.promises.proofs.targets.side.Goals as goal
 
 pub returns : goal.returns

@@ -1,4 +1,4 @@
-use Rattle.further_spec.proofs.Promises.{target-zero}
+use Rattle.totals_spec.proofs.rounding.IntoFormat.{target-zero}
 use Rattle.promises.proofs.targets.zero_only.Goals as goal
 
 pub returns : goal.returns

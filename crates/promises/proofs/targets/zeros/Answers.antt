@@ -1,4 +1,4 @@
-use Rattle.further_spec.proofs.Promises.{target-zeros}
+use Rattle.targets_spec.proofs.several.RoundedAsTheSum.{target-zeros}
 use Rattle.promises.proofs.targets.zeros.Goals as goal
 
 pub returns : goal.returns

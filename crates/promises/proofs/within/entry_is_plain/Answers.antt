@@ -1,4 +1,4 @@
-use Rattle.further_spec.proofs.Promises.{within-entry-plain}
+use Rattle.targets_spec.proofs.within.Entry.{within-entry-plain}
 use Rattle.promises.proofs.within.entry_is_plain.Goals as goal
 
 pub returns : goal.returns

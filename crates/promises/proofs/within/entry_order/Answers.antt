@@ -1,4 +1,4 @@
-use Rattle.further_spec.proofs.Promises.{within-entry-order}
+use Rattle.targets_spec.proofs.within.Entry.{within-entry-order}
 use Rattle.promises.proofs.within.entry_order.Goals as goal
 
 pub returns : goal.returns

@@ -1,4 +1,4 @@
-use Rattle.further_spec.proofs.Promises.{within-entry-read-back}
+use Rattle.targets_spec.proofs.within.Entry.{within-entry-read-back}
 use Rattle.promises.proofs.within.entry_read_back.Goals as goal
 
 pub returns : goal.returns

@@ -1,4 +1,4 @@
-use Rattle.further_spec.proofs.Promises.{within-entry-refused}
+use Rattle.targets_spec.proofs.within.Entry.{within-entry-refused}
 use Rattle.promises.proofs.within.entry_refused.Goals as goal
 
 pub returns : goal.returns

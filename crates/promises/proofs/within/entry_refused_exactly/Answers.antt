@@ -1,4 +1,4 @@
-use Rattle.further_spec.proofs.Promises.{within-entry-refusal}
+use Rattle.targets_spec.proofs.within.Entry.{within-entry-refusal}
 use Rattle.promises.proofs.within.entry_refused_exactly.Goals as goal
 
 pub returns : goal.returns

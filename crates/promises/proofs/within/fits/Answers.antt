@@ -1,4 +1,4 @@
-use Rattle.further_spec.proofs.Promises.{within-fits}
+use Rattle.targets_spec.proofs.within.Answers.{within-fits}
 use Rattle.promises.proofs.within.fits.Goals as goal
 
 pub returns : goal.returns

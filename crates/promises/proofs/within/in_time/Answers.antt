@@ -1,4 +1,4 @@
-use Rattle.further_spec.proofs.Promises.{within-in-time}
+use Rattle.targets_spec.proofs.within.Answers.{within-in-time}
 use Rattle.promises.proofs.within.in_time.Goals as goal
 
 pub returns : goal.returns

@@ -1,4 +1,4 @@
-use Rattle.further_spec.proofs.Promises.{within-last}
+use Rattle.targets_spec.proofs.within.Answers.{within-last}
 use Rattle.promises.proofs.within.last_pass.Goals as goal
 
 pub returns : goal.returns

@@ -1,4 +1,4 @@
-use Rattle.further_spec.proofs.Promises.{within-limit}
+use Rattle.targets_spec.proofs.within.Answers.{within-limit}
 use Rattle.promises.proofs.within.limit_is_enough.Goals as goal
 
 pub returns : goal.returns

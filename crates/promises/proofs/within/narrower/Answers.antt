@@ -1,4 +1,4 @@
-use Rattle.further_spec.proofs.Promises.{within-narrower}
+use Rattle.targets_spec.proofs.within.Answers.{within-narrower}
 use Rattle.promises.proofs.within.narrower.Goals as goal
 
 pub returns : goal.returns

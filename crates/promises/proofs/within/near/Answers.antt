@@ -1,4 +1,4 @@
-use Rattle.further_spec.proofs.Promises.{within-near}
+use Rattle.targets_spec.proofs.within.Answers.{within-near}
 use Rattle.promises.proofs.within.near.Goals as goal
 
 pub returns : goal.returns

@@ -1,4 +1,4 @@
-use Rattle.further_spec.proofs.Promises.{within-order}
+use Rattle.targets_spec.proofs.within.Answers.{within-order}
 use Rattle.promises.proofs.within.order.Goals as goal
 
 pub returns : goal.returns

@@ -1,4 +1,4 @@
-use Rattle.further_spec.proofs.Promises.{within-place}
+use Rattle.targets_spec.proofs.within.Answers.{within-place}
 use Rattle.promises.proofs.within.place.Goals as goal
 
 pub returns : goal.returns

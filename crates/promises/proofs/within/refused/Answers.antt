@@ -1,4 +1,4 @@
-use Rattle.further_spec.proofs.Promises.{within-refused}
+use Rattle.targets_spec.proofs.within.Answers.{within-refused}
 use Rattle.promises.proofs.within.refused.Goals as goal
 
 pub returns : goal.returns

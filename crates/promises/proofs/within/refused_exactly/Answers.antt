@@ -1,4 +1,4 @@
-use Rattle.further_spec.proofs.Promises.{within-refusal}
+use Rattle.targets_spec.proofs.within.Answers.{within-refusal}
 use Rattle.promises.proofs.within.refused_exactly.Goals as goal
 
 pub returns : goal.returns

@@ -1,4 +1,4 @@
-use Rattle.further_spec.proofs.Promises.{within-same}
+use Rattle.targets_spec.proofs.within.Answers.{within-same}
 use Rattle.promises.proofs.within.same_for_more.Goals as goal
 
 pub returns : goal.returns

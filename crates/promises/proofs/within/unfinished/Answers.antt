@@ -1,4 +1,4 @@
-use Rattle.further_spec.proofs.Promises.{within-unfinished}
+use Rattle.targets_spec.proofs.within.Answers.{within-unfinished}
 use Rattle.promises.proofs.within.unfinished.Goals as goal
 
 pub returns : goal.returns

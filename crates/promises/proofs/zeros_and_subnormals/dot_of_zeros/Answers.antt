@@ -1,4 +1,4 @@
-use Rattle.promises.proofs.OnlyZeros.{dot-of-zeros}
+use Rattle.promises.proofs.records.OnlyZeros.{dot-of-zeros}
 use Rattle.promises.proofs.zeros_and_subnormals.dot_of_zeros.Goals as goal
 
 pub returns : goal.returns

@@ -1,4 +1,4 @@
-use Rattle.promises.proofs.Subnormals.{dot-subnormal}
+use Rattle.promises.proofs.records.Subnormals.{dot-subnormal}
 use Rattle.promises.proofs.zeros_and_subnormals.dot_subnormal.Goals as goal
 
 pub returns : goal.returns

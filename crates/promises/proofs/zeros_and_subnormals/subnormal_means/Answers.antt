@@ -1,4 +1,4 @@
-use Rattle.promises.proofs.Subnormals.{subnormal-means}
+use Rattle.promises.proofs.records.Subnormals.{subnormal-means}
 use Rattle.promises.proofs.zeros_and_subnormals.subnormal_means.Goals as goal
 
 pub returns : goal.returns

@@ -1,4 +1,4 @@
-use Rattle.promises.proofs.OnlyZeros.{sum-of-zeros}
+use Rattle.promises.proofs.records.OnlyZeros.{sum-of-zeros}
 use Rattle.promises.proofs.zeros_and_subnormals.sum_of_zeros.Goals as goal
 
 pub returns : goal.returns

@@ -1,4 +1,4 @@
-use Rattle.promises.proofs.OnlyZeros.{zero-bits}
+use Rattle.promises.proofs.records.OnlyZeros.{zero-bits}
 use Rattle.promises.proofs.zeros_and_subnormals.zero_bits.Goals as goal
 
 pub returns : goal.returns

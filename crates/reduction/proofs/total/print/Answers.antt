@@ -5,26 +5,26 @@ use mir.ValLaws.{to_z-of_z}
 use Rattle.std.proofs.Common.{◌+◌, ap, ap₂, ◌∙◌, arith}
 use borrow.Author.Rules.{rules}
 use Rattle.totals_spec.specs.Basics.{flag}
-use Rattle.totals_spec.specs.Encode.{encode}
-use Rattle.totals_spec.specs.Format.{digits}
-use Rattle.totals_spec.specs.Round.{Rounded}
-use Rattle.totals_spec.specs.Settled.{settled}
-use Rattle.totals_spec.specs.Totals.{Answer}
-use Rattle.further_spec.specs.Several.{target_grid, on_target, rounded_into, printed}
+use Rattle.totals_spec.specs.formats.Encode.{encode}
+use Rattle.totals_spec.specs.formats.Format.{digits}
+use Rattle.totals_spec.specs.rounding.Round.{Rounded}
+use Rattle.totals_spec.specs.chain.Settled.{settled}
+use Rattle.totals_spec.specs.sums.Totals.{Answer}
+use Rattle.totals_spec.specs.rounding.IntoFormat.{target_grid, on_target, rounded_into, printed}
 use Rattle.format.specs.Shapes.{shape_of}
 use Rattle.format.specs.Layouts.{layout_of}
 use Rattle.format.specs.Environments.{env_of}
 use Rattle.format.proofs.Shapes.{range_bounds}
-use Rattle.window.specs.Joined.{outcome_of}
+use Rattle.window.specs.Chain.{outcome_of}
 use Rattle.reduction.specs.Answered.{RoundedSum}
 use Rattle.reduction.proofs.Records.{leans, moved}
 use Rattle.reduction.proofs.total.print.Goals as goal
 
-pub round_sum-r-requires : goal.round_sum-r-requires
-round_sum-r-requires c = record {
-  decided = digits (shape_of c.args.f);
-  sum = settled (outcome_of c.args.e);
-  left = rw c.digits.ensures at c.left-v.ensures;
+pub round_sum-rounded-requires : goal.round_sum-rounded-requires
+round_sum-rounded-requires c = record {
+  decided = digits (shape_of c.args.shape);
+  sum = settled (outcome_of c.args.sum);
+  left = rw c.digits.ensures at c.left-left.ensures;
   settings = c.requires.settings;
   enough = c.requires.digits_le;
   grid = omega (arith, c.origin.ensures.bound, c.lift.ensures.bound);
@@ -35,14 +35,14 @@ pub returns : goal.returns
 unfolding printed rounded_into
 returns c =
     let a = c.args in
-    let f = shape_of a.f in
-    let t = layout_of a.t in
-    let x = on_target f t (settled (outcome_of a.e)) in
+    let f = shape_of a.shape in
+    let t = layout_of a.target in
+    let x = on_target f t (settled (outcome_of a.sum)) in
     let q = c.recorded.ensures in
     let lifted = ap₂ ◌+◌ c.origin.ensures.value c.lift.ensures.value in
     let up = ap₂ ◌+◌ c.depth.ensures.value c.fall.ensures.value in
-    let r : RoundedSum t (env_of a.c) (target_grid f t) x c.round_sum-r.result =
-    moved _ lifted up (c.round_sum-r.ensures (digits f) (settled (outcome_of a.e)) (rw c.digits.ensures at c.left-v.ensures)) in
+    let r : RoundedSum t (env_of a.env) (target_grid f t) x c.round_sum-rounded.result =
+    moved _ lifted up (c.round_sum-rounded.ensures (digits f) (settled (outcome_of a.sum)) (rw c.digits.ensures at c.left-left.ensures)) in
     let fits : SFits w64 c.place-last_edge.result = search rules in
     let edge = to_z-of_z w64 _ fits ∙ c.place-last_edge.ensures in
     λ i. record {
@@ -52,5 +52,5 @@ returns c =
       last_edge = (ap (λ (b : Answer). b.last_edge) q ∙ edge) i;
       refusal = (q i).refusal;
       place = (q i).place;
-      side = (ap (λ (b : Answer). b.side) q ∙ leans t (env_of a.c) _ x _ (range_bounds a.t.shape) c.requires.settings r) i;
+      side = (ap (λ (b : Answer). b.side) q ∙ leans t (env_of a.env) _ x _ (range_bounds a.target.shape) c.requires.settings r) i;
     }

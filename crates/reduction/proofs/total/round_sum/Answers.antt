@@ -7,13 +7,13 @@ use native.Mathlib.Omega.{arith}
 use lib.Dec.{eqb}
 use borrow.Author.Tests.{eqb-true, eqb-false}
 use Rattle.totals_spec.specs.Basics.{raised}
-use Rattle.totals_spec.specs.Decode.{zero_of}
-use Rattle.totals_spec.specs.Totals.{towards_negative, sum_rounded}
+use Rattle.totals_spec.specs.formats.Decode.{zero_of}
+use Rattle.totals_spec.specs.sums.Totals.{towards_negative, sum_rounded}
 use Rattle.format.specs.Shapes.{shape_of}
 use Rattle.format.specs.Environments.{env_of}
 use Rattle.format.proofs.Shapes.{range_bounds}
 use Rattle.exact.specs.declared.Unrounded.{Unrounded}
-use Rattle.exact.specs.Joined.{significand_of}
+use Rattle.exact.specs.Unrounded.{significand_of}
 use Rattle.window.proofs.Left.{left-sum, left-rounds}
 use Rattle.reduction.proofs.total.round_sum.Goals as goal
 
@@ -30,16 +30,17 @@ returns-then-is_nothing c p x l =
 pub round-requires : goal.round-requires
 round-requires c =
     let h = c.requires in
-    let k = some c.args.v c.is_nothing.ensures c.if-is_nothing.false in
-    left-rounds h.decided h.sum c.args.v k (h.left.some k) (shape_of c.args.f) (env_of c.args.c) _ _ (range_bounds c.args.f) h.settings h.enough h.grid h.few
+    let k = some c.args.left c.is_nothing.ensures c.if-is_nothing.false in
+    left-rounds h.decided h.sum c.args.left k (h.left.some k) (shape_of c.args.shape) (env_of c.args.env) _ _
+    (range_bounds c.args.shape) h.settings h.enough h.grid h.few
 
 pub returns : goal.returns
 returns c p x l =
-    let k = some c.args.v c.is_nothing.ensures c.if-is_nothing.false in
-    let env = env_of c.args.c in
+    let k = some c.args.left c.is_nothing.ensures c.if-is_nothing.false in
+    let env = env_of c.args.env in
     let o = c.round.ensures in
     record {
-      equal = left-sum p x c.args.v k (l.some k) (shape_of c.args.f) env _ _ (towards_negative env) _ o;
+      equal = left-sum p x c.args.left k (l.some k) (shape_of c.args.shape) env _ _ (towards_negative env) _ o;
       encodes = o.encodes;
       flags = o.flags;
     }

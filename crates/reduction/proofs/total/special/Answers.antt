@@ -1,6 +1,6 @@
 -- The record is that of the definitions, field by field.
 use Rattle.std.proofs.Common.{sym, ◌+◌, ◌∙◌, pos}
-use Rattle.totals_spec.specs.Totals.{special}
+use Rattle.totals_spec.specs.sums.Totals.{special}
 use Rattle.format.specs.Shapes.{shape_of}
 use Rattle.format.proofs.Shapes.{range_bounds}
 use Rattle.reduction.proofs.Records.{told}
@@ -11,11 +11,11 @@ unfolding special
 returns c =
     let a = c.args in
     λ i. record {
-      result = c.encoded-b.ensures i;
+      result = c.encoded-words.ensures i;
       flags = (c.flag.ensures.0 i) + (c.flag-2.ensures.0 i);
       passes = 0;
       last_edge = pos 0;
       refusal = 0;
       place = 0;
-      side = (c.side_of.ensures ∙ sym (told (shape_of a.f) (range_bounds a.f) a.v c.requires.1 c.requires.2)) i;
+      side = (c.side_of.ensures ∙ sym (told (shape_of a.shape) (range_bounds a.shape) a.value c.requires.1 c.requires.2)) i;
     }

@@ -2,7 +2,7 @@
 use Rattle.std.proofs.Common.{refl, sym, ◌∙◌}
 use borrow.Author.Tests.{not-true}
 use Rattle.limbs.proofs.Words.{words}
-use Rattle.limbs_term.proofs.Stored.{three-stored, three-moved}
+use Rattle.limbs.proofs.Stored.{three-stored, three-moved}
 use Rattle.reduction.proofs.Gather.{Turn, fits, running-start, running-end, running-over, turn-none, kept_moved, kept_past}
 use Rattle.reduction.proofs.walk.pass_doubles.Goals as goal
 
@@ -14,7 +14,7 @@ loop-i-preserved-in_default g c = running-over c.loop-i.invariant (rw c.count-i-
 
 pub loop-i-preserved-in_default-kept : goal.loop-i-preserved-in_default-kept
 loop-i-preserved-in_default-kept g c =
-    let turn : Turn c.loop-i.invariant c.in-Some.t c.window_part-part.result c.max-lost.result = record {
+    let turn : Turn c.loop-i.invariant c.in-Some.term c.window_part-part.result c.max-lost.result = record {
       inside = rw c.count-i-end.ensures at c.loop-i-test.true;
       stands = c.in-Some.ensures.gives;
       part = c.window_part-part.ensures;
@@ -22,19 +22,19 @@ loop-i-preserved-in_default-kept g c =
     } in
     turn-none turn c.in_default-kept.is
 
-pub loop-i-preserved-then-not-q : goal.loop-i-preserved-then-not-q
-loop-i-preserved-then-not-q g c =
-    let turn : Turn c.loop-i.invariant c.in-Some.t c.window_part-part.result c.max-lost.result = record {
+pub loop-i-preserved-then-not-placed : goal.loop-i-preserved-then-not-placed
+loop-i-preserved-then-not-placed g c =
+    let turn : Turn c.loop-i.invariant c.in-Some.term c.window_part-part.result c.max-lost.result = record {
       inside = rw c.count-i-end.ensures at c.loop-i-test.true;
       stands = c.in-Some.ensures.gives;
       part = c.window_part-part.ensures;
       larger = c.max-lost.ensures;
     } in
-    kept_past turn c.in-Some-kept.is (c.settle-q.ensures.past (not-true _ c.if-not-q.true))
+    kept_past turn c.in-Some-kept.is (c.settle-placed.ensures.past (not-true _ c.if-not-placed.true))
 
 pub loop-i-preserved-then-goes_on : goal.loop-i-preserved-then-goes_on
 loop-i-preserved-then-goes_on g c =
-    let turn : Turn c.loop-i.invariant c.in-Some.t c.window_part-part.result c.max-lost.result = record {
+    let turn : Turn c.loop-i.invariant c.in-Some.term c.window_part-part.result c.max-lost.result = record {
       inside = rw c.count-i-end.ensures at c.loop-i-test.true;
       stands = c.in-Some.ensures.gives;
       part = c.window_part-part.ensures;
@@ -44,19 +44,22 @@ loop-i-preserved-then-goes_on g c =
 
 pub loop-i-preserved : goal.loop-i-preserved
 loop-i-preserved g c =
-    let turn : Turn c.loop-i.invariant c.in-Some.t c.window_part-part.result c.max-lost.result = record {
+    let turn : Turn c.loop-i.invariant c.in-Some.term c.window_part-part.result c.max-lost.result = record {
       inside = rw c.count-i-end.ensures at c.loop-i-test.true;
       stands = c.in-Some.ensures.gives;
       part = c.window_part-part.ensures;
       larger = c.max-lost.ensures;
     } in
     let h = c.loop-i.invariant.words in
-    let x = fits _ c.add_word-x.type_inv in
-    let y = fits _ c.add_word-y.type_inv in
-    let z = fits _ c.add_word-z.type_inv in
+    let x = fits _ c.add_word-first.type_inv in
+    let y = fits _ c.add_word-second.type_inv in
+    let z = fits _ c.add_word-third.type_inv in
     let stays = sym c.goes_on.ensures ∙ c.if-goes_on.false in
-    kept_moved turn c.in-Some-kept.is (three-stored h c.settle-q.ensures x y z c.add_word-x.ensures c.add_word-y.ensures c.add_word-z.ensures stays)
-    (three-moved h c.settle-q.ensures x y z c.add_word-x.ensures c.add_word-y.ensures c.add_word-z.ensures stays)
+    let a = c.add_word-first.ensures in
+    let b = c.add_word-second.ensures in
+    let d = c.add_word-third.ensures in
+    kept_moved turn c.in-Some-kept.is (three-stored h c.settle-placed.ensures x y z a b d stays)
+    (three-moved h c.settle-placed.ensures x y z a b d stays)
 
 pub returns : goal.returns
 returns g c = running-end c.loop-i.invariant (rw c.count-i-end.ensures at c.loop-i-test.false) c.finished.ensures

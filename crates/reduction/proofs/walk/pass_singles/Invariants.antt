@@ -4,4 +4,4 @@ use Rattle.reduction.proofs.Gather.{Running}
 use Rattle.reduction.proofs.walk.pass_singles.Given as goal
 
 abbrev pub invariant-loop-i : goal.invariant-loop-i
-invariant-loop-i g l = let s = g.T.Terms.items l.list in Running s (length s) l.w l.i l.total l.lost
+invariant-loop-i g l = let s = g.T.Terms.items l.list in Running s (length s) l.edge l.i l.total l.lost

@@ -13,5 +13,5 @@ pub loop-i-preserved : goal.loop-i-preserved
 loop-i-preserved g c =
     let x = c.number.result in
     c.put_word.ensures ∙ ap (λ (l : List ℕ). laid l (8 * c.loop-i.i) x) c.loop-i.invariant
-    ∙ ap (laid (laid_words c.args.s.now c.args.column c.loop-i.i g.row.N) (8 * c.loop-i.i)) c.number.ensures
-    ∙ laid-next c.args.s.now c.args.column c.loop-i.i g.row.N (omega (arith, c.requires.bytes))
+    ∙ ap (laid (laid_words c.args.row.now c.args.column c.loop-i.i g.row.N) (8 * c.loop-i.i)) c.number.ensures
+    ∙ laid-next c.args.row.now c.args.column c.loop-i.i g.row.N (omega (arith, c.requires.bytes))

@@ -4,4 +4,4 @@ use Rattle.replay.specs.Row.{laid_words}
 use Rattle.replay.proofs.row.laid_words.Given as goal
 
 abbrev pub invariant-loop-i : goal.invariant-loop-i
-invariant-loop-i g l = l.bytes ≡ laid_words l.fn.s l.fn.column l.i g.row.N
+invariant-loop-i g l = l.bytes ≡ laid_words l.fn.row l.fn.column l.i g.row.N

@@ -1,4 +1,4 @@
-use Rattle.totals_spec.specs.Program.{program_text}
+use Rattle.totals_spec.specs.program.Program.{program_text}
 use Rattle.text.proofs.Pieces.{read_values, read_bad}
 use Rattle.text.proofs.Told.{told}
 use Rattle.text.proofs.answer.answer_to.Goals as goal

@@ -1,5 +1,5 @@
 use Rattle.std.proofs.Common.{◌*◌, ◌-◌, ap, ◌∙◌, subst, ℕ, List}
-use Rattle.totals_spec.specs.Program.{lines, line_value}
+use Rattle.totals_spec.specs.program.Program.{lines, line_value}
 use Rattle.text.specs.Reading.{first_line}
 use Rattle.text.specs.Reasons.{Tells}
 use Rattle.text.proofs.Lines.{front_of, first_bytes, no_value}

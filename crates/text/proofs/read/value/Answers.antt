@@ -1,7 +1,7 @@
 use Rattle.std.proofs.Common.{◌≡◌, ◌<◌, sym, ap, ◌∙◌, arith, ℕ, List, length, get_or}
 use Rattle.std.proofs.Math.Option.{some}
 use Rattle.std.proofs.lemmas.Grind.{common_steps}
-use Rattle.totals_spec.specs.Program.{hex_from}
+use Rattle.totals_spec.specs.program.Program.{hex_from}
 use Rattle.hexadecimal.specs.Digits.{option_of}
 use Rattle.text.proofs.Pieces.{short_line, long_line, whole_line}
 use Rattle.text.proofs.read.value.Goals as goal

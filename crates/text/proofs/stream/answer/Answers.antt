@@ -1,5 +1,5 @@
 use Rattle.std.proofs.Common.{◌≡◌, ◌∙◌, take}
-use Rattle.totals_spec.specs.Program.{program_text}
+use Rattle.totals_spec.specs.program.Program.{program_text}
 use Rattle.text.proofs.Streams.{Decides, read_decides, written-whole, written-part, left-behind, answered-whole, unanswered}
 use Rattle.text.specs.declared.stream.Failure.TheVariants.{Output}
 use Rattle.text.proofs.stream.answer.Goals as goal

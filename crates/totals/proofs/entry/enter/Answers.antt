@@ -1,11 +1,22 @@
 -- By the refusal.
+use Rattle.std.proofs.Common.{refl}
 use Rattle.reduction.specs.Answered.{answer_of}
+use Rattle.totals_spec.specs.sums.Totals.{refused}
+use Rattle.totals.specs.Refusal.{number_of, place_of}
+use Rattle.totals.proofs.Refusals.{number-some}
 use Rattle.totals.proofs.Written.{enters-written, enters-refused}
 use Rattle.totals.proofs.entry.enter.Goals as goal
 
-pub returns-then-a-ne0 : goal.returns-then-a-ne0
-returns-then-a-ne0 c = rw c.code.ensures (enters-refused (answer_of c.args.a) _ c.if-a-ne0.true)
+pub code-requires : goal.code-requires
+code-requires c = (rw c.in-Err.is at c.requires).place
 
-pub returns : goal.returns
-returns c =
-    enters-written (answer_of c.args.a) _ _ _ _ c.if-a-ne0.false c.requires.flags c.put_word.ensures c.put_word-2.ensures c.put_word-3.ensures
+pub returns-in-Err : goal.returns-in-Err
+returns-in-Err c =
+    let e = c.in-Err.refusal in
+    rw (c.in-Err.is, c.code.ensures) (enters-refused (refused (number_of e) (place_of e)) _ (number-some e))
+
+pub returns-in-Ok : goal.returns-in-Ok
+returns-in-Ok c =
+    rw c.in-Ok.is
+    (enters-written (answer_of c.in-Ok.record) _ _ _ _ refl (rw c.in-Ok.is at c.requires).flags c.put_word.ensures c.put_word-in-Ok.ensures
+    c.put_word-in-Ok-2.ensures)

@@ -6,7 +6,7 @@ use Rattle.totals.proofs.entry.tens_dot.Goals as goal
 pub returns-in_err-lengths : goal.returns-in_err-lengths
 returns-in_err-lengths c =
     let p = err_from_is_err_and c.from_residual.result c.from_residual.ensures.1 in
-    rw (p.1, p.2) (dot-turned _ _ _ _ _ _ (rw c.either_cut.ensures at (c.in_err-lengths.ensures {u = tt})))
+    rw (p.1, p.2) (dot-turned _ _ c.args.left.now _ _ _ (rw c.either_cut.ensures at (c.in_err-lengths.ensures {u = tt})))
 
 pub returns-in_err-env : goal.returns-in_err-env
 returns-in_err-env c =

@@ -7,7 +7,7 @@ use Rattle.totals.proofs.entry.tens_sum.Goals as goal
 pub returns-in_err-lengths : goal.returns-in_err-lengths
 returns-in_err-lengths c =
     let p = err_from_is_err_and c.from_residual.result c.from_residual.ensures.1 in
-    rw (p.1, p.2) (sum-turned _ _ _ _ _ _ (c.in_err-lengths.ensures {u = tt}))
+    rw (p.1, p.2) (sum-turned _ _ _ c.args.values.now _ _ (c.in_err-lengths.ensures {u = tt}))
 
 pub returns-in_err-env : goal.returns-in_err-env
 returns-in_err-env c =

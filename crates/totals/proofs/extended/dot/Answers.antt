@@ -1,8 +1,8 @@
 -- By whether an element is unsupported.
 use Rattle.std.proofs.Common.{refl, sym, ◌∙◌}
-use Rattle.totals_spec.specs.Extended.{kind4, extended, unsupported}
-use Rattle.totals_spec.proofs.Extended.{extended-dot-accepts}
-use Rattle.totals_spec.proofs.ExtendedTerms.{both-any}
+use Rattle.totals_spec.specs.ten_bytes.Extended.{kind4, extended, unsupported}
+use Rattle.totals_spec.proofs.ten_bytes.Totals.{extended-dot-accepts}
+use Rattle.totals_spec.proofs.ten_bytes.Terms.{both-any}
 use Rattle.reduction.proofs.Items.{ten-pairs-summable}
 use Rattle.reduction.proofs.Widths.{extended-known}
 use Rattle.totals.proofs.Tens.{dot-unsupported, dot-supported}

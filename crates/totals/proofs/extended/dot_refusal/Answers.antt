@@ -2,7 +2,7 @@
 use Rattle.std.proofs.Common.{ap, sym, ◌∙◌}
 use Rattle.std.proofs.lemmas.Result.{err_from_is_err_and}
 use borrow.Author.Tests.{not-true, not-false}
-use Rattle.totals_spec.proofs.ExtendedCalls.{tens-values}
+use Rattle.totals_spec.proofs.ten_bytes.Calls.{tens-values}
 use Rattle.totals.specs.Refusal.{number_of}
 use Rattle.totals.proofs.Tens.{dot-first, dot-unlike, dot-few}
 use Rattle.totals.proofs.extended.dot_refusal.Goals as goal

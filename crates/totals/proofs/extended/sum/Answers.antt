@@ -1,7 +1,7 @@
 -- By whether an element is unsupported.
 use Rattle.std.proofs.Common.{sym, ◌∙◌}
-use Rattle.totals_spec.specs.Extended.{kind4, extended}
-use Rattle.totals_spec.proofs.Extended.{extended-sum-accepts}
+use Rattle.totals_spec.specs.ten_bytes.Extended.{kind4, extended}
+use Rattle.totals_spec.proofs.ten_bytes.Totals.{extended-sum-accepts}
 use Rattle.reduction.proofs.Items.{tens-summable}
 use Rattle.reduction.proofs.Widths.{extended-known}
 use Rattle.totals.proofs.Tens.{sum-unsupported, sum-supported}

@@ -6,19 +6,19 @@ pub special-requires : goal.special-requires
 special-requires g c =
     let a = c.args in
     let h = c.requires in
-    let (encodes, alone) = early-asks a.f _ a.products a.infinity_first _ a.s.now _ c.decided.ensures.0 _ c.in-Some.is h.summable.0 h.summable.1 in
+    let (encodes, alone) = early-asks a.shape _ a.products a.infinity_first _ a.scan.now _ c.decided.ensures.0 _ c.in-Some.is h.summable.0 h.summable.1 in
     (h.known.0, encodes, alone)
 
 pub returns-in-Some : goal.returns-in-Some
 returns-in-Some g c =
     let a = c.args in
-    early-told a.f _ a.products a.infinity_first _ a.s.now _ c.decided.ensures.0 _ c.in-Some.is _ _ c.special.ensures
+    early-told a.shape _ a.products a.infinity_first _ a.scan.now _ c.decided.ensures.0 _ c.in-Some.is _ _ c.special.ensures
 
 pub within-requires : goal.within-requires
 within-requires g c =
     let a = c.args in
     let h = c.requires in
-    let b = exact-asks a.f _ a.products a.infinity_first _ a.s.now _ c.decided.ensures.0 c.in-None.is h.summable.0 h.summable.1 c.digits.ensures in
+    let b = exact-asks a.shape _ a.products a.infinity_first _ a.scan.now _ c.decided.ensures.0 c.in-None.is h.summable.0 h.summable.1 c.digits.ensures in
     (b.0, b.1, h.known.2)
 
 pub finish-requires : goal.finish-requires
@@ -28,12 +28,12 @@ pub returns-in-Ok : goal.returns-in-Ok
 returns-in-Ok g c =
     let a = c.args in
     let h = c.requires in
-    end-told a.f _ a.products a.infinity_first _ a.s.now _ c.decided.ensures.0 c.in-None.is h.summable.0 h.known.1 _ _
+    end-told a.shape _ a.products a.infinity_first _ a.scan.now _ c.decided.ensures.0 c.in-None.is h.summable.0 h.known.1 _ _
     (rw c.digits.ensures at c.in-Ok.ensures) _ c.finish.ensures
 
 pub returns-in-Err : goal.returns-in-Err
 returns-in-Err g c =
     let a = c.args in
     let h = c.requires in
-    stopped-told a.f _ a.products a.infinity_first _ a.s.now _ c.decided.ensures.0 c.in-None.is h.summable.0 h.known.1 _ _
+    stopped-told a.shape _ a.products a.infinity_first _ a.scan.now _ c.decided.ensures.0 c.in-None.is h.summable.0 h.known.1 _ _
     (rw c.digits.ensures at c.in-Err.ensures)

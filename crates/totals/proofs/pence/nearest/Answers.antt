@@ -1,21 +1,21 @@
 -- By where its highest bit stands.
 use Rattle.std.proofs.Common.{◌≡◌, ◌+◌, ◌-◌, ◌≤◌, ap₂, refl, ◌∙◌, arith, false}
-use Rattle.totals_spec.specs.Format.{origin, fall}
-use Rattle.totals_spec.proofs.Nearest.{penny}
+use Rattle.totals_spec.specs.formats.Format.{origin, fall}
+use Rattle.totals_spec.proofs.pence.NearestWhole.{penny}
 use Rattle.format.specs.Shapes.{shape_of}
-use Rattle.exact.specs.Joined.{end_of}
+use Rattle.exact.specs.Unrounded.{end_of}
 use Rattle.totals.proofs.Counted.{too_large, kept-fits, whole_is}
 use Rattle.totals.proofs.pence.nearest.Goals as goal
 
 pub returns-then-end-down : goal.returns-then-end-down
 returns-then-end-down c = λ x st.
-    too_large (shape_of c.args.f) c.args.v c.requires
+    too_large (shape_of c.args.shape) c.args.sum c.requires
     (omega (arith, c.if-end-down.true, c.length.ensures.0, c.fall-down.ensures.value, c.origin-one.ensures.value)) x st
 
 pub overflow_add-whole : goal.overflow_add-whole
 overflow_add-whole c =
-    let f = shape_of c.args.f in
-    let v = c.args.v in
+    let f = shape_of c.args.shape in
+    let v = c.args.sum in
     let fits : end_of v + fall f false ≤ origin f false + 63 =
     omega (arith, c.if-end-down.false, c.length.ensures.0, c.fall-down.ensures.value, c.origin-one.ensures.value) in
     let place : c.origin-one.result - c.fall-down.result ≡ penny f = ap₂ ◌-◌ c.origin-one.ensures.value c.fall-down.ensures.value in
@@ -23,8 +23,8 @@ overflow_add-whole c =
 
 pub returns : goal.returns
 returns c = λ x st.
-    let f = shape_of c.args.f in
-    let v = c.args.v in
+    let f = shape_of c.args.shape in
+    let v = c.args.sum in
     let fits : end_of v + fall f false ≤ origin f false + 63 =
     omega (arith, c.if-end-down.false, c.length.ensures.0, c.fall-down.ensures.value, c.origin-one.ensures.value) in
     let place : c.origin-one.result - c.fall-down.result ≡ penny f = ap₂ ◌-◌ c.origin-one.ensures.value c.fall-down.ensures.value in

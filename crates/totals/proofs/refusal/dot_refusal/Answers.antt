@@ -9,22 +9,22 @@ use Rattle.totals.proofs.refusal.dot_refusal.Goals as goal
 pub returns-in_err-asked : goal.returns-in_err-asked
 returns-in_err-asked c =
     let p = err_from_is_err_and c.from_residual.result c.from_residual.ensures.1 in
-    rw (p.1, p.2) (dot-first _ _ _ c.in_err-asked.ensures c.args.n c.args.m)
+    rw (p.1, p.2) (dot-first _ _ _ c.in_err-asked.ensures c.args.left c.args.right)
 
 pub returns-in_err-refuse_if : goal.returns-in_err-refuse_if
 returns-in_err-refuse_if c =
     let p = err_from_is_err_and c.from_residual-in_err-refuse_if.result c.from_residual-in_err-refuse_if.ensures.1 in
     let (other, is) = c.in_err-refuse_if.ensures {u = tt} in
-    rw (p.1, p.2) (ap number_of is ∙ dot-unlike _ _ (sym c.in_ok-asked.ensures.2) c.args.n c.args.m (not-true _ other))
+    rw (p.1, p.2) (ap number_of is ∙ dot-unlike _ _ (sym c.in_ok-asked.ensures.2) c.args.left c.args.right (not-true _ other))
 
 pub returns-in_err-few : goal.returns-in_err-few
 returns-in_err-few c =
     let p = err_from_is_err_and c.from_residual-in_err-few.result c.from_residual-in_err-few.ensures.1 in
     let same = not-false _ (c.in_ok-refuse_if.ensures {u = tt}) in
-    rw (p.1, p.2) (c.in_err-few.ensures {u = tt} ∙ dot-few _ _ (sym c.in_ok-asked.ensures.2) c.args.n c.args.m same)
+    rw (p.1, p.2) (c.in_err-few.ensures {u = tt} ∙ dot-few _ _ (sym c.in_ok-asked.ensures.2) c.args.left c.args.right same)
 
 pub returns : goal.returns
 returns c =
     let a = c.in_ok-asked.ensures in
     let same = not-false _ (c.in_ok-refuse_if.ensures {u = tt}) in
-    (a.0, a.1, sym (dot-few _ _ (sym a.2) c.args.n c.args.m same) ∙ sym (c.in_ok-few.ensures {u = tt}))
+    (a.0, a.1, sym (dot-few _ _ (sym a.2) c.args.left c.args.right same) ∙ sym (c.in_ok-few.ensures {u = tt}))

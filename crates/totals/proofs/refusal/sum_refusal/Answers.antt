@@ -8,22 +8,22 @@ use Rattle.totals.proofs.refusal.sum_refusal.Goals as goal
 pub returns-in_err-asked : goal.returns-in_err-asked
 returns-in_err-asked c =
     let p = err_from_is_err_and c.from_residual.result c.from_residual.ensures.1 in
-    rw (p.1, p.2) (sum-first _ _ _ c.in_err-asked.ensures c.args.u c.args.n)
+    rw (p.1, p.2) (sum-first _ _ _ c.in_err-asked.ensures c.args.summand c.args.count)
 
 pub returns-in_err-summand : goal.returns-in_err-summand
 returns-in_err-summand c =
     let p = err_from_is_err_and c.from_residual-in_err-summand.result c.from_residual-in_err-summand.ensures.1 in
     let (is, large) = c.in_err-summand.ensures in
-    rw (p.1, p.2) (ap number_of is ∙ sum-summand _ _ (sym c.in_ok-asked.ensures.2) c.args.u c.args.n large)
+    rw (p.1, p.2) (ap number_of is ∙ sum-summand _ _ (sym c.in_ok-asked.ensures.2) c.args.summand c.args.count large)
 
 pub returns-in_err-few : goal.returns-in_err-few
 returns-in_err-few c =
     let p = err_from_is_err_and c.from_residual-in_err-few.result c.from_residual-in_err-few.ensures.1 in
     let le = subst (λ (m : ℕ). m ≤ 2) c.in_ok-summand.ensures (summand-le c.in_ok-summand.summand) in
-    rw (p.1, p.2) (c.in_err-few.ensures {u = tt} ∙ sum-few _ _ (sym c.in_ok-asked.ensures.2) c.args.u c.args.n le)
+    rw (p.1, p.2) (c.in_err-few.ensures {u = tt} ∙ sum-few _ _ (sym c.in_ok-asked.ensures.2) c.args.summand c.args.count le)
 
 pub returns : goal.returns
 returns c =
     let a = c.in_ok-asked.ensures in
     let le = subst (λ (m : ℕ). m ≤ 2) c.in_ok-summand.ensures (summand-le c.in_ok-summand.summand) in
-    (a.0, a.1, c.in_ok-summand.ensures, sym (sum-few _ _ (sym a.2) c.args.u c.args.n le) ∙ sym (c.in_ok-few.ensures {u = tt}))
+    (a.0, a.1, c.in_ok-summand.ensures, sym (sum-few _ _ (sym a.2) c.args.summand c.args.count le) ∙ sym (c.in_ok-few.ensures {u = tt}))

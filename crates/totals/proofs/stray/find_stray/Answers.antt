@@ -4,8 +4,8 @@ use Rattle.std.proofs.lemmas.Iterator.{first_from_Range}
 use Rattle.totals.proofs.Search.{searched, word_wide}
 use Rattle.totals.proofs.stray.find_stray.Goals as goal
 
-pub returns-then-width-ge64 : goal.returns-then-width-ge64
-returns-then-width-ge64 g c = word_wide c.args.width _ c.if-width-ge64.true c.count-n.ensures.fit
+pub returns-then-width-ge-WORD_BITS : goal.returns-then-width-ge-WORD_BITS
+returns-then-width-ge-WORD_BITS g c = word_wide c.args.width _ c.if-width-ge-WORD_BITS.true c.count-count.ensures.fit
 
 pub returns : goal.returns
 returns g c =
@@ -13,4 +13,4 @@ returns g c =
     let m = c.ones-most.result in
     let found = first_from_Range _ _ _ c.find.result (λ (k : ℕ). m < get_or l k 0) (λ (k : ℕ). get_or l k 0 ≤ m) c.find.ensures.ran
     (λ x q k. search (rules, tests)) (λ x q k. search (rules, tests)) in
-    searched c.args.width m l _ c.ones-most.ensures (rw c.count-n.ensures.value at found)
+    searched c.args.width m l _ c.ones-most.ensures (rw c.count-count.ensures.value at found)

@@ -3,7 +3,7 @@ use Rattle.std.proofs.Common.{◌≡◌, ℕ, ◌+◌, ◌/◌, ◌^◌, sym, ap
 use Rattle.limbs.specs.Value.{value}
 use Rattle.limbs.proofs.Words.{words, value-lt}
 use Rattle.totals_spec.specs.Basics.{flag}
-use Rattle.totals_spec.specs.Chain.{boundary}
+use Rattle.totals_spec.specs.chain.Chain.{boundary}
 use Rattle.window.proofs.Numbers.{one_more}
 use Rattle.window.proofs.Units.multiple.Goals as goal
 use Rattle.window.proofs.Units.multiple.Goals.{then-up, else-up}

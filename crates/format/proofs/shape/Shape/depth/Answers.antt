@@ -1,5 +1,5 @@
 use Rattle.std.proofs.Common.{arith}
-use Rattle.totals_spec.specs.Format.{depth}
+use Rattle.totals_spec.specs.formats.Format.{depth}
 use Rattle.format.proofs.Shapes.{width_ge, width_le}
 use Rattle.format.proofs.shape.Shape.depth.Goals as goal
 

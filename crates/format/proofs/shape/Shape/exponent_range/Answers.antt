@@ -1,5 +1,5 @@
 use Rattle.std.proofs.Common.{refl, arith}
-use Rattle.totals_spec.specs.Format.{exponent_range}
+use Rattle.totals_spec.specs.formats.Format.{exponent_range}
 use Rattle.format.proofs.Shapes.{exponent_le, whole_le, range_of_others}
 use Rattle.format.proofs.shape.Shape.exponent_range.Goals as goal
 

@@ -1,8 +1,8 @@
 -- Both elements of the pair are there, and its term stands for its item.
 use Rattle.std.proofs.Common.{subst, sym, arith}
 use Rattle.format.specs.Environments.{env_of}
-use Rattle.arithmetic.specs.Gives.{Gives}
-use Rattle.scan.specs.Encodings.{pair_in}
+use Rattle.binary.specs.Gives.{Gives}
+use Rattle.reduction.specs.Encodings.{pair_in}
 use Rattle.reduction.proofs.Items.{pairs-count, pairs-mapped}
 use Rattle.reduction.proofs.terms.PairedTerms.term.Goals as goal
 
@@ -17,5 +17,5 @@ returns-clause-gives g c =
     let s = c.args.self.now in
     let f = pair_in (g.N.Numbers.encoding s.left) (env_of s.env) in
     let n = pairs-count f (g.N.Numbers.codes s.left) (g.N.Numbers.codes s.right) in
-    let at = pairs-mapped f _ _ c.args.i _ (omega (arith, n, c.requires)) (omega (arith, n, c.requires)) in
+    let at = pairs-mapped f _ _ c.args.index _ (omega (arith, n, c.requires)) (omega (arith, n, c.requires)) in
     subst (Gives c.pair_term.result) (sym at) c.pair_term.ensures

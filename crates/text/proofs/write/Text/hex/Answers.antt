@@ -1,5 +1,5 @@
 use Rattle.std.proofs.Common.{◌≡◌, ap, arith, length, take}
-use Rattle.totals_spec.specs.Program.{hex_text}
+use Rattle.totals_spec.specs.program.Program.{hex_text}
 use Rattle.text.proofs.Spelt.{hex-spelt, hex_length}
 use Rattle.text.proofs.write.Text.hex.Goals as goal
 

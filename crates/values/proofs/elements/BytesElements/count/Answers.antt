@@ -1,4 +1,4 @@
-use Rattle.totals_spec.proofs.Values.{values-small}
+use Rattle.totals_spec.proofs.entries.ValuesInBytes.{values-small}
 use Rattle.values.proofs.elements.BytesElements.count.Goals as goal
 
 pub returns-clause-fit : goal.returns-clause-fit

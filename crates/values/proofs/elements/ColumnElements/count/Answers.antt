@@ -1,6 +1,6 @@
 -- A column has a cell of each row.
 use Rattle.std.proofs.Common.{sym}
-use Rattle.totals_spec.proofs.Table.{column-length}
+use Rattle.totals_spec.proofs.lists.Columns.{column-length}
 use Rattle.values.proofs.Columns.{cells-fit}
 use Rattle.values.proofs.elements.ColumnElements.count.Goals as goal
 

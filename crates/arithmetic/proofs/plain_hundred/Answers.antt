@@ -1,8 +1,0 @@
--- The shift of a normal number is small, and its significand is not 0.
-use Rattle.std.proofs.Common.{rules}
-use Rattle.format.proofs.Layouts.{layout_bounds}
-use Rattle.arithmetic.proofs.Elements.{field-shift, normal-pos}
-use Rattle.arithmetic.proofs.plain_hundred.Goals as goal
-
-pub product-requires : goal.product-requires
-product-requires c = search (rules, layout_bounds, field-shift, normal-pos)

@@ -1,0 +1,4 @@
+mod Columns
+mod TableWritten
+mod RangeFigures
+mod RangeSettled

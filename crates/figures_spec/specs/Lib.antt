@@ -1,0 +1,3 @@
+-- Totals of tables, and of amounts known within a range.
+pub mod tables
+pub mod ranges

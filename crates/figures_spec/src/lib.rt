@@ -1,0 +1,3 @@
+// The definitions of the totals of tables and of ranges, and the theorems over them, are in specs/
+// and proofs/.
+#![tactic(auto)]

@@ -1,4 +1,0 @@
-pub mod Below
-pub mod Built
-pub mod Compared
-pub mod Lacking

@@ -1,8 +1,0 @@
-use Rattle.std.proofs.Common.{◌≡◌, ◌+◌, ◌*◌, ◌^◌, ◌≤◌}
-use Rattle.limbs.specs.Value.{Words, value}
-use Rattle.limbs.proofs.Words.{low}
-use Rattle.limbs_window.proofs.add_with.Given as goal
-
--- what the words below i leave: their sum, and the carry into the word i
-abbrev pub invariant-loop-i : goal.invariant-loop-i
-invariant-loop-i l = (l.carry ≤ 1) × Words 12 l.r × (value l.r + l.carry * 2 ^ (64 * l.i) ≡ value l.fn.a + l.fn.carry + low l.fn.b l.i)

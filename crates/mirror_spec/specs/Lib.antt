@@ -1,0 +1,4 @@
+-- Totals of negated lists.
+pub mod Mirror
+pub mod Promises
+pub mod Examples

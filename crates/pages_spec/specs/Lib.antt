@@ -1,0 +1,5 @@
+-- Pages, and the totals of their spans.
+pub mod Pages
+pub mod Conditions
+pub mod Promises
+pub mod Examples

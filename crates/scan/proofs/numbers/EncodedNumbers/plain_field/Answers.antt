@@ -1,6 +1,0 @@
--- The element at the index is the code.
-use Rattle.scan.proofs.Instances.{field-in}
-use Rattle.scan.proofs.numbers.EncodedNumbers.plain_field.Goals as goal
-
-pub returns : goal.returns
-returns g c = rw c.at.ensures at (field-in c.args.self.now.layout _ _ c.plain_field.ensures)

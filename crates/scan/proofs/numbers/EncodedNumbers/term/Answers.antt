@@ -1,7 +1,0 @@
--- The element at the index is the code.
-use Rattle.totals_spec.specs.Terms.{item}
-use Rattle.scan.proofs.numbers.EncodedNumbers.term.Goals as goal
-
-pub returns-clause-gives : goal.returns-clause-gives
-unfolding item
-returns-clause-gives g c = rw c.at.ensures at c.element_term.ensures.gives

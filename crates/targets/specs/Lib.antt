@@ -1,0 +1,4 @@
+pub mod Contributions
+pub mod Kept
+pub mod Targets
+pub mod Estimates

@@ -1,0 +1,2 @@
+-- The length of a list of values, by their kind.
+pub mod Lengths

@@ -1,0 +1,2 @@
+-- A named bias, and kind 4.
+pub mod Promises

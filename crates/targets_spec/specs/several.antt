@@ -1,0 +1,5 @@
+-- One total, several formats.
+pub mod Several
+pub mod Conditions
+pub mod Promises
+pub mod Examples

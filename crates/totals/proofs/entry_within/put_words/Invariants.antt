@@ -1,6 +1,0 @@
--- The first i words are laid.
-use Rattle.totals.proofs.EstimateWritten.{Puts}
-use Rattle.totals.proofs.entry_within.put_words.Given as goal
-
-abbrev pub invariant-loop-i : goal.invariant-loop-i
-invariant-loop-i l = Puts l.fn.words l.fn.answer l.answer l.fn.at l.i

@@ -1,9 +1,0 @@
-use Rattle.std.proofs.Common.{refl}
-use Rattle.further_spec.specs.Several.{reading_with}
-use Rattle.totals.proofs.several.reading.Goals as goal
-
-pub returns : goal.returns
-unfolding reading_with
-returns c =
-    let e = c.default.ensures in
-    rw (e.0, e.1.0, e.1.1.0, e.1.1.1.0, e.1.1.1.1.0, e.1.1.1.1.1.1.0, e.1.1.1.1.1.1.1) refl

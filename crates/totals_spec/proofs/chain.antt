@@ -1,0 +1,20 @@
+-- The chain of passes: what it keeps true, where it ends, and its limit.
+pub mod AlikeNumbers
+pub mod Binary64Limit
+pub mod ByChain
+pub mod CutParts
+pub mod EmptyPasses
+pub mod EndsAndEdges
+pub mod FreePass
+pub mod Invariant
+pub mod Margin
+pub mod NearPass
+pub mod PassLimit
+pub mod PassesOfRecords
+pub mod Reached
+pub mod RoundsAsTheSum
+pub mod Sizes
+pub mod TrueEdges
+pub mod VanishingBoundary
+pub mod WindowResidues
+pub mod WrappedSums

@@ -1,0 +1,2 @@
+-- Examples of sums and dots.
+pub mod Examples

@@ -1,0 +1,3 @@
+-- Rearrangements have one record.
+pub mod Order
+pub mod Rearrangements

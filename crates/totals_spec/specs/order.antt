@@ -1,0 +1,3 @@
+-- Rearrangements, and that they have one record.
+pub mod Rearranged
+pub mod Promises

@@ -1,0 +1,3 @@
+-- What the program writes for what it reads.
+pub mod Program
+pub mod Examples

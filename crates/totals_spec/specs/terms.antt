@@ -1,0 +1,2 @@
+-- The terms of a list and of a dot.
+pub mod Terms
