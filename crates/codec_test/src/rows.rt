@@ -8,6 +8,7 @@ ghost use Rattle.format.specs.Fits.{Encodes};
 ghost use Rattle.binary.specs.Nans.{nan_of};
 ghost use Rattle.exact.specs.Unrounded.{significand_of};
 
+use as_given::zeros::{zero_sum_is_negative, zero_sum_sign};
 use binary::nan::{Nan, select, selected};
 use binary::{decode, encode, is_plain, operand};
 use exact::{Unrounded, narrowed, round};
@@ -15,7 +16,7 @@ use format::Format;
 use format::env::Env;
 use format::flags::flag;
 use format::layout::Layout;
-use format::modes::{NanPropagation, Rounding, Tininess};
+use format::modes::{NanPropagation, Tininess};
 use format::settings::Settings;
 use format::shape::Shape;
 use format::unpacked::Unpacked;
@@ -271,19 +272,16 @@ pub fn settings_row(row: &[u8]) -> u64
         saturate: number(row, 14, 1),
         precision: number(row, 16, 2),
     };
-    // The sign of a zero is told by the mode, be the other settings in their ranges or not. A
-    // number above the last is to odd, as in totals_spec.
-    let mut by_mode = Env::default();
-    by_mode.rounding = Rounding::try_from(settings.rounding).unwrap_or(Rounding::ToOdd);
     let zeros = number(row, 19, 1);
     let all = number(row, 21, 1);
-    let sign = by_mode.zero_sum_sign(zeros % 2 == 1, zeros / 2 % 2 == 1);
+    // The sign of a zero is told of any settings, be they in their ranges or not.
+    let sign = zero_sum_sign(settings, zeros % 2 == 1, zeros / 2 % 2 == 1);
     let layout = Layout::new(format);
     let env = layout.and_then(|layout| Env::new(layout.shape, settings));
     count(&[
         layout.is_some() == (all % 2 == 1),
         env.is_some() == (all / 2 % 2 == 1),
         sign == (all / 4 % 2 == 1),
-        by_mode.zero_sum_is_negative() == (all / 8 % 2 == 1),
+        zero_sum_is_negative(settings) == (all / 8 % 2 == 1),
     ])
 }

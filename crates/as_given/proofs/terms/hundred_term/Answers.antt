@@ -1,0 +1,10 @@
+-- The settings are read alike.
+use Rattle.format.specs.Settings.{settings_of}
+use Rattle.format.specs.Layouts.{layout_of}
+use Rattle.as_given.proofs.Readings.{same_hundred}
+use Rattle.as_given.proofs.terms.hundred_term.Goals as goal
+
+pub returns : goal.returns
+returns c =
+    rw (← same_hundred (settings_of c.args.settings) _ c.read_settings.ensures (layout_of c.args.layout) c.args.bits)
+    c.hundred_term.ensures

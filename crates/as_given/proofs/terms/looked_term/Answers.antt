@@ -1,0 +1,13 @@
+-- The settings and the summand are read alike.
+use Rattle.format.specs.Settings.{settings_of}
+use Rattle.format.specs.Layouts.{layout_of}
+use Rattle.binary.specs.Summands.{summand_in}
+use Rattle.as_given.proofs.Readings.{same_item}
+use Rattle.as_given.proofs.terms.looked_term.Goals as goal
+
+pub returns-clause-stands_for : goal.returns-clause-stands_for
+returns-clause-stands_for c =
+    let same =
+    same_item (settings_of c.args.settings) _ c.read_settings.ensures (layout_of c.args.layout)
+    (summand_in c.read_summand.result) c.args.bits in
+    rw (← c.read_summand.ensures, ← same) c.looked_term.ensures.stands_for
