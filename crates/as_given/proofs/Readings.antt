@@ -10,6 +10,7 @@ use Rattle.totals_spec.specs.sums.Nan.{default_nan_of, by_rule, select_all}
 use Rattle.totals_spec.specs.sums.Totals.{towards_negative, sum_rounded, finite_total, without_nan, accepted}
 use Rattle.totals_spec.specs.terms.Terms.{Term, Item, item, item_of, pair_item, terms}
 use Rattle.totals_spec.specs.pence.Hundredfold.{hundred_item}
+use Rattle.totals_spec.specs.ten_bytes.Extended.{extended_operand, extended_item, extended_pair}
 use Rattle.binary.specs.Nans.{selected_by, selected_of}
 use Rattle.reduction.specs.declared.scan.Scan.{Scan}
 use Rattle.reduction.specs.declared.scan.Given.{Given}
@@ -37,6 +38,18 @@ module _ (given read : Settings) (alike : ReadAs given read) where
   pub same_pair : (f : Format) (x : ℕ × ℕ) → pair_item f read x ≡ pair_item f given x
   unfolding pair_item
   same_pair f x = rw (same_operand f x.0, same_operand f x.1) refl
+
+  pub same_extended : (b : ℕ) → extended_operand read b ≡ extended_operand given b
+  unfolding extended_operand
+  same_extended b = rw alike.denormals_are_zero refl
+
+  pub same_extended_item : (u : Summand) (b : ℕ) → extended_item read u b ≡ extended_item given u b
+  unfolding extended_item
+  same_extended_item u b = ap (item_of u) (same_extended b)
+
+  pub same_extended_pair : (x : ℕ × ℕ) → extended_pair read x ≡ extended_pair given x
+  unfolding extended_pair
+  same_extended_pair x = rw (same_extended x.0, same_extended x.1) refl
 
   -- ---- NaNs
 
