@@ -3,6 +3,7 @@ pub mod Steps
 pub mod Prefix
 pub mod Numbers
 pub mod Pieces
+pub mod Held
 pub mod Spelt
 pub mod Sums
 pub mod Lines

@@ -1,4 +1,5 @@
 pub mod Reading
+pub mod Holds
 pub mod FourLines
 pub mod Streams
 pub mod Reasons

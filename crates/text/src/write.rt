@@ -4,13 +4,14 @@ ghost use Rattle.std.specs.Prelude.{[], ◌∷◌, ◌++◌, ◌≡◌, ◌+◌,
 ghost use Rattle.totals_spec.specs.program.Program.{hex_text, decimal_text, refused_text, line_end};
 ghost use Rattle.text.specs.FourLines.{figure_text, four_lines};
 
-use arrayvec::ArrayVec;
 use std::marker::Model;
 
-/// A text that the program writes: at most 64 bytes, as which contracts see it.
-#[derive(Drop)]
+/// A text that the program writes: as many of its 64 bytes as its length says, and zeros behind
+/// them (`Holds` in specs/Holds.antt, of every text). Contracts see it as the list of its bytes.
+#[derive(Clone, Copy)]
 pub struct Text {
-    bytes: ArrayVec<u8, 64>,
+    pub length: usize,
+    pub bytes: [u8; 64],
 }
 
 impl Model for Text {
@@ -18,7 +19,15 @@ impl Model for Text {
 
     ghost Value = { List ℕ };
 
-    ghost view = { λ text. text.bytes.items };
+    ghost use Rattle.text.specs.Holds.{Holds, held, laid, laid_held};
+
+    ghost view = { held };
+
+    ghost invariant = { λ text. Holds text (held text) };
+
+    ghost inverse = { laid };
+
+    ghost inverse_ok = { laid_held };
 }
 
 // `write!` returns a Result, and what it promises does not say that it is Ok where the text has
@@ -28,7 +37,8 @@ impl Text {
         ensures { result ≡ [] }
     {
         Text {
-            bytes: ArrayVec::new(),
+            length: 0,
+            bytes: [0; 64],
         }
     }
 
@@ -37,16 +47,15 @@ impl Text {
         ensures value { result.now ≡ self.now }
         ensures fits { length result.now ≤ 64 }
     {
-        self.bytes.as_slice()
+        &self.bytes[..self.length]
     }
 
-    fn byte(mut self, byte: u8) -> Self
+    fn byte(self, byte: u8) -> Self
         requires { length self < 64 }
         ensures text { result ≡ self ++ byte ∷ [] }
         ensures len { length result ≡ length self + 1 }
     {
-        self.bytes.push(byte);
-        self
+        self.bytes(&[byte])
     }
 
     fn bytes(mut self, more: &[u8]) -> Self
@@ -54,7 +63,10 @@ impl Text {
         ensures text { result ≡ self ++ more.now }
         ensures len { length result ≡ length self + length more.now }
     {
-        let _fits = self.bytes.try_extend_from_slice(more);
+        let start = self.length;
+        let end = start + more.len();
+        self.bytes[start..end].copy_from_slice(more);
+        self.length = end;
         self
     }
 
