@@ -1,7 +1,10 @@
 -- How the program ends: what is left of its input, and what of the text is written, failures
 -- included.
-use Rattle.std.specs.Prelude.{◌≡◌, ◌<◌, ℕ, List, length, take, drop, Option, Some, Result, Ok, Err}
+use Rattle.std.specs.Prelude.{◌≡◌, ◌≢◌, ◌<◌, ℕ, List, length, take, drop}
+use Rattle.std.specs.Prelude.{Option, Some, Result, Ok, Err}
 use Rattle.std.specs.Io.KnownBytes.{Appends, Consumes, Keeps}
+use Rattle.std.specs.IoError.{error_kind}
+use Rattle.std.specs.declared.io.ErrorKind.TheVariants.{Interrupted}
 use Rattle.text.specs.declared.stream.Failure.{Failure}
 use Rattle.text.specs.declared.stream.Failure.TheVariants.{Input, Output}
 
@@ -28,3 +31,9 @@ abbrev pub IsWritten : {U : Type 0} → Result U Failure → (text : List ℕ)
 IsWritten (Ok u) text before after = Appends before after text
 IsWritten (Err (Input e)) text before after = Keeps before after
 IsWritten (Err (Output e)) text before after = AppendsPart before after text
+
+-- no write fails because it was interrupted: such a one is tried again
+abbrev pub IsTried : {U : Type 0} → Result U Failure → Type 0
+IsTried (Ok u) = Unit {0}
+IsTried (Err (Input e)) = Unit {0}
+IsTried (Err (Output e)) = error_kind e ≢ Interrupted

@@ -1,10 +1,12 @@
 //! Reading the input as far as it decides the text, and writing the text, through any reader and
 //! any writer.
 
-ghost use Rattle.std.specs.Prelude.{◌≡◌, ◌<◌, ◌≤◌, take, length, IfOk, IfSome, OnOk, OnErr};
+ghost use Rattle.std.specs.Prelude.{◌≡◌, ◌≢◌, ◌<◌, ◌≤◌, take, length};
+ghost use Rattle.std.specs.Prelude.{IfOk, IfErr, IfSome, OnOk, OnErr};
 ghost use Rattle.std.specs.Io.KnownBytes.{Appends, Consumes, IsAtEnd};
+ghost use Rattle.std.specs.IoError.{error_kind};
 ghost use Rattle.totals_spec.specs.program.Program.{program_text};
-ghost use Rattle.text.specs.Streams.{ConsumesFewer, AppendsPart, IsLeft, IsWritten};
+ghost use Rattle.text.specs.Streams.{ConsumesFewer, AppendsPart, IsLeft, IsWritten, IsTried};
 ghost use Rattle.text.specs.Answered.{IsAnswered};
 
 use crate::answer::{Answered, answer_to};
@@ -43,20 +45,27 @@ fn read_full<R: Read>(reader: &mut R, buffer: &mut [u8]) -> io::Result<usize>
     Ok(done)
 }
 
-// Writes all of some bytes. std's `write_all` does so too, and does not say what is written where
-// it fails.
+// Writes all of some bytes, and tries again where a write is interrupted, as often as std's
+// `write_all` does. That one does not say what is written where it fails.
 fn write_full<W: Write>(writer: &mut W, bytes: &[u8]) -> io::Result<()>
     ensures ok { OnOk result (Appends (W.contents writer.old) (W.contents writer.new) bytes.now) }
     ensures err { OnErr result
         (AppendsPart (W.contents writer.old) (W.contents writer.new) bytes.now) }
+    ensures tried { IfErr result (λ error. error_kind error ≢ ErrorKind.Interrupted) }
 {
+    let mut tries = u64::MAX;
     let mut written = 0;
     while written < bytes.len() {
-        let n = writer.write(&bytes[written..])?;
-        if n == 0 {
-            return Err(io::Error::from(ErrorKind::WriteZero));
+        if tries == 0 {
+            return Err(io::Error::from(ErrorKind::TimedOut));
         }
-        written += n;
+        tries -= 1;
+        match writer.write(&bytes[written..]) {
+            Ok(0) => return Err(io::Error::from(ErrorKind::WriteZero)),
+            Ok(n) => written += n,
+            Err(error) if error.kind() == ErrorKind::Interrupted => {}
+            Err(error) => return Err(error),
+        }
     }
     Ok(())
 }
@@ -64,7 +73,7 @@ fn write_full<W: Write>(writer: &mut W, bytes: &[u8]) -> io::Result<()>
 /// Reads an input as far as it decides its text, and writes the text of the whole input
 /// (docs/SPECIFICATION.md, "The program"). 8,192 lines of 17 bytes and one byte more decide it: no
 /// more is read. Tells whether the text is that of a total, or refuses a line, and then why. An
-/// `Err` says which end failed.
+/// `Err` says which end failed; a write that is interrupted is tried again.
 pub fn answer<R: Read, W: Write>(reader: &mut R, writer: &mut W) -> Result<Answered, Failure>
     ensures written { IfSome (R.remaining reader.old) (λ input.
         IsWritten result (program_text input) (W.contents writer.old) (W.contents writer.new)) }
@@ -72,6 +81,7 @@ pub fn answer<R: Read, W: Write>(reader: &mut R, writer: &mut W) -> Result<Answe
         IsLeft result input (R.remaining reader.new)) }
     ensures answered { IfSome (R.remaining reader.old) (λ input.
         IfOk result (λ answered. IsAnswered answered input)) }
+    ensures tried { IsTried result }
 {
     let mut input = [0u8; 139265];
     let n = match read_full(reader, &mut input) {

@@ -17,6 +17,7 @@ returns-in-Ok-write_full g c =
       written = written-whole known left bytes decides _ _ _ text c.in-Ok-write_full.ensures.ok;
       left = left-behind known left bytes decides;
       answered = answered-whole known left bytes decides _ c.answer_to-text.ensures.answered;
+      tried = tt;
     }
 
 pub returns-in-Err-write_full : goal.returns-in-Err-write_full
@@ -32,4 +33,5 @@ returns-in-Err-write_full g c =
       written = written-part known left bytes decides _ _ _ text c.in-Err-write_full.ensures.err;
       left = left-behind known left bytes decides;
       answered = unanswered known (Output c.in-Err-write_full.error);
+      tried = c.in-Err-write_full.ensures.tried;
     }

@@ -1,5 +1,5 @@
 -- what is in front of the place is what the writer took
-use Rattle.std.proofs.Common.{◌≤◌, ◌-◌, length, take}
+use Rattle.std.proofs.Common.{◌≤◌, length, take}
 use Rattle.std.specs.Io.KnownBytes.{Appends}
 use Rattle.text.proofs.stream.write_full.Given as goal
 
@@ -10,4 +10,4 @@ invariant-loop-written g l = record {
 }
 
 abbrev pub decreases-loop-written : goal.decreases-loop-written
-decreases-loop-written g l = length l.bytes - l.written
+decreases-loop-written g l = l.tries
