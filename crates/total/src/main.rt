@@ -5,8 +5,8 @@
 ghost use Rattle.std.specs.Prelude.{◌≡◌};
 ghost use Rattle.text.specs.Answered.{status_of};
 
+use std::env::{Env, FillError};
 use std::process::ExitCode;
-use std::{env, io};
 use text::answer::Answered;
 use text::stream::{Failure, answer};
 
@@ -34,21 +34,22 @@ enum Request {
     Version,
 }
 
-// What the arguments ask for, if they are right.
-fn asked(rt: &HostRuntime) -> io::Result<Option<Request>> {
-    let mut arguments = env::args(rt)?;
-    let _program = arguments.next();
-    let Some(first) = arguments.next() else {
-        return Ok(Some(Request::Total));
+// What the arguments ask for, if they are right. The program's own name, argument 0, may be any.
+fn asked(rt: &HostRuntime) -> Option<Request> {
+    let mut buffer = [0u8; 16];
+    let length = match rt.arg(1, &mut buffer) {
+        Ok(length) => length,
+        Err(FillError::NotPresent) => return Some(Request::Total),
+        Err(FillError::TooLong) => return None,
     };
-    if arguments.next().is_some() {
-        return Ok(None);
-    }
-    Ok(match first.as_str() {
-        "-h" | "--help" => Some(Request::Help),
-        "--version" => Some(Request::Version),
+    let Err(FillError::NotPresent) = rt.arg(2, &mut [0; 1]) else {
+        return None;
+    };
+    match &buffer[..length] {
+        b"-h" | b"--help" => Some(Request::Help),
+        b"--version" => Some(Request::Version),
         _ => None,
-    })
+    }
 }
 
 // The status that the program ends with after a total: 0, or 1 where there is none.
@@ -85,10 +86,10 @@ fn say(rt: &HostRuntime, text: &str) -> u8 {
 
 fn main(rt: HostRuntime) -> ExitCode {
     ExitCode::from(match asked(&rt) {
-        Ok(Some(Request::Total)) => total(&rt),
-        Ok(Some(Request::Help)) => say(&rt, USAGE),
-        Ok(Some(Request::Version)) => say(&rt, VERSION),
-        Ok(None) | Err(_) => {
+        Some(Request::Total) => total(&rt),
+        Some(Request::Help) => say(&rt, USAGE),
+        Some(Request::Version) => say(&rt, VERSION),
+        None => {
             let _said = eprintln!(rt;
                 "total: the arguments are wrong; total --help says which there are"
             );
