@@ -12,6 +12,19 @@ use rows::{decode_row, format_row, nan_row, round_row, settings_row};
 use std::io;
 use std::io::{ErrorKind, Read};
 
+// Fills a row as far as the input goes: what it does not have stays zero.
+fn read_row(rt: &HostRuntime, row: &mut [u8]) -> io::Result<()> {
+    let mut done = 0;
+    while done < row.len() {
+        let n = rt.stdin().read(&mut row[done..])?;
+        if n == 0 {
+            break;
+        }
+        done += n;
+    }
+    Ok(())
+}
+
 // How many answers of the next n rows, each of N bytes, agree, by a function that tells it of one
 // row.
 fn next_rows<const N: usize, F: Fn(&[u8]) -> u64>(
@@ -28,7 +41,7 @@ fn next_rows<const N: usize, F: Fn(&[u8]) -> u64>(
     let mut agreed: u64 = 0;
     for _ in 0..count {
         let mut row = [0u8; N];
-        rt.stdin().read_exact(&mut row)?;
+        read_row(rt, &mut row)?;
         agreed += agreeing(&row);
     }
     Ok(agreed)
@@ -64,7 +77,7 @@ fn told<const N: usize, F: Fn(&[u8]) -> u64>(
 {
     for _ in 0..count {
         let mut row = [0u8; N];
-        rt.stdin().read_exact(&mut row)?;
+        read_row(rt, &mut row)?;
         if agreeing(&row) != right {
             return Err(io::Error::from(ErrorKind::InvalidData));
         }
@@ -76,7 +89,7 @@ fn told<const N: usize, F: Fn(&[u8]) -> u64>(
 // changed, each of which has to be told as wrong.
 fn control(rt: &HostRuntime) -> io::Result<()> {
     let mut head = [0u8; 25];
-    rt.stdin().read_exact(&mut head)?;
+    read_row(rt, &mut head)?;
     let decodings = number(&head, 0, 4) % 65536;
     let nans = number(&head, 5, 4) % 65536;
     let roundings = number(&head, 10, 4) % 65536;
@@ -93,7 +106,7 @@ fn control(rt: &HostRuntime) -> io::Result<()> {
 
 fn main(rt: HostRuntime) -> io::Result<()> {
     let mut head = [0u8; 25];
-    rt.stdin().read_exact(&mut head)?;
+    read_row(&rt, &mut head)?;
     let decodings = number(&head, 0, 4) % 65536;
     let nans = number(&head, 5, 4) % 65536;
     let roundings = number(&head, 10, 4) % 65536;

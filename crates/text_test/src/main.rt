@@ -13,8 +13,8 @@ use std::io;
 use std::io::{ErrorKind, Read};
 use text::answer_text;
 
-// Whether the text that a row expects is that of its input: as bytes, and through readers and
-// writers.
+// Whether the text that a row expects is that of its input: as bytes, zeros behind them, and
+// through readers and writers.
 #[derive(Clone, Copy)]
 struct Agrees {
     bytes: bool,
@@ -24,15 +24,27 @@ struct Agrees {
 fn compared(row: &[u8; 589]) -> io::Result<Agrees> {
     let size = number(row, 576, 5) as usize;
     let n = number(row, 582, 3) as usize;
-    let length = (number(row, 586, 2) as usize).min(64);
+    let length = number(row, 586, 2) as usize;
     let mut input: ArrayVec<u8, 139281> = ArrayVec::new();
-    input.extend(row.iter().copied().take(n).cycle().take(size))?;
-    let wanted = &row[512..512 + length];
+    input.extend(row.iter().copied().take(n).cycle().take(size.min(139281)))?;
     let text = answer_text(&input);
     Ok(Agrees {
-        bytes: text.as_bytes() == wanted,
-        streams: streams::agrees(&input, wanted),
+        bytes: text.length == length && text.bytes.as_slice() == &row[512..576],
+        streams: streams::agrees(&input, &row[512..512 + length.min(64)]),
     })
+}
+
+// Fills a row as far as the input goes: what it does not have stays zero.
+fn read_row(rt: &HostRuntime, row: &mut [u8]) -> io::Result<()> {
+    let mut done = 0;
+    while done < row.len() {
+        let n = rt.stdin().read(&mut row[done..])?;
+        if n == 0 {
+            break;
+        }
+        done += n;
+    }
+    Ok(())
 }
 
 // How many rows follow.
@@ -40,13 +52,13 @@ fn count(rt: &HostRuntime) -> io::Result<u64>
     ensures { IfOk result (λ n. n < 65536) }
 {
     let mut head = [0u8; 5];
-    rt.stdin().read_exact(&mut head)?;
+    read_row(rt, &mut head)?;
     Ok(number(&head, 0, 4) % 65536)
 }
 
 fn next(rt: &HostRuntime) -> io::Result<Agrees> {
     let mut row = [0u8; 589];
-    rt.stdin().read_exact(&mut row)?;
+    read_row(rt, &mut row)?;
     compared(&row)
 }
 

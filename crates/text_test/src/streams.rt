@@ -1,5 +1,5 @@
-//! A reader that gives few bytes at a time, and a writer that takes few. Each fails after some
-//! bytes, or does not.
+//! A reader that gives few bytes at a time, and a writer that takes few and is interrupted before
+//! it takes any. Each fails after some bytes, or does not.
 
 use arrayvec::ArrayVec;
 use std::io;
@@ -28,16 +28,23 @@ impl Read for ShortReader<'_> {
     }
 }
 
-// The bytes that were taken, the most that one write takes, and how many are taken before it fails.
+// The bytes that were taken, the most that one write takes, how many are taken before it fails, and
+// whether the next write is interrupted: each other one is.
 #[derive(Drop)]
 struct ShortWriter {
     taken: ArrayVec<u8, 64>,
     most: usize,
     room: usize,
+    interrupted: bool,
 }
 
 impl Write for ShortWriter {
     fn write(&mut self, bytes: &[u8]) -> io::Result<usize> {
+        let interrupted = self.interrupted;
+        self.interrupted = !interrupted;
+        if interrupted {
+            return Err(Error::from(ErrorKind::Interrupted));
+        }
         let room = self.room.min(64).saturating_sub(self.taken.len());
         if room == 0 {
             return Err(Error::from(ErrorKind::StorageFull));
@@ -57,6 +64,7 @@ fn writer_with(room: usize) -> ShortWriter {
         taken: ArrayVec::new(),
         most: 7,
         room,
+        interrupted: true,
     }
 }
 
