@@ -1,6 +1,5 @@
 // The arithmetic on settings, modes and summands as the numbers that a caller gave, whatever they
 // are: each is read as the definitions read it, and then it is that of the types in their ranges.
-// And the record of a target, of what any sum leaves to round (`targets`).
 #![tactic(auto)]
 
 /// Modes of any number.
@@ -15,8 +14,6 @@ pub mod scans;
 pub mod settings;
 /// Summands of any number.
 pub mod summands;
-/// Sums rounded into a target.
-pub mod targets;
 /// Operands and terms of values of ten bytes.
 pub mod tens;
 /// The terms of elements and of pairs.

@@ -115,6 +115,14 @@ pub record Into (f t : spec.Format) (c : env.Settings) (end : ExactSum) : Type 0
   pub settings : SettingsBounds t c
   pub digits_le : spec.digits t ≤ spec.digits f
 
+-- a value left of some sum of a list in the format f, and a target t that it can be rounded into,
+-- under the target's settings
+pub record LeftInto (f t : spec.Format) (c : env.Settings) (value : Unrounded) : Type 0 where
+  pub sum : Signed
+  pub left : LeftOf (spec.digits f) sum value
+  pub settings : SettingsBounds t c
+  pub digits_le : spec.digits t ≤ spec.digits f
+
 -- the record of a rounding, and of the chain behind it
 abbrev pub record_of : (subnormal : Bool) → (encoding : ℕ) → Rounded → (passes : ℕ) → (last_edge : ℤ) → totals.Answer
 record_of subnormal encoding rounded passes edge = record {

@@ -19,8 +19,8 @@ ghost use Rattle.format.specs.Unpacked.{unpacked_of};
 ghost use Rattle.format.specs.Fits.{Encodes};
 ghost use Rattle.window.specs.Chain.{outcome_of, run_of, Ended, LeftOf};
 ghost use Rattle.reduction.specs.Answered.{wide, Known, words_as, written_as, answer_of, Reports};
-ghost use Rattle.reduction.specs.Answered.{CanRound, LeavesSum, RoundedSum, Into, sum_record};
-ghost use Rattle.reduction.specs.Answered.{target_record, record_of, last_edge_of};
+ghost use Rattle.reduction.specs.Answered.{CanRound, LeavesSum, RoundedSum, Into, LeftInto};
+ghost use Rattle.reduction.specs.Answered.{sum_record, target_record, record_of, last_edge_of};
 
 use binary::encode;
 use binary::extended::encode as encode_ten;
@@ -235,28 +235,41 @@ pub fn finish(shape: Shape, env: Env, products: bool, subnormal: bool, sum: Exac
     finish_left(shape, env, products, subnormal, left, sum.passes, sum.edge)
 }
 
-/// The record of a target (docs/SPECIFICATION.md, Targets): the sum of a list in one format,
-/// rounded once into another. Counted from a unit that lies lower by the target's depth and the
-/// list's fall, the target's least number has a position, wherever its grid lies. Passes and last
-/// edge are the list's.
+/// The record of a target (docs/SPECIFICATION.md, Targets): a sum in one format of which `left` is
+/// left, rounded once into another. Counted from a unit that lies lower by the target's depth and
+/// the list's fall, the target's least number has a position, wherever its grid lies. Passes and
+/// last edge are the list's, and as they are given.
+pub fn print_left(
+    shape: Shape,
+    target: Layout,
+    env: Env,
+    subnormal: bool,
+    passes: u64,
+    last_edge: i64,
+    left: Unrounded,
+) -> Answer
+    requires { LeftInto (shape_of shape) (layout_of target) (env_of env) left }
+    ensures { (x : Signed) (run : Run) → LeftOf (spec.digits (shape_of shape)) x left
+        → passes ≡ run.passes → last_edge ≡ last_edge_of (shape_of shape) false run.edge
+        → answer_of result
+        ≡ target_record (shape_of shape) (layout_of target) (env_of env) subnormal x run }
+{
+    let grid = shape.origin(false) + target.shape.lift();
+    let up = target.shape.depth() + shape.fall(false);
+    let rounded = round_sum(target.shape, env, grid, up, left);
+    let encoding = encode(target, rounded.value);
+    recorded(subnormal, encoding, rounded, passes, last_edge)
+}
+
+/// The record of a target, of the sum that a chain of passes ends with.
 pub fn print(shape: Shape, target: Layout, env: Env, subnormal: bool, sum: ExactSum) -> Answer
     requires { Into (shape_of shape) (layout_of target) (env_of env) sum }
     ensures { answer_of result ≡ target_record (shape_of shape) (layout_of target) (env_of env)
         subnormal (settled.settled (outcome_of sum)) (run_of sum) }
 {
     let left = left(shape.digits(), sum);
-    let grid = shape.origin(false) + target.shape.lift();
-    let up = target.shape.depth() + shape.fall(false);
-    let rounded = round_sum(target.shape, env, grid, up, left);
-    let value = rounded.value;
     let last_edge = place(shape, false, sum.edge);
-    recorded(
-        subnormal,
-        encode(target, value),
-        rounded,
-        sum.passes,
-        last_edge,
-    )
+    print_left(shape, target, env, subnormal, sum.passes, last_edge, left)
 }
 
 /// The record of a target where the list has no term: a zero, by the signs of the listed zeros.
