@@ -2,35 +2,33 @@
 -- of at most the list's digits, wherever the target's grid lies; and in the list's own format a
 -- target's record is the plain sum's.
 use mathlib.Core.Path.{◌≡◌, subst, ◌∙◌, refl, sym, ap}
-use mathlib.Core.Bool.{false, Bool, true, not, ◌&&◌, ◌||◌, cond}
+use mathlib.Core.Bool.{false, Bool, true, not, ◌&&◌, ◌||◌}
 use mathlib.Core.List.{List, [], ◌∷◌}
 use Prim.Native.Nat.{ℕ, ◌≤◌, ◌+◌}
 use lib.ListN.{length}
 use lib.Dec.{T, leb, ltb, leb→le}
 use borrow.Author.Tests.{ltb-false}
 use native.Mathlib.Nat.{suc-ne-zero}
-use lib.IntN.{ℤ, pos, sub_ℕ}
 use Rattle.totals_spec.specs.Basics.{any}
 use Rattle.totals_spec.specs.formats.Bounds.{FormatBounds, SettingsBounds}
-use Rattle.totals_spec.specs.formats.Format.{Format, digits, valid_format, origin, fall}
+use Rattle.totals_spec.specs.formats.Format.{Format, digits, valid_format}
 use Rattle.totals_spec.specs.formats.Settings.{Settings, valid_settings, value}
-use Rattle.totals_spec.specs.sums.Totals.{limit, stray, sum_terms, Answer, special}
+use Rattle.totals_spec.specs.sums.Totals.{limit, stray, sum_terms, Answer}
 use Rattle.totals_spec.specs.sums.Totals.{towards_negative, sum_refusal, refuse_if, finite_total}
 use Rattle.totals_spec.specs.sums.Promises.{AllFinite, zero_for}
-use Rattle.totals_spec.specs.formats.Decode.{decode, is_number, is_subnormal, zero_of}
+use Rattle.totals_spec.specs.formats.Decode.{decode, is_number, is_subnormal}
 use Rattle.totals_spec.specs.pence.Pence.{not_number}
 use Rattle.totals_spec.specs.rounding.IntoFormat.{unrounded_total, exact_total, printed_items}
 use Rattle.totals_spec.specs.rounding.IntoFormat.{reading_with, target_grid, on_target}
-use Rattle.totals_spec.specs.rounding.IntoFormat.{rounded_into, printed, with_reading}
-use Rattle.totals_spec.specs.terms.Terms.{Term, Item, terms, exact_sum}
-use Rattle.totals_spec.specs.chain.Chain.{zero_sum, Run, chain}
+use Rattle.totals_spec.specs.rounding.IntoFormat.{rounded_into, with_reading}
+use Rattle.totals_spec.specs.terms.Terms.{Term, Item, terms}
 use Rattle.totals_spec.proofs.order.Order.{or_split, first-zero}
 use Rattle.totals_spec.proofs.formats.Valid.{and_left, and_right, format-bounds, settings-bounds}
 use Rattle.totals_spec.proofs.chain.PassesOfRecords.{valid-of}
 use Rattle.totals_spec.proofs.rounding.IntoFormat.{list_right, rounds-alike, printed-alike}
 use Rattle.totals_spec.proofs.rounding.IntoFormat.{items_of, printed-side, rounded-reading}
 use Rattle.totals_spec.proofs.rounding.IntoFormat.{toward-reading, settings-reading, items-reading}
-use Rattle.totals_spec.proofs.rounding.IntoFormat.{own-items}
+use Rattle.totals_spec.proofs.rounding.IntoFormat.{own-items, printed-ran}
 use Rattle.totals_spec.proofs.sums.FiniteLists.{some-term, sum-finite}
 use Rattle.totals_spec.proofs.sums.ZeroTotals.{zero-record}
 use Rattle.totals_spec.proofs.sums.Sides.{SideAt}
@@ -115,31 +113,6 @@ target-side f d l t c r =
     (printed-side f t c (any (is_subnormal f) l) (items_of f d l) (target-accepts f d l t c r).format.range)
 
 -- ---- one run of passes: the chain and its edge are the list's alone
-
-abbrev ran_of : Format → List Term → Run
-ran_of f ts = cond (any (λ x. true) ts) (chain (digits f) ts) (record { outcome = zero_sum; passes = 0; edge = 0 })
-
-abbrev edge_of : Format → List Term → ℤ
-edge_of f ts = cond (any (λ x. true) ts) (sub_ℕ ((chain (digits f) ts).edge + fall f false) (origin f false)) (pos 0)
-
-printed-ran : (f t : Format) (c : Settings) (sub : Bool) (l : List Item) → let r = printed_items f t c sub l in
-    (r.passes ≡ (ran_of f (terms l)).passes) × (r.last_edge ≡ edge_of f (terms l))
-unfolding printed_items printed special
-printed-ran f t c sub l = go (any (λ x. true) (terms l))
-  where
-    ts : List Term
-    ts = terms l
-
-    some : Answer
-    some = printed f t sub (exact_sum (terms l)) (rounded_into f t c (exact_sum (terms l))) (chain (digits f) (terms l))
-
-    none : Answer
-    none = special t sub (zero_of (zero_for c l)) false
-
-    go : (b : Bool) → ((cond b some none).passes ≡ (cond b (chain (digits f) ts) (record { outcome = zero_sum; passes = 0; edge = 0 })).passes)
-        × ((cond b some none).last_edge ≡ cond b (sub_ℕ ((chain (digits f) ts).edge + fall f false) (origin f false)) (pos 0))
-    go true = unfold printed in (refl, refl)
-    go false = unfold special in (refl, refl)
 
 pub target-passes : Target-passes
 target-passes f d l t t' c c' r r' =

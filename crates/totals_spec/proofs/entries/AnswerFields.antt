@@ -55,7 +55,8 @@ abbrev Few : Rounded → Type 0
 Few r = r.flags < 128
 
 few-beyond : (k : Kind) (v : Unpacked) (s : Bool) → Few (beyond k v s)
-few-beyond ieee v s = omega arith
+few-beyond ieee v true = omega arith
+few-beyond ieee v false = omega arith
 few-beyond no_inf v s = omega arith
 few-beyond fnuz v s = omega arith
 few-beyond finite_only v s = omega arith

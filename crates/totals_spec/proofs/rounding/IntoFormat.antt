@@ -7,12 +7,13 @@ use Prim.Native.Nat.{ℕ, ◌+◌, ◌≤◌, ◌^◌}
 use native.Mathlib.Omega.{arith}
 use mathlib.Core.Logic.{inl, inr}
 use lib.ListN.{length}
+use lib.IntN.{ℤ, pos, sub_ℕ}
 use native.Mathlib.Nat.{le_trans, zero-mul}
 use borrow.Author.Tests.{le-leb}
 use Rattle.totals_spec.specs.Basics.{Signed, raised, difference, any}
 use Rattle.totals_spec.specs.formats.Format.{depth, room, origin, fall, grid, rise, Format, digits}
 use Rattle.totals_spec.specs.sums.Totals.{sum_rounded, towards_negative, limit, sum_terms, special}
-use Rattle.totals_spec.specs.sums.Totals.{reported, finite_total, on_grid}
+use Rattle.totals_spec.specs.sums.Totals.{reported, finite_total, on_grid, Answer}
 use Rattle.totals_spec.specs.rounding.IntoFormat.{target_grid, on_target, rounded_into}
 use Rattle.totals_spec.specs.rounding.IntoFormat.{reading_with, unrounded_total, exact_total}
 use Rattle.totals_spec.specs.rounding.IntoFormat.{printed, printed_items, with_reading}
@@ -20,7 +21,7 @@ use Rattle.totals_spec.specs.rounding.Promises.{Target-means, Target-rounds, Tar
 use Rattle.totals_spec.specs.formats.Bounds.{FormatBounds, SettingsBounds, RangeBounds}
 use Rattle.totals_spec.specs.formats.Settings.{value, Settings, valid_settings, precision_of}
 use Rattle.totals_spec.specs.terms.Terms.{item, Item, Term, terms, exact_sum, plus_sum, minus_sum}
-use Rattle.totals_spec.specs.chain.Chain.{Run, chain}
+use Rattle.totals_spec.specs.chain.Chain.{Run, chain, zero_sum}
 use Rattle.totals_spec.specs.formats.Decode.{Unpacked, zero_of, operand, decode}
 use Rattle.totals_spec.specs.rounding.Side.{side_of, rounded_side}
 use Rattle.totals_spec.specs.sums.Promises.{zero_for}
@@ -112,6 +113,33 @@ printed-side f t c sub l b = go (terms l) (zero_for c l)
         (back-zero t b (λ (v : Unpacked). side_of 0 v (record { neg = false; mag = 0 }) ≡ side_of (target_grid f t) v (record { neg = false; mag = 0 }))
         (λ s. refl) minus)
     go (x ∷ ts) minus = unfold printed in refl
+
+-- the passes and the last edge are those of the list's own chain
+
+abbrev pub ran_of : Format → List Term → Run
+ran_of f ts = cond (any (λ x. true) ts) (chain (digits f) ts) (record { outcome = zero_sum; passes = 0; edge = 0 })
+
+abbrev pub edge_of : Format → List Term → ℤ
+edge_of f ts = cond (any (λ x. true) ts) (sub_ℕ ((chain (digits f) ts).edge + fall f false) (origin f false)) (pos 0)
+
+pub printed-ran : (f t : Format) (c : Settings) (sub : Bool) (l : List Item) → let r = printed_items f t c sub l in
+    (r.passes ≡ (ran_of f (terms l)).passes) × (r.last_edge ≡ edge_of f (terms l))
+unfolding printed_items printed special
+printed-ran f t c sub l = go (any (λ x. true) (terms l))
+  where
+    ts : List Term
+    ts = terms l
+
+    some : Answer
+    some = printed f t sub (exact_sum (terms l)) (rounded_into f t c (exact_sum (terms l))) (chain (digits f) (terms l))
+
+    none : Answer
+    none = special t sub (zero_of (zero_for c l)) false
+
+    go : (b : Bool) → ((cond b some none).passes ≡ (cond b (chain (digits f) ts) (record { outcome = zero_sum; passes = 0; edge = 0 })).passes)
+        × ((cond b some none).last_edge ≡ cond b (sub_ℕ ((chain (digits f) ts).edge + fall f false) (origin f false)) (pos 0))
+    go true = unfold printed in (refl, refl)
+    go false = unfold special in (refl, refl)
 
 -- ---- denormals-are-zero has no part in a rounding, and nothing else has one in reading a list
 

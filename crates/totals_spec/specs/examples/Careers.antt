@@ -130,11 +130,12 @@ side_examples =
     leans_to 0x3c01 0x50 2 (sum_answer binary16 (with_rounding 3) 0 (0x3c00 ∷ 0x1000 ∷ []))
     && leans_to 0xbc00 0x10 2 (sum_answer binary16 (with_rounding 3) 0 (0xbc00 ∷ 0x9000 ∷ []))
     && leans_to 0xbc01 0x50 1 (sum_answer binary16 (with_rounding 4) 0 (0xbc00 ∷ 0x9000 ∷ []))
-    -- the largest number twice: toward zero, of either sign, and to an infinity; NoInf's NaN, and
-    -- in Finite the largest number itself
+    -- the largest number twice: toward zero and to an infinity, of either sign; NoInf's NaN, and in
+    -- Finite the largest number itself
     && leans_to 0x7bff 0x14 1 (sum_answer binary16 (with_rounding 5) 0 (0x7bff ∷ 0x7bff ∷ []))
     && leans_to 0xfbff 0x14 2 (sum_answer binary16 (with_rounding 5) 0 (0xfbff ∷ 0xfbff ∷ []))
     && leans_to 0x7c00 0x54 3 (sum_answer binary16 (with_rounding 0) 0 (0x7bff ∷ 0x7bff ∷ []))
+    && leans_to 0xfc00 0x54 3 (sum_answer binary16 (with_rounding 4) 0 (0xfbff ∷ 0xfbff ∷ []))
     && leans_to 0x7f 0x14 3
     (sum_answer (record { kind = 1; E = 4; W = 8; named = none }) (with_rounding 0) 0
     (0x7e ∷ 0x7e ∷ []))
