@@ -1,18 +1,36 @@
 // Standard input: rows of one length after another.
 ghost use Rattle.std.specs.Prelude.{◌++◌, ◌^◌, ◌<◌, ◌≤◌, IfOk, OnOk};
-ghost use Rattle.std.specs.Io.KnownBytes.{Appends, Consumes};
+ghost use Rattle.std.specs.Io.KnownBytes.{Appends};
 ghost use Rattle.replay.specs.Row.{disagrees};
+ghost use Rattle.replay.specs.Streams.{ConsumesFront};
 
 use std::io;
 use std::io::{Read, Write};
 
-// The next N bytes.
+// Fills a buffer as far as the input goes, and leaves what is behind.
+fn fill<R: Read>(from: &mut R, buffer: &mut [u8]) -> io::Result<()>
+    ensures { OnOk result
+        (ConsumesFront (R.remaining from.old) (R.remaining from.new) buffer.new) }
+{
+    let mut done = 0;
+    while done < buffer.len() {
+        let n = from.read(&mut buffer[done..])?;
+        if n == 0 {
+            break;
+        }
+        done += n;
+    }
+    Ok(())
+}
+
+// The next N bytes. Where the input ends early, zeros stand for those that it does not have.
 pub fn next<const N: usize, R: Read>(from: &mut R) -> io::Result<[u8; N]>
     requires { N < 2 ^ 63 }
-    ensures { IfOk result (λ bytes. Consumes (R.remaining from.old) (R.remaining from.new) bytes) }
+    ensures { IfOk result
+        (λ bytes. ConsumesFront (R.remaining from.old) (R.remaining from.new) bytes) }
 {
     let mut bytes = [0u8; N];
-    from.read_exact(&mut bytes)?;
+    fill(from, &mut bytes)?;
     Ok(bytes)
 }
 
