@@ -1,5 +1,6 @@
 -- A text that grows: more bytes stand in the place of as many zeros.
-use Rattle.std.proofs.Common.{◌≡◌, ◌∙◌, refl, sym, ap, ap₂, subst, ℕ, List, ◌+◌, ◌-◌, ◌++◌, ◌≤◌, length, take, drop, arith, length-append, append_assoc}
+use Rattle.std.proofs.Common.{◌≡◌, ◌∙◌, refl, sym, ap, ap₂, subst, ℕ, List, ◌+◌, ◌-◌, ◌++◌, ◌≤◌}
+use Rattle.std.proofs.Common.{length, take, drop, arith, length-append, append_assoc}
 use Rattle.std.specs.Prelude.{replicate}
 use Rattle.std.proofs.lemmas.List.{take_at, drop_at, drop-replicate}
 use borrow.Rule.Slice.PartMut.{put_mid}
@@ -26,7 +27,9 @@ module _ (t : Inside) (more : List ℕ) (h : Holds t (held t)) (room : t.length 
   holds_more = record {
     fits = rw length-append (omega (arith, h.length-is, room));
     length-is = rw length-append (omega (arith, h.length-is));
-    bytes-are = ap (λ (l : List ℕ). held t ++ (more ++ l)) (behind (t.length + length more - t.length) (omega arith)) ∙ sym (append_assoc (held t) more (replicate (64 - length (held t ++ more)) 0));
+    bytes-are =
+        ap (λ (l : List ℕ). held t ++ (more ++ l)) (behind (t.length + length more - t.length) (omega arith))
+        ∙ sym (append_assoc (held t) more (replicate (64 - length (held t ++ more)) 0));
   }
 
   pub grown_holds : (put : List ℕ) → put ≡ more → Holds (grown t (length more) put) (held (grown t (length more) put))

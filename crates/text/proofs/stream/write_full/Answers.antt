@@ -10,5 +10,7 @@ take_more bytes at n = ap (λ (l : List ℕ). take at bytes ++ take n l) (take_r
 pub loop-written-preserved-in-Ok : goal.loop-written-preserved-in-Ok
 loop-written-preserved-in-Ok g c = record {
   within = search rules;
-  taken = subst (Appends _ _) (take_more c.args.bytes.now c.loop-written.written c.in-Ok.n) (Appends-trans _ _ _ _ _ c.loop-written.invariant.taken c.in-Ok.ensures.bytes);
+  taken =
+      subst (Appends _ _) (take_more c.args.bytes.now c.loop-written.written c.in-Ok.n)
+      (Appends-trans _ _ _ _ _ c.loop-written.invariant.taken c.in-Ok.ensures.bytes);
 }
